@@ -64,3 +64,4 @@ pub mod PollReplies
 pub mod Untouched
 pub mod Marked
 pub mod Later
+pub mod Told

@@ -8,9 +8,9 @@ use lib.Seq.{map-set_same}
 use mathlib.Core.Option.{some}
 use lib.ListN.{get_elem?}
 use Rattle.dr_meaning.specs.declared.command.Command.TheVariants.{Claim, Write, Publish, Poll, Complete}
-use Rattle.dr_meaning.specs.declared.command.Reply.TheVariants.{Claimed, Written, Published, Batch, Drained, Gating, Idle, Completed}
+use Rattle.dr_meaning.specs.declared.command.Reply.TheVariants.{Claimed, Written, Published, Batch, Drained, Completed}
 use Rattle.dr_graph.specs.Meaning.Graph.{finals}
-use Rattle.dr_meaning.specs.Meaning.Machine.{Setup, State, opening, handlers, front, next, is_single, available, least_completed, publish_faults, refusals, accepted, step}
+use Rattle.dr_meaning.specs.Meaning.Machine.{Setup, State, opening, handlers, front, next, available, least_completed, publish_faults, refusals, accepted, step}
 use Rattle.dr_meaning.proofs.Leasts.{IsLeast, least_is}
 use Rattle.dr_meaning.proofs.Steps.{NoneHold, NoneHold-join, unless-none}
 use Rattle.dr_runs.proofs.Elements.{at_below, value_at}
@@ -20,10 +20,6 @@ use Rattle.dr_plain_senders.specs.declared.record.Stage.{Stage}
 use Rattle.dr_plain_senders.specs.Meaning.Records.{fresh_stage, published, is_published}
 use Rattle.dr_plain_senders.specs.Meaning.Rule.{IsOut}
 use Rattle.dr_plain_senders.specs.Meaning.Moments.{stage_at, event_in, event_of}
-
-and_false : (b : Bool) → (b && false) ≡ false
-and_false true = refl
-and_false false = refl
 
 or_false : (b : Bool) → (b || false) ≡ b
 or_false true = refl
@@ -259,26 +255,6 @@ module _ {T : Type 0} where
             let x = all (front m) less in let off : m.published (front m) ≡ false = l.here (omega arith) in
             let on : m.published (front m) ≡ true = ap is_published (at_stage stages (front m) x.1.0 x.1.1) ∙ ap is_some x.1.2 in cc)
       ]
-
-  pub idle_step : (c : Setup) (m : State T) (h : ℕ) → h < handlers c → m.retired h ≡ false → is_single c.mode ≡ false → m.halted ≡ false
-      → available c m h ≤ next m → get_or m.taken h 0 ≡ next m
-      → step c m (Poll h 1) ≡ record { reply = Idle; values = []; state = m }
-  idle_step c m h inside here several going none all =
-      unless-none (refusals c m (Poll h 1)) m (accepted c m (Poll h 1)) (lt-leb (handlers c) h inside, (here, (refl, tt)))
-      ∙ rw (le-ltb (get_or m.taken h 0) (available c m h) (omega arith), going, several, le-ltb (get_or m.taken h 0) (next m) (omega arith)) refl
-
-  pub gating_step : (c : Setup) (m : State T) (h : ℕ) → h < handlers c → m.retired h ≡ false → is_single c.mode ≡ false → available c m h ≤ get_or m.taken h 0
-      → get_or m.taken h 0 < next m
-      → step c m (Poll h 1) ≡ record { reply = Gating; values = []; state = m }
-  gating_step c m h inside here several none more =
-      unless-none (refusals c m (Poll h 1)) m (accepted c m (Poll h 1)) (lt-leb (handlers c) h inside, (here, (refl, tt)))
-      ∙ rw (
-        le-ltb (get_or m.taken h 0) (available c m h) none,
-        ne_eqb (get_or m.taken h 0) (next m) (λ (e : get_or m.taken h 0 ≡ next m). omega arith),
-        and_false m.halted,
-        several,
-        lt-ltb (get_or m.taken h 0) (next m) more,
-      ) refl
 
   -- the front is no further than what is not published
   pub front_at_most : (k : Shape) (stages : List (Stage T)) (t d : List ℕ) (b : Bool) (n : ℕ) → is_published (stage_at stages n) ≡ false

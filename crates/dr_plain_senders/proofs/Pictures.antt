@@ -1,9 +1,8 @@
 -- Each list of steps keeps the rule, and the entries of its events lead the machine to the ring's picture.
-use Rattle.dr_runs.specs.Looks.{last_look}
-use Rattle.std.proofs.Common.{◌≡◌, ◌≢◌, ℕ, zero, suc, ◌+◌, ◌-◌, ◌<◌, ◌≤◌, inl, inr, Bool, true, false, ◌==◌, if◌then◌else◌, List, [], ◌∷◌, ◌++◌, length, get_or, set, map, replicate, take, drop, Option, None, Some, sym, refl, ap, ◌∙◌, subst, arith, get_or-set_same, get_or-set_other, ◌&&◌}
-use Rattle.std.specs.Prelude.{Contains, not, nat_le, nat_lt, is_some}
+use Rattle.std.proofs.Common.{◌≡◌, ◌≢◌, ℕ, zero, suc, ◌+◌, ◌-◌, ◌<◌, ◌≤◌, inl, inr, Bool, true, false, ◌==◌, if◌then◌else◌, List, [], ◌∷◌, ◌++◌, length, get_or, set, map, replicate, take, drop, Option, None, Some, sym, refl, ap, ◌∙◌, subst, arith, get_or-set_same, get_or-set_other}
+use Rattle.std.specs.Prelude.{Contains, is_some}
 use Rattle.std.specs.List.{range_with_len, filter_map, cons_option}
-use Rattle.std.proofs.lemmas.Bool.{cases_eq, cases_Bool, eq-eqb, ne_eqb, and_parts, ltb-true, leb-true, eqb-false, cases_lt}
+use Rattle.std.proofs.lemmas.Bool.{cases_eq, cases_Bool, eq-eqb, ne_eqb, cases_lt}
 use Rattle.std.proofs.lemmas.List.{length-map, length-append, get_or-map, get_or_past}
 use Rattle.std.proofs.lemmas.List.FromFn.{get_or-map-range_with_len}
 use lib.Seq.{map-set, map-set_same}
@@ -13,11 +12,11 @@ use Rattle.dr_seq.specs.Rounds.{entry_of}
 use Rattle.dr_meaning.specs.declared.command.Command.{Command}
 use Rattle.dr_meaning.specs.declared.command.Command.TheVariants.{Claim, Write, Publish, Poll, Complete, Halt}
 use Rattle.dr_meaning.specs.declared.command.Reply.{Reply}
-use Rattle.dr_meaning.specs.declared.command.Reply.TheVariants.{Claimed, Written, Published, Batch, Drained, Completed, Halting, Idle, Gating}
+use Rattle.dr_meaning.specs.declared.command.Reply.TheVariants.{Claimed, Written, Published, Batch, Drained, Completed, Halting}
 use Rattle.dr_graph.specs.Meaning.Graph.{nobody, upstreams_of, finals, IsGated, least_of}
-use Rattle.dr_meaning.specs.Meaning.Machine.{Setup, State, Outcome, front, available, least_completed}
+use Rattle.dr_meaning.specs.Meaning.Machine.{Setup, State, Outcome, available, least_completed}
 use Rattle.dr_meaning.specs.Meaning.Transcript.{Transcript, LeadsFrom}
-use Rattle.dr_runs.specs.Entries.{entry}
+use Rattle.dr_runs.specs.Entries.{entry, told_drained}
 use Rattle.dr_runs.proofs.Elements.{at_below, value_at, there}
 use Rattle.dr_runs.proofs.Offers.{final_inside, counts_below, offered_at_most, offered_at_least}
 use Rattle.dr_runs.proofs.Lists.{map_same, map_but}
@@ -30,16 +29,17 @@ use Rattle.dr_plain_senders.specs.declared.record.ReceiverRecord.{ReceiverRecord
 use Rattle.dr_plain_senders.specs.declared.record.Step.{Step}
 use Rattle.dr_plain_senders.specs.declared.record.Step.TheVariants.{SenderLooksAtClaims, SenderLooksAtCount, SenderClaims, SenderPublishes, SenderLooksAtMark, SenderHalts}
 use Rattle.dr_plain_senders.specs.declared.record.Step.TheVariants.{ReceiverLooksAtClaims, ReceiverLooksAtMark, ReceiverLooksAtCount, ReceiverCompletes, HalterHalts}
-use Rattle.dr_plain_senders.specs.Meaning.Records.{fresh_stage, published, is_published, sender_looked, receiver_looked, claims_looked, is_marked_next, taken_at_mark, taken_at_count, mark_looked, completed_to, SeesRoom}
+use Rattle.dr_plain_senders.specs.Meaning.Records.{fresh_stage, published, is_published, sender_looked, receiver_looked, tells_drained, claims_looked, taken_at_mark, taken_at_count, mark_looked, completed_to, SeesRoom}
 use Rattle.dr_plain_senders.specs.Meaning.Rule.{World, IsOut, KeepsRule}
 use Rattle.dr_plain_senders.specs.Meaning.Steps.{Happens, sender_knows, sender_claims, sender_publishes, receiver_knows, halted_words}
-use Rattle.dr_plain_senders.specs.Meaning.Moments.{fresh_receiver, taken_of, stage_at, event_in, event_of, picture_of, receiver_at, events_from, poll_of, batch_of, published_by, entries_of, Runs, told_by_claims, told_gated}
+use Rattle.dr_plain_senders.specs.Meaning.Moments.{fresh_receiver, taken_of, stage_at, event_in, event_of, picture_of, receiver_at, events_from, poll_of, batch_of, published_by, entries_of, Runs}
 use Rattle.dr_plain_senders.proofs.Places.{word_at, claimed_low, halted_low, is_halted_from}
 use Rattle.dr_runs.proofs.Looks.{last_look_le}
 use Rattle.dr_plain_senders.proofs.Facts.{cases_option, none_or_some, receiver_of_handler, handler_inside, orderly, upstream_inside, taken_out, taken_claimed, owned, above}
 use Rattle.dr_plain_senders.proofs.Barriers.{Offers, offers_at_mark, offers_at_count}
+use Rattle.dr_plain_senders.proofs.KeepsReceiving.{tells_truth}
 use Rattle.dr_plain_senders.proofs.Keeps.{keeps_step}
-use Rattle.dr_plain_senders.proofs.Machine.{shown, at_stage, wrote, claim_step, write_step, publish_step, take_step, drained_step, complete_step, front_within, front_beyond, idle_step, gating_step, front_at_most}
+use Rattle.dr_plain_senders.proofs.Machine.{shown, at_stage, wrote, claim_step, write_step, publish_step, take_step, drained_step, complete_step, front_within, front_beyond, front_at_most}
 use Rattle.dr_meaning.specs.Meaning.Machine as machine
 
 -- counts by their words
@@ -63,14 +63,6 @@ count_set k words h v lt inside =
 
 abbrev pub halted : List ℕ → Bool
 halted words = is_halted (word_at words claim_word)
-
-no_length : (xs : List ℕ) → length xs ≡ 0 → xs ≡ []
-no_length [] e = refl
-no_length (x ∷ xs) e = absurd (omega arith)
-
-not_true : (b : Bool) → not b ≡ true → b ≡ false
-not_true true e = absurd (cc)
-not_true false e = refl
 
 -- the least of some counts is at most each
 least_low : (f : ℕ → ℕ) (us : List ℕ) (i u : ℕ) → i < length us → get_or us i u ≡ u → least_of (map f us) ≤ f u
@@ -107,7 +99,7 @@ module _ {T : Type 0} where
       → picture_of k w ≡ picture_of k (receiver_knows w h q)
   same_picture k w h r q at same = ap (λ (t : List ℕ). shown k w.stages t (counts_of k w.words) (halted w.words)) (sym (same_taken w h r q at same))
 
-  is_receiver : (w : World T) (h : ℕ) (r : ReceiverRecord T) → get_elem? w.receivers h ≡ some r → receiver_at w h ≡ r
+  pub is_receiver : (w : World T) (h : ℕ) (r : ReceiverRecord T) → get_elem? w.receivers h ≡ some r → receiver_at w h ≡ r
   is_receiver w h r at = value_at w.receivers h r (fresh_receiver 0) at
 
   sender_inside : (k : Shape) (w : World T) (p : ℕ) (r : SenderRecord T) → get_elem? w.senders p ≡ some r → KeepsRule k w → p < k.senders
@@ -216,47 +208,29 @@ module _ {T : Type 0} where
       (λ u has. (let i = upstream_inside k K.shape.graph h u inside has in let c = count_at k w.words u i in let o = receiver_of_handler k w K u i in
       let a = o.2.count in let b = o.2.completed in let e = taken_claimed k w u o.0 o.1 K in omega arith))
 
-  -- a look at the claim word that decides a poll
+  abbrev drained_of : ℕ → Bool → Transcript T
+  drained_of h b = if b then told_drained h ∷ [] else []
+
+  -- a look at the claim word that may tell a poll that the ring drained
   lead_claims_look : (k : Shape) (w : World T) (h : ℕ) (r : ReceiverRecord T) → get_elem? w.receivers h ≡ some r → KeepsRule k w
-      → Leads k (told_by_claims h r (word_at w.words claim_word)) (picture_of k w) (picture_of k w)
+      → Leads k (drained_of h (tells_drained r (word_at w.words claim_word))) (picture_of k w) (picture_of k w)
   lead_claims_look k w h r at K =
       let n = word_at w.words claim_word in let m = picture_of k w in let inside = handler_inside k w h r at K in
-      let P : Bool → Type 0 = λ b. Leads k (if b then entry (Poll h 1) (if is_halted n then Drained else Idle) [] else []) m m in
-      let Q : Bool → Type 0 = λ b. Leads k (entry (Poll h 1) (if b then Drained else Idle) []) m m in
+      let P : Bool → Type 0 = λ b. Leads k (drained_of h b) m m in
       let count : machine.next m ≡ length w.stages = length-map w.stages (λ t. t.owner) in let offer = offer_claimed k w h inside K in
-      let is = taken_at w h r at in
-      elim (cases_eq (claimed_in n) (length r.received)) [
-        | inl e ↦ subst P (sym (eq-eqb (claimed_in n) (length r.received) e)) (
-            let all : get_or m.taken h 0 ≡ machine.next m = is ∙ sym e ∙ K.claim ∙ sym count in
-            elim (cases_Bool (is_halted n)) [
-              | inl on ↦ subst Q (sym on) (leads_one k (Poll h 1) Drained [] m m (drained_step (ring_setup k) m h inside refl on (omega arith) all))
-              | inr off ↦ subst Q (sym off) (leads_one k (Poll h 1) Idle [] m m (idle_step (ring_setup k) m h inside refl refl off (omega arith) all))
-            ])
-        | inr ne ↦ subst P (sym (ne_eqb (claimed_in n) (length r.received) ne)) refl
-      ]
-
-  -- a look that finds that the barrier offers nothing
-  lead_gated : (k : Shape) (w : World T) (h : ℕ) (r : ReceiverRecord T) (nothing : Bool) → get_elem? w.receivers h ≡ some r
-      → (nothing ≡ true → available (ring_setup k) (picture_of k w) h ≤ length r.received) → KeepsRule k w
-      → Leads k (told_gated h r nothing) (picture_of k w) (picture_of k w)
-  lead_gated k w h r nothing at none K =
-      let m = picture_of k w in let more = nat_lt (length r.received) (claimed_in (last_look 0 r.looks claim_word)) in
-      let P : Bool → Type 0 = λ b. Leads k (if b then entry (Poll h 1) Gating [] else []) m m in
-      elim (cases_Bool (nothing && more)) [
-        | inl both ↦ subst P (sym both) (
-            let parts : (nothing ≡ true) × (more ≡ true) = and_parts _ _ both in
-            let less = ltb-true (length r.received) (claimed_in (last_look 0 r.looks claim_word)) parts.1 in let seen = (K.received h r at).claims in
-            let count : machine.next m ≡ length w.stages = length-map w.stages (λ t. t.owner) in let is = taken_at w h r at in let low = none parts.0 in
-            leads_one k (Poll h 1) Gating [] m m (gating_step (ring_setup k) m h (handler_inside k w h r at K) refl refl (omega arith) (omega arith)))
+      elim (cases_Bool (tells_drained r n)) [
+        | inl told ↦ subst P (sym told) (
+            let truth = tells_truth k w r told K in
+            let all : get_or m.taken h 0 ≡ machine.next m = taken_at w h r at ∙ sym truth.1 ∙ sym count in
+            leads_one k (Poll h 1) Drained [] m m (drained_step (ring_setup k) m h inside refl truth.0 (omega arith) all))
         | inr quiet ↦ subst P (sym quiet) refl
       ]
 
   -- what is not marked is not published
   pub unmarked_offers : (k : Shape) (w : World T) (h : ℕ) (r : ReceiverRecord T) → get_elem? w.receivers h ≡ some r → upstreams_of k.upstreams h ≡ [] → KeepsRule k w
-      → not (is_marked_next k r (word_at w.words (mark_word k (length r.received)))) ≡ true → available (ring_setup k) (picture_of k w) h ≤ length r.received
-  unmarked_offers k w h r at none K told =
-      let n = length r.received in let found = word_at w.words (mark_word k n) in let m = picture_of k w in
-      let miss = eqb-false found (entry_of k.size n) (not_true _ told) in
+      → word_at w.words (mark_word k (length r.received)) ≢ entry_of k.size (length r.received) → available (ring_setup k) (picture_of k w) h ≤ length r.received
+  unmarked_offers k w h r at none K miss =
+      let n = length r.received in let m = picture_of k w in
       let was = K.received h r at in let room = above k w K h (handler_inside k w h r at K) in let d = was.count in let c = was.completed in
       let off : is_published (stage_at w.stages n) ≡ false = elim (cases_option (stage_at w.stages n).lent) [
         | inr on ↦ absurd (elim (cases_lt n (length w.stages)) [
@@ -274,10 +248,9 @@ module _ {T : Type 0} where
   offered_below m (x ∷ xs) u has = least_low (λ h. get_or m.completed h 0) (x ∷ xs) has.0 u has.1 has.2
 
   pub behind_offers : (k : Shape) (w : World T) (h u : ℕ) (r : ReceiverRecord T) → get_elem? w.receivers h ≡ some r → Contains (upstreams_of k.upstreams h) u
-      → KeepsRule k w → nat_le (word_at w.words (count_word u)) (length r.received) ≡ true → available (ring_setup k) (picture_of k w) h ≤ length r.received
-  behind_offers k w h u r at has K told =
+      → KeepsRule k w → word_at w.words (count_word u) ≤ length r.received → available (ring_setup k) (picture_of k w) h ≤ length r.received
+  behind_offers k w h u r at has K low =
       let i = upstream_inside k K.shape.graph h u (handler_inside k w h r at K) has in let c = count_at k w.words u i in
-      let low = leb-true (word_at w.words (count_word u)) (length r.received) told in
       let all = offered_below (picture_of k w) (upstreams_of k.upstreams h) u has in omega arith
 
   -- so much is offered as a receiver takes
@@ -377,28 +350,23 @@ module _ {T : Type 0} where
   lead_step k (SenderHalts p) w u H K = subst (λ (x : World T). Leads k (entry Halt Halting []) (picture_of k w) (picture_of k x)) (sym H.2) (lead_halt k w K)
   lead_step k (ReceiverLooksAtClaims h) w u H K =
       let n = word_at w.words claim_word in
-      subst (λ (r : ReceiverRecord T). Leads k (told_by_claims h r n) (picture_of k w) (picture_of k u)) (sym (is_receiver w h H.0 H.1))
-      (subst (λ (x : State T). Leads k (told_by_claims h H.0 n) (picture_of k w) x) (same_picture k w h H.0 (claims_looked H.0 n) H.1 refl
+      subst (λ (r : ReceiverRecord T). Leads k (drained_of h (tells_drained r n)) (picture_of k w) (picture_of k u)) (sym (is_receiver w h H.0 H.1))
+      (subst (λ (x : State T). Leads k (drained_of h (tells_drained H.0 n)) (picture_of k w) x) (same_picture k w h H.0 (claims_looked H.0 n) H.1 refl
       ∙ ap (picture_of k) (sym H.2)) (lead_claims_look k w h H.0 H.1 K))
   lead_step k (ReceiverLooksAtMark h room) w u H K =
       let mark : ReceiverRecord T → ℕ = λ r. word_at w.words (mark_word k (length r.received)) in
       let n = taken_at_mark k H.0 (mark H.0) room in let lents = H.2.1 in let q = mark_looked k H.0 (mark H.0) lents in let m = picture_of k w in
-      subst (λ (r : ReceiverRecord T). Leads k (told_gated h r (not (is_marked_next k r (mark r))) ++ batch_of k w h r (taken_at_mark k r (mark r) room)) m (picture_of k u))
-      (sym (is_receiver w h H.0 H.1))
-      (subst (λ (x : World T). Leads k (told_gated h H.0 (not (is_marked_next k H.0 (mark H.0))) ++ batch_of k w h H.0 n) m (picture_of k x)) (sym H.2.3)
-      (leads_on (ring_setup k) m m (picture_of k (receiver_knows w h q)) (told_gated h H.0 (not (is_marked_next k H.0 (mark H.0)))) (batch_of k w h H.0 n)
-      (lead_gated k w h H.0 (not (is_marked_next k H.0 (mark H.0))) H.1 (unmarked_offers k w h H.0 H.1 H.2.0 K) K)
-      (lead_batch k w h n H.0 q H.1 (offers_at_mark k w h room H.0 H.2.0 K) (let c = H.2.2.count in let l = length-append H.0.received lents in omega arith) K)))
+      subst (λ (r : ReceiverRecord T). Leads k (batch_of k w h r (taken_at_mark k r (mark r) room)) m (picture_of k u)) (sym (is_receiver w h H.0 H.1))
+      (subst (λ (x : World T). Leads k (batch_of k w h H.0 n) m (picture_of k x)) (sym H.2.3)
+      (lead_batch k w h n H.0 q H.1 (offers_at_mark k w h room H.0 H.2.0 K) (let c = H.2.2.count in let l = length-append H.0.received lents in omega arith) K))
   lead_step k (ReceiverLooksAtCount h c room) w u H K =
       let found = word_at w.words (count_word c) in let n = taken_at_count k H.0 (count_word c) found room in let lents = H.2.1 in
       let q = receiver_looked H.0 (count_word c) found lents in let m = picture_of k w in
       let inside = upstream_inside k K.shape.graph h c (handler_inside k w h H.0 H.1 K) H.2.0 in
-      subst (λ (r : ReceiverRecord T). Leads k (told_gated h r (nat_le found (length r.received)) ++ batch_of k w h r (taken_at_count k r (count_word c) found room)) m (picture_of k u))
-      (sym (is_receiver w h H.0 H.1))
-      (subst (λ (x : World T). Leads k (told_gated h H.0 (nat_le found (length H.0.received)) ++ batch_of k w h H.0 n) m (picture_of k x)) (sym H.2.3)
-      (leads_on (ring_setup k) m m (picture_of k (receiver_knows w h q)) (told_gated h H.0 (nat_le found (length H.0.received))) (batch_of k w h H.0 n)
-      (lead_gated k w h H.0 (nat_le found (length H.0.received)) H.1 (behind_offers k w h c H.0 H.1 H.2.0 K) K)
-      (lead_batch k w h n H.0 q H.1 (offers_at_count k w h (count_word c) room H.0 (omega arith) H.1 K) (let c = H.2.2.count in let l = length-append H.0.received lents in omega arith) K)))
+      subst (λ (r : ReceiverRecord T). Leads k (batch_of k w h r (taken_at_count k r (count_word c) found room)) m (picture_of k u)) (sym (is_receiver w h H.0 H.1))
+      (subst (λ (x : World T). Leads k (batch_of k w h H.0 n) m (picture_of k x)) (sym H.2.3)
+      (lead_batch k w h n H.0 q H.1 (offers_at_count k w h (count_word c) room H.0 (omega arith) H.1 K)
+      (let c = H.2.2.count in let l = length-append H.0.received lents in omega arith) K))
   lead_step k (ReceiverCompletes h n) w u H K =
       subst (λ (x : World T). Leads k (entry (Complete h n) Completed []) (picture_of k w) (picture_of k x)) (sym H.2.2)
       (lead_complete k w h n H.0 H.1 H.2.0 H.2.1 K)

@@ -1,8 +1,8 @@
 -- The machine replies to a poll that takes nothing, and to a completion, as the handler's end answers.
-use Rattle.std.proofs.Common.{◌≡◌, ℕ, ◌≤◌, inl, inr, false, not, [], length, get_or, Result, Ok, Err, sym, refl, ap, ◌∙◌, subst, arith}
+use Rattle.std.proofs.Common.{◌≡◌, ℕ, ◌≤◌, inl, inr, false, [], length, get_or, Result, Ok, Err, sym, refl, ap, ◌∙◌, subst, arith}
 use Rattle.std.specs.Prelude.{nat_le, nat_lt, Contains}
 use Rattle.std.proofs.Math.Bool.{and-false}
-use Rattle.std.proofs.lemmas.Bool.{ne_eqb, le-leb, lt-leb}
+use Rattle.std.proofs.lemmas.Bool.{ne_eqb, lt-leb}
 use Rattle.std.proofs.lemmas.List.{length-map}
 use mathlib.Core.Option.{some}
 use lib.ListN.{get_elem?}
@@ -16,11 +16,9 @@ use Rattle.dr_meaning.specs.Meaning.Machine.{State, Outcome, next, available, re
 use Rattle.dr_meaning.specs.Calls.Replies.{unit_reply, poll_reply}
 use Rattle.dr_meaning.specs.Calls.Ends.{Exactly, IsAnswerOf, as_end}
 use Rattle.dr_meaning.proofs.Steps.{unless-none, unless-refused}
-use Rattle.dr_seq.specs.Rounds.{entry_of}
 use Rattle.dr_graph.specs.Meaning.Graph.{upstreams_of}
 use Rattle.dr_runs.proofs.Exact.{AreExact, none_exact, first_exact, unit_replies, drained_reply, gating_reply, idle_reply}
 use Rattle.dr_plain_senders.specs.Meaning.Shape.{Shape, handlers_of, ring_setup}
-use Rattle.dr_plain_senders.specs.Meaning.Words.{count_word, mark_word}
 use Rattle.dr_plain_senders.specs.declared.record.Lent.{Lent}
 use Rattle.dr_plain_senders.specs.declared.record.Stage.{Stage}
 use Rattle.dr_plain_senders.specs.declared.record.ReceiverRecord.{ReceiverRecord}
@@ -28,7 +26,6 @@ use Rattle.dr_plain_senders.specs.Meaning.Rule.{World, KeepsRule}
 use Rattle.dr_plain_senders.specs.Meaning.Moments.{picture_of}
 use Rattle.dr_plain_senders.specs.Calls.Receiving.{tests_of_poll, tests_of_completion}
 use Rattle.dr_plain_senders.specs.Calls.Replies.{Replies, OffersNothing, DecidesPoll}
-use Rattle.dr_plain_senders.proofs.Places.{word_at}
 use Rattle.dr_plain_senders.proofs.Facts.{handler_inside}
 use Rattle.dr_plain_senders.proofs.Pictures.{count_at, taken_at, offer_claimed, unmarked_offers, behind_offers}
 
@@ -75,11 +72,10 @@ module _ {T : Type 0} (k : Shape) (w : World T) (K : KeepsRule k w) where
 
   nothing_offered : (h : ℕ) (r : ReceiverRecord T) → get_elem? w.receivers h ≡ some r → OffersNothing k w r → available (ring_setup k) m h ≤ length r.received
   nothing_offered h r at (inl x) =
-      unmarked_offers k w h r at (subst (λ (n : ℕ). upstreams_of k.upstreams n ≡ []) (K.received h r at).number x.0) K
-      (ap not (ne_eqb (word_at w.words (mark_word k (length r.received))) (entry_of k.size (length r.received)) x.1))
+      unmarked_offers k w h r at (subst (λ (n : ℕ). upstreams_of k.upstreams n ≡ []) (K.received h r at).number x.0) K x.1
   nothing_offered h r at (inr x) =
       behind_offers k w h x.0 r at (subst (λ (n : ℕ). Contains (upstreams_of k.upstreams n) x.0) (K.received h r at).number x.1) K
-      (le-leb (word_at w.words (count_word x.0)) (length r.received) (let same = x.2 in omega arith))
+      (let same = x.2 in omega arith)
 
   nothing_taken : (h room : ℕ) (r : ReceiverRecord T) (polled : Polled) → get_elem? w.receivers h ≡ some r → DecidesPoll k w r (Ok polled)
       → (accepted (ring_setup k) m (Poll h room)).reply ≡ poll_reply (Ok polled)

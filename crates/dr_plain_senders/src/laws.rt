@@ -20,7 +20,7 @@ ghost use Rattle.dr_plain_senders.specs.Meaning.Shape.{Shape, IsShape, ring_setu
 ghost use Rattle.dr_plain_senders.specs.Meaning.Words.{claim_word, mark_word, is_halted};
 ghost use Rattle.dr_plain_senders.specs.Meaning.Rule.{World, KeepsRule};
 ghost use Rattle.dr_plain_senders.specs.declared.record.Step.{Step};
-ghost use Rattle.dr_plain_senders.specs.Meaning.Moments.{Runs, new_world, picture_of, IsShut, RefusesByMark, NothingFalls};
+ghost use Rattle.dr_plain_senders.specs.Meaning.Moments.{Runs, new_world, picture_of, IsShut, RefusesByMark, NothingFalls, WereTold};
 ghost use Rattle.dr_plain_senders.specs.Calls.Replies.{AreOpen, picture_with, open_writes, RepliesAsAnswered};
 ghost use Rattle.dr_plain_senders.specs.Calls.Handing.{HandsWhatWasThere};
 
@@ -103,9 +103,10 @@ impl<T> Lends<T> for Brand {
 /// machine refuses a write of a sequence that is not the sender's own, or is published. A claim, a
 /// publication of a whole stretch and a poll that takes nothing by what the deciding look finds, a
 /// write of one's own sequence and a completion are answered as the machine then replies. A poll
-/// hands over at least what the picture had at any moment since its receiver last stepped. No
-/// handler's count falls, and no claim is taken back. Once a ring is halted, nothing more is
-/// claimed. It does nothing when it runs: the contract is the theorem.
+/// hands over at least what the picture had at any moment since its receiver last stepped. Whoever
+/// was told that the ring drained, was told so by a poll of the transcript. No handler's count
+/// falls, and no claim is taken back. Once a ring is halted, nothing more is claimed. It does
+/// nothing when it runs: the contract is the theorem.
 pub fn moments<T>()
     ensures rule { (k : Shape) (steps : List (Step T)) (entries : Transcript T) (w : World T) → IsShape k → Runs k steps entries (new_world k) w → KeepsRule k w }
     ensures leads { (k : Shape) (steps : List (Step T)) (entries : Transcript T) (w : World T) → IsShape k → Runs k steps entries (new_world k) w → LeadsTo (ring_setup k) entries (picture_of k w) }
@@ -117,6 +118,7 @@ pub fn moments<T>()
     ensures replies { (k : Shape) (steps : List (Step T)) (entries : Transcript T) (w : World T) → IsShape k → Runs k steps entries (new_world k) w → RepliesAsAnswered k w }
     ensures hands { (k : Shape) (steps more : List (Step T)) (entries rest : Transcript T) (w u : World T) → IsShape k → Runs k steps entries (new_world k) w → Runs k more rest w u → HandsWhatWasThere k w u }
     ensures rises { (k : Shape) (steps more : List (Step T)) (entries rest : Transcript T) (w u : World T) → IsShape k → Runs k steps entries (new_world k) w → Runs k more rest w u → NothingFalls k w u }
+    ensures told { (k : Shape) (steps : List (Step T)) (entries : Transcript T) (w : World T) → IsShape k → Runs k steps entries (new_world k) w → WereTold w entries }
     ensures halted { (k : Shape) (steps more : List (Step T)) (entries rest : Transcript T) (w u : World T) → IsShape k → Runs k steps entries (new_world k) w → Runs k more rest w u → is_halted (slice_index w.words claim_word) ≡ true → length u.stages ≡ length w.stages }
 {
     every_transcript_is_lawful::<T>();

@@ -1,21 +1,20 @@
 -- What each list of steps comes to, from a ring's opening.
-use Rattle.std.specs.Prelude.{◌≡◌, ℕ, zero, suc, ◌+◌, ◌-◌, ◌<◌, ◌≤◌, ◌==◌, if◌then◌else◌, false, List, [], ◌∷◌, ◌++◌, map, length, replicate, slice_index, slice_index_or, Option, Some, None, Bool, nat_le, nat_lt, not, ◌&&◌}
-use Rattle.std.specs.Prelude.{take, drop}
+use Rattle.std.specs.Prelude.{◌≡◌, ℕ, zero, suc, ◌+◌, ◌-◌, ◌<◌, ◌≤◌, ◌==◌, if◌then◌else◌, true, false, List, [], ◌∷◌, ◌++◌, map, length, replicate}
+use Rattle.std.specs.Prelude.{slice_index, slice_index_or, Option, Some, None, nat_le, take, drop, Contains}
 use Rattle.std.specs.List.{range_with_len, filter_map}
 use mathlib.Core.Option.{some}
 use lib.ListN.{get_elem?}
 use Rattle.dr_seq.specs.Rounds.{entry_of}
 use Rattle.dr_meaning.specs.declared.command.Command.TheVariants.{Claim, Write, Publish, Poll, Complete, Halt}
 use Rattle.dr_meaning.specs.declared.refusal.Refusal.TheVariants.{NotClaimed, AlreadyPublished}
-use Rattle.dr_meaning.specs.declared.command.Reply.TheVariants.{Refused, Claimed, Written, Published, Batch, Drained, Completed, Halting, Idle, Gating}
+use Rattle.dr_meaning.specs.declared.command.Reply.TheVariants.{Refused, Claimed, Written, Published, Batch, Completed, Halting}
 use Rattle.dr_meaning.specs.Meaning.Machine as machine
 use Rattle.dr_meaning.specs.Meaning.Machine.{State, available}
 use Rattle.dr_meaning.specs.Meaning.Transcript.{Transcript}
 use Rattle.dr_runs.specs.Runs as runs
-use Rattle.dr_runs.specs.Entries.{entry}
-use Rattle.dr_runs.specs.Looks.{last_look}
+use Rattle.dr_runs.specs.Entries.{entry, told_drained}
 use Rattle.dr_plain_senders.specs.Meaning.Shape.{Shape, handlers_of, ring_setup}
-use Rattle.dr_plain_senders.specs.Meaning.Words.{claim_word, claimed_in, is_halted, count_word, mark_word, words_of}
+use Rattle.dr_plain_senders.specs.Meaning.Words.{claim_word, is_halted, count_word, mark_word, words_of}
 use Rattle.dr_plain_senders.specs.declared.record.Lent.{Lent}
 use Rattle.dr_plain_senders.specs.declared.record.Stage.{Stage}
 use Rattle.dr_plain_senders.specs.declared.record.SenderRecord.{SenderRecord}
@@ -23,7 +22,7 @@ use Rattle.dr_plain_senders.specs.declared.record.ReceiverRecord.{ReceiverRecord
 use Rattle.dr_plain_senders.specs.declared.record.Step.{Step}
 use Rattle.dr_plain_senders.specs.declared.record.Step.TheVariants.{SenderLooksAtClaims, SenderLooksAtCount, SenderClaims, SenderPublishes, SenderLooksAtMark, SenderHalts}
 use Rattle.dr_plain_senders.specs.declared.record.Step.TheVariants.{ReceiverLooksAtClaims, ReceiverLooksAtMark, ReceiverLooksAtCount, ReceiverCompletes, HalterHalts}
-use Rattle.dr_plain_senders.specs.Meaning.Records.{fresh_stage, is_published, is_marked_next, taken_at_mark, taken_at_count}
+use Rattle.dr_plain_senders.specs.Meaning.Records.{fresh_stage, is_published, tells_drained, taken_at_mark, taken_at_count}
 use Rattle.dr_plain_senders.specs.Meaning.Rule.{World}
 use Rattle.dr_plain_senders.specs.Meaning.Steps.{Happens}
 
@@ -96,21 +95,13 @@ module _ {T : Type 0} where
   abbrev pub batch_of : Shape → World T → ℕ → ReceiverRecord T → ℕ → Transcript T
   batch_of k w h r n = poll_of h (length r.received) (events_from w.stages (length r.received) n) (available (ring_setup k) (picture_of k w) h)
 
-  -- a look at the claim word that finds no more claimed than was taken tells a poll that the ring drained, where it is halted, and else that the handler is idle
-  abbrev pub told_by_claims : ℕ → ReceiverRecord T → ℕ → Transcript T
-  told_by_claims h r found = if claimed_in found == length r.received then entry (Poll h 1) (if is_halted found then Drained else Idle) [] else []
-
-  -- a look that finds that the barrier offers nothing tells a poll that the handler is gated, where more is claimed than it took
-  abbrev pub told_gated : ℕ → ReceiverRecord T → Bool → Transcript T
-  told_gated h r nothing = if nothing && nat_lt (length r.received) (claimed_in (last_look 0 r.looks claim_word)) then entry (Poll h 1) Gating [] else []
-
   -- the writes of events by the sender p to its sequences from s on, each with the publication
   abbrev pub published_by : ℕ → ℕ → List T → Transcript T
   published_by p s [] = []
   published_by p s (event ∷ events) = entry (Write p s event) Written [] ++ entry (Publish p s s) Published [] ++ published_by p (s + 1) events
 
   -- The events of a step: a claim is decided by the exchange, a write and the publication of its sequence by the store of the mark,
-  -- and a poll by the look at which it takes events, or which finds nothing for it.
+  -- a poll by the look at which it takes events, and `Drained` is told by a look at the claim word.
   abbrev pub entries_of : Shape → Step T → World T → Transcript T
   entries_of k (SenderLooksAtClaims p) w = []
   entries_of k (SenderLooksAtCount p f) w = []
@@ -118,19 +109,21 @@ module _ {T : Type 0} where
   entries_of k (SenderPublishes p s events) w = published_by p s events
   entries_of k (SenderLooksAtMark p s) w = []
   entries_of k (SenderHalts p) w = entry Halt Halting []
-  entries_of k (ReceiverLooksAtClaims h) w = told_by_claims h (receiver_at w h) (slice_index w.words claim_word)
+  entries_of k (ReceiverLooksAtClaims h) w = if tells_drained (receiver_at w h) (slice_index w.words claim_word) then told_drained h ∷ [] else []
   entries_of k (ReceiverLooksAtMark h room) w =
-      let r : ReceiverRecord T = receiver_at w h in let found : ℕ = slice_index w.words (mark_word k (length r.received)) in
-      told_gated h r (not (is_marked_next k r found)) ++ batch_of k w h r (taken_at_mark k r found room)
+      let r : ReceiverRecord T = receiver_at w h in batch_of k w h r (taken_at_mark k r (slice_index w.words (mark_word k (length r.received))) room)
   entries_of k (ReceiverLooksAtCount h u room) w =
-      let r : ReceiverRecord T = receiver_at w h in let found : ℕ = slice_index w.words (count_word u) in
-      told_gated h r (nat_le found (length r.received)) ++ batch_of k w h r (taken_at_count k r (count_word u) found room)
+      let r : ReceiverRecord T = receiver_at w h in batch_of k w h r (taken_at_count k r (count_word u) (slice_index w.words (count_word u)) room)
   entries_of k (ReceiverCompletes h n) w = entry (Complete h n) Completed []
   entries_of k HalterHalts w = entry Halt Halting []
 
   -- a list of steps, with the entries of their events
   abbrev pub Runs : Shape → List (Step T) → Transcript T → World T → World T → Type 0
   Runs k steps entries w w' = runs.Runs (Happens k) (entries_of k) steps entries w w'
+
+  -- who was told that the ring drained, was told so by a poll of the run
+  abbrev pub WereTold : World T → Transcript T → Type 0
+  WereTold w entries = (h : ℕ) (r : ReceiverRecord T) → get_elem? w.receivers h ≡ some r → r.told ≡ true → Contains entries (told_drained h)
 
   -- a sequence that a sender may not write any more, or never might: it is not its own, or it is published
   abbrev pub IsShut : World T → ℕ → ℕ → Type 0

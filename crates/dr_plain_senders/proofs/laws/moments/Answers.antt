@@ -20,6 +20,7 @@ use Rattle.dr_plain_senders.proofs.PollReplies.{poll_replies, complete_replies}
 use Rattle.dr_plain_senders.proofs.Halting.{halted_runs}
 use Rattle.dr_plain_senders.proofs.Rising.{rose_runs}
 use Rattle.dr_plain_senders.proofs.Later.{out_at, hands_what_was_there}
+use Rattle.dr_plain_senders.proofs.Told.{look_tells, were_told}
 use Rattle.dr_plain_senders.proofs.Shutting.{refused_by_mark}
 use Rattle.dr_plain_senders.specs.Meaning.Words.{count_word}
 use Rattle.dr_plain_senders.proofs.laws.moments.Goals as goal
@@ -81,6 +82,9 @@ pub returns-clause-rises : goal.returns-clause-rises
 returns-clause-rises g c k steps more entries rest w u shape runs on =
     let rose = rose_runs k more rest w u on (keeps_runs k steps entries (new_world k) w runs (kept_new_world _ k shape)) in
     ((λ f inside. rose.words (count_word f) (omega arith)), rose.claimed)
+
+pub returns-clause-told : goal.returns-clause-told
+returns-clause-told g c k steps entries w shape runs = were_told k look_tells steps entries w runs
 
 pub returns-clause-halted : goal.returns-clause-halted
 returns-clause-halted g c k steps more entries rest w u shape runs on halted =
