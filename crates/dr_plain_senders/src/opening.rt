@@ -59,6 +59,7 @@ fn senders<T>(
     requires keyed { IsKeyed (arc_value ring.now).table.shared.key (arc_value ring.now).plan }
     requires all { rest.me ≡ fresh_seat (known_senders 0 (arc_value ring.now).plan.senders ++ known_receivers 0 (handlers_of (arc_value ring.now).plan)) }
     requires marks { AreUnmarked (arc_value ring.now).plan.size marks.items }
+    requires many { length marks.items ≡ (arc_value ring.now).plan.senders }
     requires none { senders.items ≡ [] }
     ensures senders { IfOk result (λ made. made.0.items ≡ map (sender_at rest.table_id (arc_value ring.now).plan) (fresh_senders 0 (arc_value ring.now).plan.senders)) }
     ensures table { IfOk result (λ made. made.1.table_id ≡ rest.table_id) }
@@ -67,7 +68,7 @@ fn senders<T>(
     let count = ring.plan.senders();
     for number in 0..count {
         let Some(owned) = marks.pop() else {
-            return Err(AllocError);
+            unreachable!()
         };
         let tokens = blanks(alloc, ring.plan.size().get() as usize)?;
         let next = ring.table.shared.split_seat::<Cut>(&mut rest);
