@@ -50,7 +50,7 @@ fn four_numbers(alloc: Global) -> Result<Vec<Arc<u64>>, AllocError> {
     Ok(numbers)
 }
 
-fn counted(number: &Arc<u64>) -> Result<Counted, AllocError> {
+fn event_of(number: &Arc<u64>) -> Result<Counted, AllocError> {
     let number = Arc::try_clone(number)?;
     Ok(Counted { number })
 }
@@ -59,7 +59,7 @@ fn counted(number: &Arc<u64>) -> Result<Counted, AllocError> {
 fn events_of(alloc: Global, numbers: &[Arc<u64>]) -> Result<Vec<Counted>, AllocError> {
     let mut events = Vec::new(alloc);
     for number in numbers {
-        events.push(counted(number)?)?;
+        events.push(event_of(number)?)?;
     }
     Ok(events)
 }
