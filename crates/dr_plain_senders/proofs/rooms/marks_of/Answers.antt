@@ -1,4 +1,4 @@
-use Rattle.std.proofs.Common.{length, ap, rules}
+use Rattle.std.proofs.Common.{rules}
 use Rattle.dr_plain_senders.proofs.Marked.{unmarked_none, unmarked_more, one_more}
 use Rattle.dr_plain_senders.proofs.rooms.marks_of.Goals as goal
 
