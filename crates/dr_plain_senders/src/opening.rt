@@ -140,8 +140,9 @@ fn lists_for<T>(alloc: Global, plan: &Plan<T>) -> Result<Lists<T>, AllocError>
     Ok(Lists { senders, receivers })
 }
 
-// The ends of a ring over a table. Nothing of this takes memory: the lists have room for them, a token
-// has no bytes, and a share of the body is only counted.
+// The ends of a ring over a table. The lists have room for them, and a share of the body is only
+// counted. Each end's row of tokens has no bytes, but is asked for: where that is refused, the events
+// are kept.
 fn assemble<T>(
     alloc: Global,
     ring: Arc<RingBody<T>, Global>,
@@ -239,7 +240,7 @@ fn prepare<T>(
 /// It is refused with `BadProducers` where there are no senders or more than
 /// [`dr_meaning::MAX_PRODUCERS`], with `BadLimit` where the limit is 0 or above
 /// [`dr_meaning::MAX_LIMIT`], and with `NoMemory` where an allocation failed. The events are then
-/// dropped.
+/// dropped, but where it was that of an end's row of tokens, which has no bytes.
 pub fn senders_ring<T: Drop>(
     alloc: Global,
     graph: &Graph,
