@@ -1,5 +1,5 @@
 -- The tokens of a row's cells, dealt one after another.
-use Rattle.std.proofs.Common.{◌≡◌, ℕ, suc, ◌+◌, ◌<◌, ◌≤◌, inl, inr, List, ◌∷◌, length, set, replicate, refl, sym, ap, ◌∙◌, arith, length-set}
+use Rattle.std.proofs.Common.{◌≡◌, ℕ, suc, ◌+◌, ◌*◌, ◌<◌, ◌≤◌, inl, inr, List, ◌∷◌, length, set, replicate, refl, sym, ap, ◌∙◌, arith, length-set, suc-mul}
 use Rattle.std.proofs.lemmas.Bool.{cases_eq}
 use Rattle.std.proofs.lemmas.List.{length-replicate}
 use mathlib.Core.Option.{some, some-injective}
@@ -10,7 +10,7 @@ use Rattle.dr_cells.specs.declared.token.Token.{Token}
 use Rattle.dr_cells.specs.Hold.{whole}
 use Rattle.dr_cells.specs.Tokens.{token_at, no_token}
 use Rattle.dr_runs.proofs.Elements.{there, at_below}
-use Rattle.dr_plain_senders.specs.Meaning.Shape.{Shape}
+use Rattle.dr_plain_senders.specs.Meaning.Shape.{Shape, handlers_of}
 use Rattle.dr_plain_senders.specs.Meaning.Words.{slots_of}
 use Rattle.dr_plain_senders.specs.Inside.Making.{AreFirst, IsDealt}
 use Rattle.dr_plain_senders.proofs.Places.{in_replicate}
@@ -60,6 +60,12 @@ module _ {T : Type 0} where
     each = λ i x at. (let below = at_below events i x at in D.each i x (omega arith) at);
     others = λ i le. D.behind i (omega arith);
   }
+
+  -- there is a slot for each cell
+  pub slot_each : (k : Shape) (n : ℕ) (tokens : List (Token T)) → tokens ≡ replicate (slots_of k) no_token → n ≡ k.size → n ≤ length tokens
+  slot_each k n tokens blank size =
+      let none : Token T = no_token in let count = ap length blank ∙ length-replicate (slots_of k) none in
+      let least : k.size ≤ suc (handlers_of k) * k.size = omega (arith, suc-mul (handlers_of k) k.size) in omega arith
 
   -- a new ring's tokens
   pub are_first : (k : Shape) (p : Ptr) (n : ℕ) (events : List T) (before tokens : List (Token T)) → before ≡ replicate (slots_of k) no_token → k.strip ≡ p → n ≡ k.size

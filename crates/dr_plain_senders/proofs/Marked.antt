@@ -1,5 +1,5 @@
 -- The marks of senders that have claimed nothing, one after another.
-use Rattle.std.proofs.Common.{◌≡◌, ℕ, inl, inr, List, [], ◌∷◌, ◌++◌, length, refl, sym, ap, ◌∙◌, subst}
+use Rattle.std.proofs.Common.{◌≡◌, ℕ, ◌+◌, ◌-◌, ◌<◌, inl, inr, List, [], ◌∷◌, ◌++◌, length, refl, sym, ap, ◌∙◌, arith, length-append}
 use mathlib.Core.Option.{some, some-ne-none}
 use lib.ListN.{get_elem?}
 use Rattle.atomic_table.proofs.Lists.{at_longer}
@@ -26,3 +26,9 @@ unmarked_last n marks now o all is = all (length now) o (ap (λ (xs : List Owned
 
 pub unmarked_left : (n : ℕ) (marks now : List Owned) (o : Owned) → AreUnmarked n marks → marks ≡ now ++ o ∷ [] → AreUnmarked n now
 unmarked_left n marks now o all is i x at = all i x (ap (λ (xs : List Owned). get_elem? xs i) is ∙ at_longer now (o ∷ []) i x at)
+
+pub one_more : (marks now : List Owned) (o : Owned) (n : ℕ) → length marks ≡ n → now ≡ marks ++ o ∷ [] → length now ≡ n + 1
+one_more marks now o n many is = let all = ap length is in omega (arith, length-append marks (o ∷ []))
+
+pub one_less : (marks now : List Owned) (o : Owned) (n place : ℕ) → place < n → length marks ≡ n - place → marks ≡ now ++ o ∷ [] → length now ≡ n - (place + 1)
+one_less marks now o n place lt many is = let all = ap length is in omega (arith, length-append now (o ∷ []))

@@ -1,5 +1,5 @@
 -- A table none of whose ends has stepped has every cell whole, before all else.
-use Rattle.std.proofs.Common.{◌≡◌, ℕ, zero, suc, ◌+◌, ◌*◌, ◌<◌, ◌≤◌, inl, inr, List, [], ◌∷◌, ◌++◌, length, set, take, sym, refl, ap, ◌∙◌, subst, arith, suc-mul, length-set}
+use Rattle.std.proofs.Common.{◌≡◌, ℕ, zero, suc, ◌+◌, ◌*◌, ◌<◌, ◌≤◌, inl, inr, List, [], ◌∷◌, length, set, take, sym, refl, ap, ◌∙◌, arith, suc-mul, length-set}
 use Rattle.std.proofs.Math.Nat.{mod-eq_of_lt}
 use Rattle.std.proofs.lemmas.Bool.{cases_lt, cases_eq}
 use mathlib.Core.Option.{some, some-injective, some-ne-none}
@@ -14,12 +14,10 @@ use Rattle.dr_cells.specs.Tokens.{token_at}
 use Rattle.dr_runs.proofs.Elements.{there, at_below}
 use Rattle.dr_runs.proofs.Lists.{map_there}
 use Rattle.dr_plain_senders.specs.Meaning.Shape.{Shape, handlers_of}
-use Rattle.dr_plain_senders.specs.Meaning.Words.{cell_of, slot_of, keeping_lane, slots_of}
-use Rattle.dr_plain_senders.specs.declared.record.Stage.{Stage}
+use Rattle.dr_plain_senders.specs.Meaning.Words.{cell_of, slot_of, keeping_lane}
 use Rattle.dr_plain_senders.specs.declared.record.SenderRecord.{SenderRecord}
-use Rattle.dr_plain_senders.specs.declared.record.EndRecord.{EndRecord}
 use Rattle.dr_plain_senders.specs.declared.record.EndRecord.TheVariants.{Sends}
-use Rattle.dr_plain_senders.specs.Meaning.Rule.{World, KeepsRule}
+use Rattle.dr_plain_senders.specs.Meaning.Rule.{World}
 use Rattle.dr_plain_senders.specs.Meaning.Lying.{Laid, unlent, lent, LiesIn}
 use Rattle.dr_plain_senders.specs.Meaning.Moments.{fresh_sender, fresh_senders}
 use Rattle.dr_plain_senders.specs.Inside.Seats.{Ruled, known_senders, known_receivers, fresh_ends, all_ends}

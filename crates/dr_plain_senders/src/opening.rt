@@ -59,6 +59,7 @@ fn senders<T>(
     requires keyed { IsKeyed (arc_value ring.now).table.shared.key (arc_value ring.now).plan }
     requires all { rest.me ≡ fresh_seat (known_senders 0 (arc_value ring.now).plan.senders ++ known_receivers 0 (handlers_of (arc_value ring.now).plan)) }
     requires marks { AreUnmarked (arc_value ring.now).plan.size marks.items }
+    requires many { length marks.items ≡ (arc_value ring.now).plan.senders }
     requires none { senders.items ≡ [] }
     ensures senders { IfOk result (λ made. made.0.items ≡ map (sender_at rest.table_id (arc_value ring.now).plan) (fresh_senders 0 (arc_value ring.now).plan.senders)) }
     ensures table { IfOk result (λ made. made.1.table_id ≡ rest.table_id) }
@@ -67,7 +68,7 @@ fn senders<T>(
     let count = ring.plan.senders();
     for number in 0..count {
         let Some(owned) = marks.pop() else {
-            return Err(AllocError);
+            unreachable!()
         };
         let tokens = blanks(alloc, ring.plan.size().get() as usize)?;
         let next = ring.table.shared.split_seat::<Cut>(&mut rest);
@@ -139,8 +140,9 @@ fn lists_for<T>(alloc: Global, plan: &Plan<T>) -> Result<Lists<T>, AllocError>
     Ok(Lists { senders, receivers })
 }
 
-// The ends of a ring over a table. Nothing of this takes memory: the lists have room for them, a token
-// has no bytes, and a share of the body is only counted.
+// The ends of a ring over a table. The lists have room for them, and a share of the body is only
+// counted. Each end's row of tokens has no bytes, but is asked for: where that is refused, the events
+// are kept.
 fn assemble<T>(
     alloc: Global,
     ring: Arc<RingBody<T>, Global>,
@@ -238,7 +240,7 @@ fn prepare<T>(
 /// It is refused with `BadProducers` where there are no senders or more than
 /// [`dr_meaning::MAX_PRODUCERS`], with `BadLimit` where the limit is 0 or above
 /// [`dr_meaning::MAX_LIMIT`], and with `NoMemory` where an allocation failed. The events are then
-/// dropped.
+/// dropped, but where it was that of an end's row of tokens, which has no bytes.
 pub fn senders_ring<T: Drop>(
     alloc: Global,
     graph: &Graph,

@@ -1,6 +1,6 @@
 //! What the ends of a ring need besides its table. It is taken before any event lies in a slot.
 
-ghost use Rattle.std.specs.Prelude.{◌≡◌, IfOk};
+ghost use Rattle.std.specs.Prelude.{◌≡◌, length, IfOk};
 ghost use Rattle.dr_plain_senders.specs.Inside.Rooms.{AreUnmarked, AreRooms};
 
 use crate::gathered::Gathered;
@@ -20,7 +20,8 @@ pub(crate) struct Rooms<T> {
 
 // The marks of so many senders that have claimed nothing.
 fn marks_of(alloc: Global, count: usize, size: Size) -> Result<Vec<Owned>, AllocError>
-    ensures { IfOk result (λ marks. AreUnmarked size marks.items) }
+    ensures unmarked { IfOk result (λ marks. AreUnmarked size marks.items) }
+    ensures count { IfOk result (λ marks. length marks.items ≡ count) }
 {
     let mut marks = Vec::with_capacity(alloc, count)?;
     for made in 0..count {

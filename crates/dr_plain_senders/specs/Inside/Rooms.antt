@@ -1,5 +1,5 @@
 -- What the ends of a ring need besides its table.
-use Rattle.std.specs.Prelude.{◌≡◌, ℕ, List, replicate}
+use Rattle.std.specs.Prelude.{◌≡◌, ℕ, List, length, replicate}
 use mathlib.Core.Option.{some}
 use lib.ListN.{get_elem?}
 use Rattle.dr_plain_senders.specs.declared.owned.Owned.{Owned}
@@ -20,3 +20,4 @@ pub record AreRooms {T : Type 0} (k : Shape) (rooms : Rooms T) : Type 0 where
   pub words : rooms.words.items ≡ replicate (words_of k) 0
   pub places : HasPlaces (handlers_of k) k.size rooms.gathered
   pub marks : AreUnmarked k.size rooms.marks.items
+  pub many : length rooms.marks.items ≡ k.senders

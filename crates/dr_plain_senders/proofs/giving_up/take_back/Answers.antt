@@ -1,4 +1,4 @@
-use Rattle.std.proofs.Common.{ℕ, ◌+◌, rules, arith, ap, subst, ◌∙◌}
+use Rattle.std.proofs.Common.{rules, arith, subst}
 use Rattle.atomic_table.specs.Table.{Final, Seen}
 use Rattle.core.specs.Mem.Slots.{slots_items}
 use Rattle.dr_runs.specs.declared.view.View.{View}

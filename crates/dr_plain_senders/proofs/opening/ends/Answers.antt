@@ -1,4 +1,4 @@
-use Rattle.std.proofs.Common.{ℕ, List, ap, sym, subst, ◌∙◌}
+use Rattle.std.proofs.Common.{ℕ, List, sym, subst, ◌∙◌}
 use denote.RawPtr.{Ptr}
 use Rattle.dr_cells.specs.declared.token.Token.{Token}
 use Rattle.dr_plain_senders.specs.Inside.Making.{StandFirst}

@@ -5,7 +5,7 @@ use Rattle.dr_runs.specs.Seats.{end_of}
 use Rattle.dr_plain_senders.specs.Inside.Stations.{SenderSits}
 use Rattle.dr_plain_senders.proofs.Going.{cut_on}
 use Rattle.dr_plain_senders.proofs.Making.{cut_own, cut_rest, senders_next, sender_sits, sender_fits, sender_view, sender_listed}
-use Rattle.dr_plain_senders.proofs.Marked.{unmarked_last, unmarked_left}
+use Rattle.dr_plain_senders.proofs.Marked.{unmarked_last, unmarked_left, one_less}
 use Rattle.dr_plain_senders.proofs.opening.senders.Goals as goal
 
 pub split_seat-next-requires : goal.split_seat-next-requires
@@ -34,6 +34,7 @@ loop-number-preserved g c =
           (cut_own _ _ _ _ _ inv.1 (senders_next c.loop-number.number _ _ (omega arith)) own.2)
           c.in_ok-tokens.ensures (c.get.ensures.value ∙ c.size.ensures ∙ ap (λ r. r.plan.size) c.deref-in-loop-number.ensures)),
       unmarked_left _ _ _ c.in-Some.owned inv.3 c.in-Some.ensures.items,
+      one_less _ _ c.in-Some.owned _ c.loop-number.number (omega arith) inv.4 c.in-Some.ensures.items,
     )
 
 pub invariant_of-push : goal.invariant_of-push
