@@ -17,7 +17,7 @@ from refused import CALLS, TAKING_NONE
 
 LOST = 99
 # A ring over plain memory keeps its events where its ends are dropped, and `finish` does not bring them together.
-KEEPING = {"plain", "plain-ends"}
+KEEPING = {"plain", "plain-ends", "plain-senders-ends"}
 VALGRIND = ["valgrind", "--quiet", "--leak-check=full", "--errors-for-leak-kinds=definite,possible", f"--error-exitcode={LOST}"]
 
 

@@ -20,8 +20,8 @@ from collections import Counter, namedtuple
 from run import HERE, NO_MEMORY, WAYS, Ran, merged_like
 
 # The calls of the library, and those of them that take no memory once something is open.
-CALLS = ("builder", "build", "open", "record", "ring", "plain", "run", "call", "audit")
-TAKING_NONE = ("core", "many", "ends", "plain-ends", "settled", "kept", "parts")
+CALLS = ("builder", "build", "open", "record", "ring", "plain", "plain-senders", "run", "call", "audit")
+TAKING_NONE = ("core", "many", "ends", "plain-ends", "plain-senders-ends", "settled", "kept", "parts")
 
 DIAMOND = """ring,2,single
 with,journal,replica

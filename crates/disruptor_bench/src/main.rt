@@ -15,6 +15,7 @@ mod fault;
 mod measured;
 mod one_thread;
 mod plain;
+mod plain_senders;
 mod senders;
 mod sum;
 mod threads;
@@ -94,6 +95,7 @@ fn round(
         Exchange::Ring => threads::round(rt, alloc, order),
         Exchange::Plain(width) => plain::round(rt, alloc, order, width),
         Exchange::Senders(senders) => senders::round(rt, alloc, order, senders),
+        Exchange::PlainSenders(senders) => plain_senders::round(rt, alloc, order, senders),
         Exchange::Lock(producers) => behind_lock::round(rt, alloc, order, producers),
     }
 }

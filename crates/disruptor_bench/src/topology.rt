@@ -16,6 +16,8 @@ pub enum Exchange {
     Plain(Width),
     /// The ring with so many senders, and a thread for each end.
     Senders(u64),
+    /// The ring over plain memory with so many senders, and a thread for each end.
+    PlainSenders(u64),
     /// The core behind a lock, with so many producers, and a thread for each of them and for each handler.
     Lock(u64),
 }
@@ -81,6 +83,10 @@ impl Exchange {
             let (width, rest) = rest.split_once('-')?;
             return Some((Exchange::Core(Width::named(width)?), rest));
         }
+        if let Some(rest) = name.strip_prefix("plain-senders") {
+            let (senders, rest) = producers_before(rest)?;
+            return Some((Exchange::PlainSenders(senders), rest));
+        }
         if let Some(rest) = name.strip_prefix("plain") {
             let (width, rest) = rest.split_once('-')?;
             return Some((Exchange::Plain(Width::named(width)?), rest));
@@ -103,6 +109,7 @@ impl Exchange {
             Exchange::Ring => Ok(()),
             Exchange::Plain(width) => write!(f, "plain{width}-"),
             Exchange::Senders(senders) => write!(f, "senders{senders}-"),
+            Exchange::PlainSenders(senders) => write!(f, "plain-senders{senders}-"),
             Exchange::Lock(producers) => write!(f, "lock{producers}-"),
         }
     }
@@ -111,11 +118,7 @@ impl Exchange {
     pub fn paces(self) -> [Pace; 3] {
         match self {
             Exchange::Core(_) => [Pace::Ones, Pace::Step, Pace::Claims(10)],
-            Exchange::Ring | Exchange::Plain(_) | Exchange::Senders(_) | Exchange::Lock(_) => [
-                Pace::Ones,
-                Pace::Claims(10),
-                Pace::Claims(100),
-            ],
+            _ => [Pace::Ones, Pace::Claims(10), Pace::Claims(100)],
         }
     }
 
@@ -132,6 +135,7 @@ impl fmt::Display for Exchange {
             Exchange::Ring => "ring",
             Exchange::Plain(_) => "plain",
             Exchange::Senders(_) => "senders",
+            Exchange::PlainSenders(_) => "plain-senders",
             Exchange::Lock(_) => "lock",
         })
     }

@@ -7,6 +7,8 @@ use crate::core_calls::{tell_opened, tell_run};
 use crate::fault::Fault;
 use crate::parts::tell_parts;
 use crate::plain_calls::{tell_plain, tell_plain_ends};
+use crate::plain_senders_calls::tell_plain_senders_ends;
+use crate::plain_senders_making::tell_plain_senders;
 use crate::recording::{tell_calls, tell_recorded};
 use crate::ring_calls::tell_ring;
 use crate::settling::tell_settled;
@@ -25,6 +27,8 @@ pub enum Case {
     Ring,
     /// A ring over plain memory.
     Plain,
+    /// One with several senders, over events of which each is dropped once.
+    PlainSenders,
     /// `run`, at a gap between two producers.
     Run,
     Call,
@@ -37,6 +41,8 @@ pub enum Case {
     Ends,
     /// Every call of the ends of a ring over plain memory.
     PlainEnds,
+    /// Every call of the ends of one with several senders.
+    PlainSendersEnds,
     /// What brings the ends of a ring together.
     Settled,
     /// `Recorded::call`, with room for what it keeps.
@@ -46,13 +52,14 @@ pub enum Case {
 }
 
 impl Case {
-    pub const ALL: [Case; 16] = [
+    pub const ALL: [Case; 18] = [
         Case::Builder,
         Case::Build,
         Case::Open,
         Case::Record,
         Case::Ring,
         Case::Plain,
+        Case::PlainSenders,
         Case::Run,
         Case::Call,
         Case::Audit,
@@ -60,6 +67,7 @@ impl Case {
         Case::Many,
         Case::Ends,
         Case::PlainEnds,
+        Case::PlainSendersEnds,
         Case::Settled,
         Case::Kept,
         Case::Parts,
@@ -74,6 +82,7 @@ impl Case {
             Case::Record => "record",
             Case::Ring => "ring",
             Case::Plain => "plain",
+            Case::PlainSenders => "plain-senders",
             Case::Run => "run",
             Case::Call => "call",
             Case::Audit => "audit",
@@ -81,6 +90,7 @@ impl Case {
             Case::Many => "many",
             Case::Ends => "ends",
             Case::PlainEnds => "plain-ends",
+            Case::PlainSendersEnds => "plain-senders-ends",
             Case::Settled => "settled",
             Case::Kept => "kept",
             Case::Parts => "parts",
@@ -106,6 +116,7 @@ fn tell_once<R: Print>(rt: &R, alloc: Global, case: Case) -> Result<(), Fault> {
         Case::Record => tell_recorded(rt, alloc),
         Case::Ring => tell_ring(rt, alloc),
         Case::Plain => tell_plain(rt, alloc),
+        Case::PlainSenders => tell_plain_senders(rt, alloc),
         Case::Run => tell_run(rt, alloc),
         Case::Call => tell_calls(rt, alloc),
         Case::Audit => tell_audits(rt, alloc),
@@ -113,6 +124,7 @@ fn tell_once<R: Print>(rt: &R, alloc: Global, case: Case) -> Result<(), Fault> {
         Case::Many => tell_many(rt, alloc),
         Case::Ends => tell_ends(rt, alloc),
         Case::PlainEnds => tell_plain_ends(rt, alloc),
+        Case::PlainSendersEnds => tell_plain_senders_ends(rt, alloc),
         Case::Settled => tell_settled(rt, alloc),
         Case::Kept => tell_kept(rt, alloc),
         Case::Parts => tell_parts(rt, alloc),

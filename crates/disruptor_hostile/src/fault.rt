@@ -18,6 +18,8 @@ pub enum Fault {
     Refused(&'static str),
     /// A poll of the program's own that asks for more events than it has room for.
     Room,
+    /// An event is left of a ring that was not made.
+    Left,
 }
 
 impl Fault {
@@ -27,7 +29,7 @@ impl Fault {
             Fault::Usage => 1,
             Fault::Memory => 3,
             Fault::Outside => 4,
-            Fault::Refused(_) | Fault::Room => 5,
+            Fault::Refused(_) | Fault::Room | Fault::Left => 5,
         }
     }
 }
@@ -40,6 +42,7 @@ impl fmt::Display for Fault {
             Fault::Outside => "cannot write",
             Fault::Refused(name) => name,
             Fault::Room => "no room for a batch",
+            Fault::Left => "an event is left",
         })
     }
 }

@@ -13,6 +13,8 @@ mod fault;
 mod graphs;
 mod parts;
 mod plain_calls;
+mod plain_senders_calls;
+mod plain_senders_making;
 mod recording;
 mod ring_calls;
 mod settling;

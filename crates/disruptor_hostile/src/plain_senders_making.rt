@@ -1,0 +1,156 @@
+//! A ring over plain memory with several senders is made. Where memory runs out, each of its events is
+//! dropped once.
+
+ghost use Rattle.std.specs.Prelude.{IfOk};
+ghost use Rattle.dr_plain_senders.specs.Calls.Settling.{AreAllEnds};
+
+use crate::again::again;
+use crate::fault::Fault;
+use crate::graphs::{diamond, tell_graph};
+use crate::telling::{tell_about, tell_both, tell_words};
+use dr_graph::Graph;
+use dr_meaning::MAX_LIMIT;
+use dr_plain_senders::{Halter, Receiver, Sender, Settled, Values, finish, senders_ring};
+use dr_seq::Size;
+use std::alloc::{AllocError, Global};
+use std::sync::Arc;
+
+#[derive(Drop)]
+pub struct Ends<T> {
+    pub senders: Vec<Sender<T>>,
+    pub receivers: Vec<Receiver<T>>,
+    pub halter: Halter<T>,
+}
+
+/// The ends of a ring over some events, with two senders.
+pub fn opened<T: Drop>(alloc: Global, graph: &Graph, events: Vec<T>) -> Result<Ends<T>, Fault>
+    ensures { IfOk result (λ ends. AreAllEnds ends.senders.items ends.receivers.items ends.halter) }
+{
+    let size = Size::new(events.len() as u64)?;
+    let (senders, receivers, halter) = senders_ring(alloc, graph, size, MAX_LIMIT, 2, events)?;
+    Ok(Ends {
+        senders,
+        receivers,
+        halter,
+    })
+}
+
+/// An event that has a part in a number, in which nobody else has one but who keeps the numbers.
+#[derive(Drop)]
+struct Counted {
+    number: Arc<u64>,
+}
+
+/// The numbers of four events.
+fn four_numbers(alloc: Global) -> Result<Vec<Arc<u64>>, AllocError> {
+    let mut numbers = Vec::new(alloc);
+    for number in 4..8u64 {
+        numbers.push(Arc::new(alloc, number)?)?;
+    }
+    Ok(numbers)
+}
+
+fn event_of(number: &Arc<u64>) -> Result<Counted, AllocError> {
+    let number = Arc::try_clone(number)?;
+    Ok(Counted { number })
+}
+
+/// An event for each number.
+fn events_of(alloc: Global, numbers: &[Arc<u64>]) -> Result<Vec<Counted>, AllocError> {
+    let mut events = Vec::new(alloc);
+    for number in numbers {
+        events.push(event_of(number)?)?;
+    }
+    Ok(events)
+}
+
+/// Whether each event was dropped once.
+fn are_dropped(numbers: &[Arc<u64>]) -> bool {
+    for number in numbers {
+        if Arc::strong_count(number) != 1 {
+            return false;
+        }
+    }
+    true
+}
+
+fn opened_with(alloc: Global, graph: &Graph, numbers: &[Arc<u64>]) -> Result<Ends<Counted>, Fault>
+    ensures { IfOk result (λ ends. AreAllEnds ends.senders.items ends.receivers.items ends.halter) }
+{
+    let events = events_of(alloc, numbers)?;
+    opened(alloc, graph, events)
+}
+
+/// The ends of a ring over an event for each number. Where there is none, the events are dropped.
+fn opened_over(alloc: Global, graph: &Graph, numbers: &[Arc<u64>]) -> Result<Ends<Counted>, Fault>
+    ensures { IfOk result (λ ends. AreAllEnds ends.senders.items ends.receivers.items ends.halter) }
+{
+    match opened_with(alloc, graph, numbers) {
+        Ok(ends) => Ok(ends),
+        Err(fault) => {
+            if are_dropped(numbers) {
+                Err(fault)
+            } else {
+                Err(Fault::Left)
+            }
+        }
+    }
+}
+
+fn tell_event<R: Print>(rt: &R, event: Option<Counted>) -> Result<(), Fault> {
+    match event {
+        Some(one) => tell_about(rt, "event", *one.number),
+        None => tell_words(rt, "no event"),
+    }
+}
+
+/// Uses two of the events that came back.
+fn tell_two<R: Print>(
+    rt: &R,
+    settled: &Settled,
+    events: &mut Values<Counted>,
+) -> Result<(), Fault> {
+    tell_both(rt, settled.claimed(), settled.handlers())?;
+    tell_event(rt, events.next())?;
+    tell_event(rt, events.next())
+}
+
+/// Brings the ends of a ring together, uses two of the events that come back, and drops the others.
+fn tell_back<R: Print>(rt: &R, ends: Ends<Counted>) -> Result<(), Fault>
+    requires { AreAllEnds ends.senders.items ends.receivers.items ends.halter }
+{
+    let (settled, mut events) = finish(ends.senders, ends.receivers, ends.halter);
+    tell_two(rt, &settled, &mut events)
+}
+
+fn tell_ring_over<R: Print>(
+    rt: &R,
+    alloc: Global,
+    graph: &Graph,
+    numbers: &[Arc<u64>],
+) -> Result<(), Fault> {
+    let ends = opened_over(alloc, graph, numbers)?;
+    tell_back(rt, ends)?;
+    tell_about(rt, "dropped", are_dropped(numbers))
+}
+
+fn tell_ring_of<R: Print>(
+    rt: &R,
+    alloc: Global,
+    graph: &Graph,
+    numbers: &[Arc<u64>],
+) -> Result<(), Fault> {
+    again!(rt, tell_ring_over(rt, alloc, graph, numbers));
+    tell_graph(rt, graph)
+}
+
+fn tell_ring<R: Print>(rt: &R, alloc: Global, graph: &Graph) -> Result<(), Fault> {
+    let numbers = four_numbers(alloc)?;
+    tell_ring_of(rt, alloc, graph, numbers.as_slice())
+}
+
+/// Makes a ring, and brings its ends together.
+pub fn tell_plain_senders<R: Print>(rt: &R, alloc: Global) -> Result<(), Fault> {
+    let graph = diamond(alloc)?;
+    tell_ring(rt, alloc, &graph)
+}

@@ -1,0 +1,500 @@
+-- Each kind of step is allowed.
+use Rattle.std.proofs.Common.{◌≡◌, ℕ, ◌+◌, ◌-◌, ◌*◌, ◌^◌, ◌<◌, ◌≤◌, inl, inr, Bool, true, false, ◌==◌, if◌then◌else◌, List, [], ◌∷◌, ◌++◌, length, get_or, set, replicate, None, sym, refl, ap, ◌∙◌, subst, arith}
+use Rattle.std.specs.Prelude.{Contains, bit_or}
+use Rattle.std.proofs.lemmas.Bool.{cases_eq, cases_lt, eq-eqb, ne_eqb, lt-ltb, le-ltb}
+use Rattle.std.proofs.lemmas.List.{length-append, length-replicate}
+use Rattle.std.proofs.lemmas.Nat.{or_block}
+use Rattle.std.proofs.Math.Seq.{drop-append_seam}
+use Rattle.std.specs.Int.Bits.{or_zero_r}
+use mathlib.Core.Option.{some, none, some-ne-none}
+use mathlib.Core.Option as maybe
+use lib.ListN.{get_elem?}
+use lib.Seq.{set-get_or}
+use prog.Atomic.{either}
+use Rattle.atomic_table.specs.Table.{step, Allows}
+use Rattle.atomic_table.proofs.Lists.{set_here, at_longer}
+use Rattle.dr_cells.specs.declared.token.Token.{Token}
+use Rattle.dr_seq.specs.Rounds.{entry_of}
+use Rattle.dr_graph.specs.Meaning.Graph.{upstreams_of, finals}
+use Rattle.dr_runs.specs.Seats.{end_of, seat_at}
+use Rattle.dr_runs.proofs.Elements.{at_below}
+use Rattle.dr_runs.proofs.Looks.{last_look_le}
+use Rattle.dr_runs.proofs.Offers.{final_inside}
+use Rattle.dr_runs.proofs.Seats.{adds_nothing, adds_one}
+use Rattle.dr_plain_senders.specs.Meaning.Shape.{Shape, handlers_of}
+use Rattle.dr_plain_senders.specs.Meaning.Words.{claim_word, claimed_in, halted_from, halt_bit, count_word, mark_word, mark_start}
+use Rattle.dr_plain_senders.specs.declared.record.Lent.{Lent}
+use Rattle.dr_plain_senders.specs.declared.record.Stage.{Stage}
+use Rattle.dr_plain_senders.specs.declared.record.SenderRecord.{SenderRecord}
+use Rattle.dr_plain_senders.specs.declared.record.ReceiverRecord.{ReceiverRecord}
+use Rattle.dr_plain_senders.specs.declared.record.HalterRecord.{HalterRecord}
+use Rattle.dr_plain_senders.specs.declared.record.EndRecord.TheVariants.{Sends, Receives, Halts}
+use Rattle.dr_plain_senders.specs.declared.record.Step.{Step}
+use Rattle.dr_plain_senders.specs.declared.record.Step.TheVariants.{SenderLooksAtClaims, SenderLooksAtCount, SenderClaims, SenderPublishes, SenderLooksAtMark, SenderHalts}
+use Rattle.dr_plain_senders.specs.declared.record.Step.TheVariants.{ReceiverLooksAtClaims, ReceiverLooksAtMark, ReceiverLooksAtCount, ReceiverCompletes, HalterHalts}
+use Rattle.dr_plain_senders.specs.Meaning.Records.{events_of, Owns, published, brought, sender_looked, mark_found, claimed_from, claims_looked, taken_at_mark, mark_looked, taken_at_count, receiver_looked, completed_to, halter_halted, SeesRoom, fresh_stage}
+use Rattle.dr_plain_senders.specs.Meaning.Rule.{World, KeepsRule}
+use Rattle.dr_plain_senders.specs.Meaning.Lying.{Laid, Lies}
+use Rattle.dr_plain_senders.specs.Meaning.Steps.{Happens, sender_knows, sender_claims, sender_publishes, receiver_knows, halted_words}
+use Rattle.dr_plain_senders.specs.Calls.Finds.{FindsMore, FindsClaims, FindsEvents, FindsNext, IsEarlier, FindsMark}
+use Rattle.dr_plain_senders.specs.Inside.Seats.{End, Hand, Sitting, Tells, ring_ends, Loads, Stores, Ruled, as_sender, as_receiver, as_halter, sender_of, receiver_of, halter_of, IsSender, IsReceiver, IsHalter}
+use Rattle.dr_plain_senders.specs.Inside.Seats.{LayIn, taken_by_claim, given_by_publication, taken_by_poll, given_by_completion, SenderLooked, SenderClaimed, SenderPublished, SenderLookedAtMark, SenderHalted}
+use Rattle.dr_plain_senders.specs.Inside.Seats.{ReceiverLookedAtClaims, ReceiverLookedAtMark, ReceiverLookedAtCount, ReceiverCompleted, HalterHalted}
+use Rattle.dr_plain_senders.proofs.Places.{word_at, claimed_low}
+use Rattle.dr_plain_senders.proofs.Facts.{taken_claimed, handler_inside, upstream_inside, receiver_of_handler, above, near_open, owned}
+use Rattle.dr_plain_senders.proofs.KeepsClaims.{keeps_claims}
+use Rattle.dr_plain_senders.proofs.Barriers.{offers_at_mark, offers_at_count, next_of}
+use Rattle.dr_plain_senders.proofs.Moves.{stays, claim_moves, publication_moves, look_moves, poll_moves, completion_moves}
+use Rattle.dr_plain_senders.proofs.Seats.{Does, Acts, OthersStand, by_end, but_sender, but_receiver, but_halter}
+
+-- a load stores what was there
+same_words : (us : List ℕ) (i : ℕ) → us ≡ set us i (get_or us i 0)
+same_words us i = sym (set-get_or us i 0)
+
+-- the highest bit is set
+or_top : (n : ℕ) → n < 18446744073709551616 → bit_or n 9223372036854775808 ≡ halted_from n
+or_top n small =
+    let y : 1 * 2 ^ 63 + 0 ≡ 9223372036854775808 = omega arith in
+    elim (cases_lt n halt_bit) [
+      | inl lt ↦ rw (lt-ltb n halt_bit lt) (
+          let b : bit_or (0 * 2 ^ 63 + n) (1 * 2 ^ 63 + 0) ≡ 1 * 2 ^ 63 + bit_or n 0 = or_block 63 0 1 n 0 lt (omega arith) in
+          let z : 0 * 2 ^ 63 + n ≡ n = omega arith in let e = or_zero_r n in
+          let last : 1 * 2 ^ 63 + bit_or n 0 ≡ n + halt_bit = omega arith in (λ i. bit_or (sym z i) (sym y i)) ∙ b ∙ last)
+      | inr ge ↦ rw (le-ltb n halt_bit ge) (
+          let r : ℕ = n - halt_bit in
+          let b : bit_or (1 * 2 ^ 63 + r) (1 * 2 ^ 63 + 0) ≡ 1 * 2 ^ 63 + bit_or r 0 = or_block 63 1 1 r 0 (omega arith) (omega arith) in
+          let z : 1 * 2 ^ 63 + r ≡ n = omega arith in let e = or_zero_r r in
+          let last : 1 * 2 ^ 63 + bit_or r 0 ≡ n = omega arith in (λ i. bit_or (sym z i) (sym y i)) ∙ b ∙ last)
+    ]
+
+module _ {T : Type 0} where
+  -- a load of a word is allowed, and tells this
+  abbrev pub MayLoad : Shape → ℕ → ℕ → Sitting T → ℕ → Tells T → Type 0
+  MayLoad k slots id me i tells = Allows (Ruled k) slots id me i (λ n. n) (Loads tells (step slots i 0 0 none) me)
+
+  -- a store of n to a word is allowed, is this step, and tells this
+  abbrev pub MayStore : Shape → ℕ → ℕ → Sitting T → ℕ → ℕ → (End T → ℕ → Step T) → Tells T → Type 0
+  MayStore k slots id me i n stored tells = Allows (Ruled k) slots id me i (λ _. n) (λ _. Stores (λ s. stored) tells (step slots i n 0 none) me n)
+
+  -- the highest bit of a word may be set, by this step, which tells this
+  abbrev pub MayHalt : Shape → ℕ → ℕ → Sitting T → (End T → ℕ → Step T) → Tells T → Type 0
+  MayHalt k slots id me stored tells =
+      Allows (Ruled k) slots id me claim_word (λ n. bit_or n 9223372036854775808) (Stores (λ s. stored) tells (step slots claim_word 9223372036854775808 0 none) me)
+
+  -- for a seat that stands for one end
+  along_sender : (P : Sitting T → Type 0) (me : Sitting T) → IsSender (end_of me) → P (seat_at (as_sender (sender_of me.0.ends) me.1) me.0.pasts) → P me
+  along_sender P me is p = subst (λ (e : End T). P (seat_at e me.0.pasts)) (sym is) p
+
+  along_receiver : (P : Sitting T → Type 0) (me : Sitting T) → IsReceiver (end_of me) → P (seat_at (as_receiver (receiver_of me.0.ends) me.1) me.0.pasts) → P me
+  along_receiver P me is p = subst (λ (e : End T). P (seat_at e me.0.pasts)) (sym is) p
+
+  along_halter : (P : Sitting T → Type 0) (me : Sitting T) → IsHalter (end_of me) → P (seat_at (as_halter (halter_of me.0.ends)) me.0.pasts) → P me
+  along_halter P me is p = subst (λ (e : End T). P (seat_at e me.0.pasts)) (sym is) p
+
+  -- a sender's look
+  sender_sees : (k : Shape) (w : World T) (r : SenderRecord T) (i : ℕ) → get_elem? w.senders r.number ≡ some r → i < 16 + 16 * handlers_of k → KeepsRule k w
+      → FindsMore r.looks i (word_at w.words i)
+  sender_sees k w r i at low K = last_look_le (mark_start k) w.words 0 r.looks i (omega arith) (K.sent r.number r at).looks
+
+  -- what a step does that changes a sender's record, and no word
+  abbrev sender_learns : (k : Shape) (kind : Step T) (w : World T) (r q : SenderRecord T) (i : ℕ) → get_elem? w.senders r.number ≡ some r → q.number ≡ r.number
+      → Happens k kind w (sender_knows w r.number q) → Does k kind w i (word_at w.words i) (Sends q)
+  sender_learns k kind w r q i at same happens = record {
+    after = sender_knows w r.number q;
+    happens = happens;
+    words = same_words w.words i;
+    stands = ap (λ (p : ℕ). get_elem? (set w.senders r.number q) p) same ∙ set_here w.senders r.number q (at_below w.senders r.number r at);
+    others = subst (λ (p : ℕ). OthersStand w (sender_knows w r.number q) (2 * p + 1)) (sym same) (but_sender w (sender_knows w r.number q) r q refl refl refl);
+  }
+
+  -- and a receiver's
+  abbrev receiver_learns : (k : Shape) (kind : Step T) (w : World T) (r q : ReceiverRecord T) (i : ℕ) → get_elem? w.receivers r.number ≡ some r → q.number ≡ r.number
+      → Happens k kind w (receiver_knows w r.number q) → Does k kind w i (word_at w.words i) (Receives q)
+  receiver_learns k kind w r q i at same happens = record {
+    after = receiver_knows w r.number q;
+    happens = happens;
+    words = same_words w.words i;
+    stands = ap (λ (p : ℕ). get_elem? (set w.receivers r.number q) p) same ∙ set_here w.receivers r.number q (at_below w.receivers r.number r at);
+    others = subst (λ (p : ℕ). OthersStand w (receiver_knows w r.number q) (2 * p + 2)) (sym same)
+        (but_receiver w (receiver_knows w r.number q) r q refl refl refl);
+  }
+
+  pub sender_looks_at_claims : (k : Shape) {slots : ℕ} (id : ℕ) (me : Sitting T) → IsSender (end_of me) → MayLoad k slots id me claim_word SenderLooked
+  sender_looks_at_claims k {slots = slots} id me is =
+      let r = sender_of me.0.ends in let kind = SenderLooksAtClaims r.number in
+      along_sender (λ m. MayLoad k slots id m claim_word SenderLooked) me is
+      (by_end k slots id kind (λ xs. xs) me.0.pasts (Sends r) me.1 claim_word (λ n. n) (SenderLooked (step slots claim_word 0 0 none) (as_sender r me.1))
+      (adds_nothing ring_ends _ kind (λ n. refl))
+      (λ w at K small homes lies. let q = sender_looked r claim_word (word_at w.words claim_word) in record {
+        mine = Sends q;
+        same = refl;
+        does = sender_learns k kind w r q claim_word at refl (r, at, refl);
+        hand_after = me.1;
+        moves = stays k (sender_knows w r.number q) me.1 homes lies;
+        tells = (refl, sender_sees k w r claim_word at (omega arith) K);
+      }))
+
+  looks_at_count : (k : Shape) (slots id : ℕ) (me : Sitting T) (f : ℕ) → IsSender (end_of me) → Contains (finals k.upstreams) f → MayLoad k slots id me (count_word f) SenderLooked
+  looks_at_count k slots id me f is has =
+      let r = sender_of me.0.ends in let i = count_word f in let kind = SenderLooksAtCount r.number f in
+      along_sender (λ m. MayLoad k slots id m i SenderLooked) me is
+      (by_end k slots id kind (λ xs. xs) me.0.pasts (Sends r) me.1 i (λ n. n) (SenderLooked (step slots i 0 0 none) (as_sender r me.1))
+      (adds_nothing ring_ends _ kind (λ n. refl))
+      (λ w at K small homes lies. let q = sender_looked r i (word_at w.words i) in let inside = final_inside k.upstreams f has in record {
+        mine = Sends q;
+        same = refl;
+        does = sender_learns k kind w r q i at refl (r, at, (has, refl));
+        hand_after = me.1;
+        moves = stays k (sender_knows w r.number q) me.1 homes lies;
+        tells = (refl, sender_sees k w r i at (omega arith) K);
+      }))
+
+  pub sender_looks_at_count : (k sh : Shape) {slots : ℕ} (id : ℕ) (me : Sitting T) (i f : ℕ) → k ≡ sh → i ≡ count_word f → IsSender (end_of me) → Contains (finals sh.upstreams) f
+      → MayLoad k slots id me i SenderLooked
+  sender_looks_at_count k sh {slots = slots} id me i f same here is has =
+      subst (λ (i : ℕ). MayLoad k slots id me i SenderLooked) (sym here)
+      (looks_at_count k slots id me f is (subst (λ (p : Shape). Contains (finals p.upstreams) f) (sym same) has))
+
+  -- an exchange, by whether it finds what it expects
+  abbrev exchanged_world : World T → SenderRecord T → ℕ → ℕ → Bool → World T
+  exchanged_world w r c n b = if b then sender_claims w r.number r c n else sender_knows w r.number (sender_looked r claim_word (word_at w.words claim_word))
+
+  abbrev learned : SenderRecord T → ℕ → ℕ → ℕ → Bool → SenderRecord T
+  learned r c n found b = if b then claimed_from r c n else sender_looked r claim_word found
+
+  -- what a sender has is claimed before a claim that the exchange gives, and published where the claim takes its cell
+  earlier : (k : Shape) (w : World T) (r : SenderRecord T) (c n z : ℕ) (t : Stage T) → get_elem? w.senders r.number ≡ some r → 0 < n → SeesRoom k r c n
+      → word_at w.words claim_word ≡ c → Owns r z t → KeepsRule k w
+      → IsEarlier k c (c + n) z t
+  earlier k w r c n z t at some_one room hit own K =
+      let here = (owned k w r.number r z own.0 t at own.1 K).1 in let inside = at_below w.stages z t here in let small = K.shape.small in let fits = room.limit in
+      let low : c < halt_bit = omega arith in let new = replicate n (fresh_stage {T = T} r.number) in
+      let now : c ≡ length w.stages = sym (claimed_low c low) ∙ ap claimed_in (sym hit) ∙ K.claim in
+      let longer : length (w.stages ++ new) ≡ length w.stages + n = omega (arith, length-append w.stages new, length-replicate n (fresh_stage {T = T} r.number)) in (
+        omega arith,
+        λ hidden. (
+            let near = near_open k (sender_claims w r.number r c n) z t (at_longer w.stages new z t here) hidden
+            (keeps_claims k w r.number c n r at some_one room hit K) in omega arith),
+      )
+
+  -- what an exchange tells, by whether it finds what it expects
+  abbrev ClaimTells : Shape → SenderRecord T → Hand T → ℕ → ℕ → ℕ → ℕ → Bool → End T → Type 0
+  ClaimTells k r hand c n v m b me' =
+      (laid : List (Laid T)) × LayIn k c (if b then n else 0) laid
+      × (me' ≡ as_sender (learned r c n m b) (taken_by_claim k c laid ++ hand))
+      × FindsMore r.looks claim_word m × (m ≡ c → (z : ℕ) (t : Stage T) → Owns r z t → IsEarlier k c v z t)
+
+  claim_acts : (k : Shape) (w : World T) (r : SenderRecord T) (hand : Hand T) (homes : List (maybe.Option (Token T))) (c n v m : ℕ) → get_elem? w.senders r.number ≡ some r → 0 < n
+      → SeesRoom k r c n → c + n ≡ v → m ≡ word_at w.words claim_word → KeepsRule k w → Lies k w homes
+      → Acts k (SenderClaims r.number c n) w claim_word (either (m == c) v m) (Sends r) hand homes (ClaimTells k r hand c n v m (m == c))
+  claim_acts k w r hand homes c n v m at some_one room sum here K lies =
+      let kind = SenderClaims r.number c n in
+      let P : Bool → Type 0 = λ b. Acts k kind w claim_word (either b v m) (Sends r) hand homes (ClaimTells k r hand c n v m b) in
+      let seen : FindsMore r.looks claim_word m = subst (λ (j : ℕ). FindsMore r.looks claim_word j) (sym here) (sender_sees k w r claim_word at (omega arith) K) in
+      let before : m ≡ c → (z : ℕ) (t : Stage T) → Owns r z t → IsEarlier k c v z t =
+      λ hit z t own. subst (λ (j : ℕ). IsEarlier k c j z t) sum (earlier k w r c n z t at some_one room (sym here ∙ hit) own K) in
+      let after : (b : Bool) → (m == c) ≡ b → exchanged_world w r c n b ≡ exchanged_world w r c n (word_at w.words claim_word == c) =
+      λ b e. ap (exchanged_world w r c n) (sym e ∙ ap (λ (j : ℕ). j == c) here) in
+      elim (cases_eq m c) [
+        | inl hit ↦ (let b = eq-eqb m c hit in let q = claimed_from r c n in
+            let t = claim_moves k w r.number c n r hand homes at room (sym here ∙ hit) K lies in
+            subst P (sym b) (record {
+              mine = Sends q;
+              same = refl;
+              does = record {
+                after = sender_claims w r.number r c n;
+                happens = (r, at, (some_one, room, after true b));
+                words = ap (set w.words claim_word) sum;
+                stands = set_here w.senders r.number q (at_below w.senders r.number r at);
+                others = but_sender w (sender_claims w r.number r c n) r q refl refl refl;
+              };
+              hand_after = taken_by_claim k c t.0 ++ hand;
+              moves = t.2;
+              tells = (t.0, t.1, refl, seen, before);
+            }))
+        | inr miss ↦ (let b = ne_eqb m c miss in let q = sender_looked r claim_word m in
+            let u = sender_knows w r.number (sender_looked r claim_word (word_at w.words claim_word)) in
+            subst P (sym b) (record {
+              mine = Sends q;
+              same = refl;
+              does = record {
+                after = u;
+                happens = (r, at, (some_one, room, after false b));
+                words = same_words w.words claim_word ∙ ap (set w.words claim_word) (sym here);
+                stands = ap (λ (j : ℕ). get_elem? (set w.senders r.number (sender_looked r claim_word j)) r.number) (sym here)
+                    ∙ set_here w.senders r.number q (at_below w.senders r.number r at);
+                others = but_sender w u r (sender_looked r claim_word (word_at w.words claim_word)) refl refl refl;
+              };
+              hand_after = hand;
+              moves = stays k u hand homes lies;
+              tells = ([], record { count = refl; rounds = λ i a at_i. absurd (some-ne-none a (sym at_i)) }, refl, seen, before);
+            }))
+      ]
+
+  pub sender_claims_more : (k sh : Shape) {slots : ℕ} (id : ℕ) (me : Sitting T) (c n v : ℕ) → k ≡ sh → v ≡ c + n → IsSender (end_of me) → 0 < n
+      → SeesRoom sh (sender_of me.0.ends) c n
+      → Allows (Ruled k) slots id me claim_word (λ m. either (m == c) v m)
+      (Stores (λ s e m. SenderClaims (sender_of e.0).number s.first (s.second - s.first)) (SenderClaimed sh) (step slots claim_word c v none) me)
+  sender_claims_more k sh {slots = slots} id me c n v same sum is some_one there =
+      let Goal : Shape → Sitting T → Type 0 = λ p x. Allows (Ruled k) slots id x claim_word (λ m. either (m == c) v m)
+      (Stores (λ s e m. SenderClaims (sender_of e.0).number s.first (s.second - s.first)) (SenderClaimed p) (step slots claim_word c v none) x) in
+      let r = sender_of me.0.ends in let more = v - c in let all : n ≡ more = omega arith in let back : c + more ≡ v = omega arith in
+      let room : SeesRoom k r c more = subst (SeesRoom k r c) all (subst (λ (p : Shape). SeesRoom p r c n) (sym same) there) in
+      let kind = SenderClaims r.number c more in
+      subst (λ (p : Shape). Goal p me) same
+      (along_sender (Goal k) me is
+      (by_end k slots id kind (λ xs. xs ++ kind ∷ []) me.0.pasts (Sends r) me.1 claim_word (λ m. either (m == c) v m)
+      (SenderClaimed k (step slots claim_word c v none) (as_sender r me.1))
+      (adds_one ring_ends _ kind (λ n. refl))
+      (λ w at K small homes lies. claim_acts k w r me.1 homes c more v (word_at w.words claim_word) at (omega arith) room back refl K lies)))
+
+  publishes : (k : Shape) (slots id : ℕ) (me : Sitting T) (s : ℕ) (t : Stage T) (l : Lent T) (rest : Hand T) → IsSender (end_of me) → Owns (sender_of me.0.ends) s t → t.lent ≡ None
+      → me.1 ≡ given_by_publication k s (l ∷ []) ++ rest
+      → MayStore k slots id me (mark_word k s) (entry_of k.size s) (λ e n. SenderPublishes (sender_of e.0).number s (l.event ∷ [])) (SenderPublished k s (l ∷ []))
+  publishes k slots id me s t l rest is own unshown hand =
+      let r = sender_of me.0.ends in let i = mark_word k s in let v = entry_of k.size s in let given = given_by_publication k s (l ∷ []) in
+      let kind = SenderPublishes r.number s (l.event ∷ []) in let tells : Tells T = SenderPublished k s (l ∷ []) in
+      let Goal : Sitting T → Type 0 = λ x. MayStore k slots id x i v (λ e n. SenderPublishes (sender_of e.0).number s (l.event ∷ [])) tells in
+      along_sender Goal me is
+      (subst (λ (c : Hand T). Goal (seat_at (as_sender r c) me.0.pasts)) (sym hand)
+      (by_end k slots id kind (λ xs. xs ++ kind ∷ []) me.0.pasts (Sends r) (given ++ rest) i (λ _. v)
+      (λ _. tells (step slots i v 0 none) (as_sender r (given ++ rest)) v)
+      (adds_one ring_ends _ kind (λ n. refl))
+      (λ w at K small homes lies. let q = brought r s (published l) in let u = sender_publishes k w r.number r s t l in record {
+        mine = Sends q;
+        same = refl;
+        does = record {
+          after = u;
+          happens = (r, at, (t, own, unshown, (l, refl, refl)));
+          words = refl;
+          stands = set_here w.senders r.number q (at_below w.senders r.number r at);
+          others = but_sender w u r q refl refl refl;
+        };
+        hand_after = rest;
+        moves = publication_moves k w r.number s own.0 r t l rest homes at own.1 unshown K lies;
+        tells = ap (λ (c : Hand T). as_sender q c) (sym (drop-append_seam given rest));
+      })))
+
+  -- one of some
+  one_of : (lents : List (Lent T)) → length lents ≡ 1 → (l : Lent T) × (l ∷ [] ≡ lents)
+  one_of [] one = absurd (omega arith)
+  one_of (l ∷ []) one = (l, refl)
+  one_of (l ∷ m ∷ ls) one = absurd (omega arith)
+
+  pub sender_publishes_one : (k sh : Shape) {slots : ℕ} (id : ℕ) (me : Sitting T) (i s m v : ℕ) (t : Stage T) (lents : List (Lent T)) (rest : Hand T) → k ≡ sh → s ≡ m → length lents ≡ 1
+      → i ≡ mark_word sh s → v ≡ entry_of sh.size s → IsSender (end_of me) → Owns (sender_of me.0.ends) s t → t.lent ≡ None
+      → me.1 ≡ given_by_publication sh s lents ++ rest
+      → MayStore k slots id me i v (λ e n. SenderPublishes (sender_of e.0).number m (events_of lents)) (SenderPublished sh m lents)
+  sender_publishes_one k sh {slots = slots} id me i s m v t lents rest same named one here now is own unshown hand =
+      let o = one_of lents one in
+      subst (λ (p : Shape). i ≡ mark_word p s → v ≡ entry_of p.size s → me.1 ≡ given_by_publication p s lents ++ rest
+      → MayStore k slots id me i v (λ e n. SenderPublishes (sender_of e.0).number m (events_of lents)) (SenderPublished p m lents)) same
+      (λ here now hand. subst (λ (j : ℕ). MayStore k slots id me i v (λ e n. SenderPublishes (sender_of e.0).number j (events_of lents)) (SenderPublished k j lents)) named
+      (subst (λ (x : ℕ × ℕ). MayStore k slots id me x.0 x.1 (λ e n. SenderPublishes (sender_of e.0).number s (events_of lents)) (SenderPublished k s lents)) (λ j. (sym here j, sym now j))
+      (subst (λ (ls : List (Lent T)). me.1 ≡ given_by_publication k s ls ++ rest
+      → MayStore k slots id me (mark_word k s) (entry_of k.size s) (λ e n. SenderPublishes (sender_of e.0).number s (events_of ls)) (SenderPublished k s ls)) o.1
+      (λ hand. publishes k slots id me s t o.0 rest is own unshown hand) hand)))
+      here now hand
+
+  -- the mark of a published sequence is there
+  finds_mark : (k : Shape) (w : World T) (r : SenderRecord T) (s : ℕ) → get_elem? w.senders r.number ≡ some r → KeepsRule k w
+      → FindsMark k r s (word_at w.words (mark_word k s))
+  finds_mark k w r s at K t l own shown = K.marked s (l, (t, (owned k w r.number r s own.0 t at own.1 K).1, shown))
+
+  looks_at_mark : (k : Shape) (slots id : ℕ) (me : Sitting T) (s : ℕ) → IsSender (end_of me) → MayLoad k slots id me (mark_word k s) (SenderLookedAtMark k s)
+  looks_at_mark k slots id me s is =
+      let r = sender_of me.0.ends in let i = mark_word k s in let kind = SenderLooksAtMark r.number s in
+      along_sender (λ m. MayLoad k slots id m i (SenderLookedAtMark k s)) me is
+      (by_end k slots id kind (λ xs. xs) me.0.pasts (Sends r) me.1 i (λ n. n) (SenderLookedAtMark k s (step slots i 0 0 none) (as_sender r me.1))
+      (adds_nothing ring_ends _ kind (λ n. refl))
+      (λ w at K small homes lies. let q = mark_found r i (word_at w.words i) in record {
+        mine = Sends q;
+        same = refl;
+        does = sender_learns k kind w r q i at refl (r, at, refl);
+        hand_after = me.1;
+        moves = stays k (sender_knows w r.number q) me.1 homes lies;
+        tells = (refl, finds_mark k w r s at K);
+      }))
+
+  pub sender_looks_at_mark : (k sh : Shape) {slots : ℕ} (id : ℕ) (me : Sitting T) (i s m : ℕ) → k ≡ sh → s ≡ m → i ≡ mark_word sh s → IsSender (end_of me)
+      → MayLoad k slots id me i (SenderLookedAtMark sh m)
+  sender_looks_at_mark k sh {slots = slots} id me i s m same named here is =
+      subst (λ (p : Shape). i ≡ mark_word p s → MayLoad k slots id me i (SenderLookedAtMark p m)) same
+      (λ here. subst (λ (j : ℕ). MayLoad k slots id me i (SenderLookedAtMark k j)) named
+      (subst (λ (j : ℕ). MayLoad k slots id me j (SenderLookedAtMark k s)) (sym here) (looks_at_mark k slots id me s is))) here
+
+  pub sender_halts : (k : Shape) {slots : ℕ} (id : ℕ) (me : Sitting T) → IsSender (end_of me) → MayHalt k slots id me (λ e n. SenderHalts (sender_of e.0).number) SenderHalted
+  sender_halts k {slots = slots} id me is =
+      let r = sender_of me.0.ends in let kind = SenderHalts r.number in
+      along_sender (λ m. MayHalt k slots id m (λ e n. SenderHalts (sender_of e.0).number) SenderHalted) me is
+      (by_end k slots id kind (λ xs. xs ++ kind ∷ []) me.0.pasts (Sends r) me.1 claim_word (λ n. bit_or n 9223372036854775808)
+      (SenderHalted (step slots claim_word 9223372036854775808 0 none) (as_sender r me.1))
+      (adds_one ring_ends _ kind (λ n. refl))
+      (λ w at K small homes lies. let n = word_at w.words claim_word in let q = sender_looked r claim_word (halted_from n) in
+      let u : World T = record w { words = halted_words w; senders = set w.senders r.number q } in record {
+        mine = Sends q;
+        same = refl;
+        does = record {
+          after = u;
+          happens = (r, at, refl);
+          words = ap (set w.words claim_word) (sym (or_top n small));
+          stands = set_here w.senders r.number q (at_below w.senders r.number r at);
+          others = but_sender w u r q refl refl refl;
+        };
+        hand_after = me.1;
+        moves = stays k u me.1 homes lies;
+        tells = refl;
+      }))
+
+  pub halter_halts : (k : Shape) {slots : ℕ} (id : ℕ) (me : Sitting T) → IsHalter (end_of me) → MayHalt k slots id me (λ e n. HalterHalts) HalterHalted
+  halter_halts k {slots = slots} id me is =
+      let r = halter_of me.0.ends in
+      along_halter (λ m. MayHalt k slots id m (λ e n. HalterHalts) HalterHalted) me is
+      (by_end k slots id HalterHalts (λ xs. xs ++ HalterHalts ∷ []) me.0.pasts (Halts r) [] claim_word (λ n. bit_or n 9223372036854775808)
+      (HalterHalted (step slots claim_word 9223372036854775808 0 none) (as_halter r))
+      (adds_one ring_ends _ HalterHalts (λ n. refl))
+      (λ w at K small homes lies. let n = word_at w.words claim_word in let u : World T = record w { words = halted_words w; halter = halter_halted w.halter n } in record {
+        mine = Halts (halter_halted r n);
+        same = refl;
+        does = record {
+          after = u;
+          happens = refl;
+          words = ap (set w.words claim_word) (sym (or_top n small));
+          stands = ap (λ (x : HalterRecord). halter_halted x n) at;
+          others = but_halter w u refl refl;
+        };
+        hand_after = [];
+        moves = stays k u [] homes lies;
+        tells = refl;
+      }))
+
+  finds_claims : (k : Shape) (w : World T) (r : ReceiverRecord T) → get_elem? w.receivers r.number ≡ some r → KeepsRule k w → FindsClaims r (word_at w.words claim_word)
+  finds_claims k w r at K =
+      let was = K.received r.number r at in let count = K.claim in let taken = taken_claimed k w r.number r at K in (
+        last_look_le (mark_start k) w.words 0 r.looks claim_word (omega arith) was.looks,
+        omega arith,
+        λ told. (let t = was.told told in let e = t.1 in (t.0, omega arith)),
+      )
+
+  pub receiver_looks_at_claims : (k : Shape) {slots : ℕ} (id : ℕ) (me : Sitting T) → IsReceiver (end_of me) → MayLoad k slots id me claim_word ReceiverLookedAtClaims
+  receiver_looks_at_claims k {slots = slots} id me is =
+      let r = receiver_of me.0.ends in let kind = ReceiverLooksAtClaims r.number in
+      along_receiver (λ m. MayLoad k slots id m claim_word ReceiverLookedAtClaims) me is
+      (by_end k slots id kind (λ xs. xs) me.0.pasts (Receives r) me.1 claim_word (λ n. n) (ReceiverLookedAtClaims (step slots claim_word 0 0 none) (as_receiver r me.1))
+      (adds_nothing ring_ends _ kind (λ n. refl))
+      (λ w at K small homes lies. let q = claims_looked r (word_at w.words claim_word) in record {
+        mine = Receives q;
+        same = refl;
+        does = receiver_learns k kind w r q claim_word at refl (r, at, refl);
+        hand_after = me.1;
+        moves = look_moves k w r.number r q me.1 homes at refl refl K lies;
+        tells = (refl, finds_claims k w r at K);
+      }))
+
+  finds_next : (k : Shape) (w : World T) (r : ReceiverRecord T) → get_elem? w.receivers r.number ≡ some r → KeepsRule k w → FindsNext k r (word_at w.words (mark_word k (length r.received)))
+  finds_next k w r at K found =
+      let s = length r.received in let x = K.marks s (omega arith) in let b = at_below w.stages s x.1.0 x.1.1 in let was = K.received r.number r at in
+      let a = above k w K r.number (handler_inside k w r.number r at K) in let c = was.count in
+      ((λ told. let t = (was.told told).1 in absurd (omega arith)), omega arith)
+
+  looks_at_next : (k : Shape) (slots id : ℕ) (me : Sitting T) (room : ℕ) → IsReceiver (end_of me) → upstreams_of k.upstreams (receiver_of me.0.ends).number ≡ []
+      → MayLoad k slots id me (mark_word k (length (receiver_of me.0.ends).received)) (ReceiverLookedAtMark k room)
+  looks_at_next k slots id me room is first =
+      let r = receiver_of me.0.ends in let i = mark_word k (length r.received) in let kind = ReceiverLooksAtMark r.number room in
+      along_receiver (λ m. MayLoad k slots id m i (ReceiverLookedAtMark k room)) me is
+      (by_end k slots id kind (λ xs. xs) me.0.pasts (Receives r) me.1 i (λ n. n) (ReceiverLookedAtMark k room (step slots i 0 0 none) (as_receiver r me.1))
+      (adds_nothing ring_ends _ kind (λ n. refl))
+      (λ w at K small homes lies. let found = word_at w.words i in let n = taken_at_mark k r found room in
+      let next = next_of k w r.number n r (offers_at_mark k w r.number room r first K) in let q = mark_looked k r found next.0 in record {
+        mine = Receives q;
+        same = refl;
+        does = receiver_learns k kind w r q i at refl (r, at, (first, next.0, next.1, refl));
+        hand_after = taken_by_poll k r next.0 ++ me.1;
+        moves = poll_moves k w r.number n r q next.0 me.1 homes at next.1 refl refl K lies;
+        tells = (next.0, next.1.count, refl, finds_next k w r at K);
+      }))
+
+  pub receiver_looks_at_mark : (k sh : Shape) {slots : ℕ} (id : ℕ) (me : Sitting T) (i s room m : ℕ) → k ≡ sh → room ≡ m → s ≡ length (receiver_of me.0.ends).received → i ≡ mark_word sh s
+      → IsReceiver (end_of me) → upstreams_of sh.upstreams (receiver_of me.0.ends).number ≡ []
+      → MayLoad k slots id me i (ReceiverLookedAtMark sh m)
+  receiver_looks_at_mark k sh {slots = slots} id me i s room m same named next here is first =
+      subst (λ (p : Shape). i ≡ mark_word p s → upstreams_of p.upstreams (receiver_of me.0.ends).number ≡ [] → MayLoad k slots id me i (ReceiverLookedAtMark p m)) same
+      (λ here first. subst (λ (j : ℕ). MayLoad k slots id me i (ReceiverLookedAtMark k j)) named
+      (subst (λ (j : ℕ). MayLoad k slots id me j (ReceiverLookedAtMark k room)) (sym (here ∙ ap (mark_word k) next))
+      (looks_at_next k slots id me room is first))) here first
+
+  -- what a look at an upstream's count finds
+  finds_events : (k : Shape) (w : World T) (r : ReceiverRecord T) (u : ℕ) → get_elem? w.receivers r.number ≡ some r → Contains (upstreams_of k.upstreams r.number) u
+      → KeepsRule k w
+      → FindsEvents k r (count_word u) (word_at w.words (count_word u))
+  finds_events k w r u at has K =
+      let was = K.received r.number r at in let own = handler_inside k w r.number r at K in let inside = upstream_inside k K.shape.graph r.number u own has in
+      let o = receiver_of_handler k w K u inside in let a = o.2.count in let b = o.2.completed in let c = taken_claimed k w u o.0 o.1 K in
+      let d = above k w K r.number own in let e = was.count in (
+        last_look_le (mark_start k) w.words 0 r.looks (count_word u) (omega arith) was.looks,
+        was.after u has,
+        λ told. (let t = (was.told told).1 in omega arith),
+        omega arith,
+      )
+
+  looks_upstream : (k : Shape) (slots id : ℕ) (me : Sitting T) (u room : ℕ) → IsReceiver (end_of me) → Contains (upstreams_of k.upstreams (receiver_of me.0.ends).number) u
+      → MayLoad k slots id me (count_word u) (ReceiverLookedAtCount k room)
+  looks_upstream k slots id me u room is has =
+      let r = receiver_of me.0.ends in let i = count_word u in let kind = ReceiverLooksAtCount r.number u room in
+      along_receiver (λ m. MayLoad k slots id m i (ReceiverLookedAtCount k room)) me is
+      (by_end k slots id kind (λ xs. xs) me.0.pasts (Receives r) me.1 i (λ n. n) (ReceiverLookedAtCount k room (step slots i 0 0 none) (as_receiver r me.1))
+      (adds_nothing ring_ends _ kind (λ n. refl))
+      (λ w at K small homes lies. let found = word_at w.words i in let n = taken_at_count k r i found room in
+      let inside = upstream_inside k K.shape.graph r.number u (handler_inside k w r.number r at K) has in
+      let next = next_of k w r.number n r (offers_at_count k w r.number i room r (omega arith) at K) in let q = receiver_looked r i found next.0 in record {
+        mine = Receives q;
+        same = refl;
+        does = receiver_learns k kind w r q i at refl (r, at, (has, next.0, next.1, refl));
+        hand_after = taken_by_poll k r next.0 ++ me.1;
+        moves = poll_moves k w r.number n r q next.0 me.1 homes at next.1 refl refl K lies;
+        tells = (next.0, next.1.count, refl, finds_events k w r u at has K);
+      }))
+
+  pub receiver_looks_at_count : (k sh : Shape) {slots : ℕ} (id : ℕ) (me : Sitting T) (i u room m : ℕ) → k ≡ sh → room ≡ m → i ≡ count_word u → IsReceiver (end_of me)
+      → Contains (upstreams_of sh.upstreams (receiver_of me.0.ends).number) u
+      → MayLoad k slots id me i (ReceiverLookedAtCount sh m)
+  receiver_looks_at_count k sh {slots = slots} id me i u room m same named here is has =
+      subst (λ (p : Shape). Contains (upstreams_of p.upstreams (receiver_of me.0.ends).number) u → MayLoad k slots id me i (ReceiverLookedAtCount p m)) same
+      (λ has. subst (λ (j : ℕ). MayLoad k slots id me i (ReceiverLookedAtCount k j)) named
+      (subst (λ (j : ℕ). MayLoad k slots id me j (ReceiverLookedAtCount k room)) (sym here) (looks_upstream k slots id me u room is has))) has
+
+  completes : (k : Shape) (slots id : ℕ) (me : Sitting T) (n : ℕ) (rest : Hand T) → IsReceiver (end_of me)
+      → (receiver_of me.0.ends).completed ≤ n → n ≤ length (receiver_of me.0.ends).received → me.1 ≡ given_by_completion k (receiver_of me.0.ends) n ++ rest
+      → MayStore k slots id me (count_word (receiver_of me.0.ends).number) n (λ e m. ReceiverCompletes (receiver_of e.0).number m) (ReceiverCompleted k)
+  completes k slots id me n rest is rises taken hand =
+      let r = receiver_of me.0.ends in let i = count_word r.number in let kind = ReceiverCompletes r.number n in let given = given_by_completion k r n in
+      let Goal : Sitting T → Type 0 = λ x. MayStore k slots id x i n (λ e m. ReceiverCompletes (receiver_of e.0).number m) (ReceiverCompleted k) in
+      along_receiver Goal me is
+      (subst (λ (c : Hand T). Goal (seat_at (as_receiver r c) me.0.pasts)) (sym hand)
+      (by_end k slots id kind (λ xs. xs ++ kind ∷ []) me.0.pasts (Receives r) (given ++ rest) i (λ _. n)
+      (λ _. ReceiverCompleted k (step slots i n 0 none) (as_receiver r (given ++ rest)) n)
+      (adds_one ring_ends _ kind (λ n. refl))
+      (λ w at K small homes lies. let q = completed_to r n in let u : World T = record w { words = set w.words i n; receivers = set w.receivers r.number q } in record {
+        mine = Receives q;
+        same = refl;
+        does = record {
+          after = u;
+          happens = (r, at, (rises, taken, refl));
+          words = refl;
+          stands = set_here w.receivers r.number q (at_below w.receivers r.number r at);
+          others = but_receiver w u r q refl refl refl;
+        };
+        hand_after = rest;
+        moves = completion_moves k w r.number n r rest homes at rises taken K lies;
+        tells = ap (λ (c : Hand T). as_receiver q c) (sym (drop-append_seam given rest));
+      })))
+
+  pub receiver_completes : (k sh : Shape) {slots : ℕ} (id : ℕ) (me : Sitting T) (i h n : ℕ) (rest : Hand T) → k ≡ sh → i ≡ count_word h → IsReceiver (end_of me)
+      → (receiver_of me.0.ends).number ≡ h → (receiver_of me.0.ends).completed ≤ n → n ≤ length (receiver_of me.0.ends).received
+      → me.1 ≡ given_by_completion sh (receiver_of me.0.ends) n ++ rest
+      → MayStore k slots id me i n (λ e m. ReceiverCompletes (receiver_of e.0).number m) (ReceiverCompleted sh)
+  receiver_completes k sh {slots = slots} id me i h n rest same here is own rises taken hand =
+      subst (λ (p : Shape). me.1 ≡ given_by_completion p (receiver_of me.0.ends) n ++ rest
+      → MayStore k slots id me i n (λ e m. ReceiverCompletes (receiver_of e.0).number m) (ReceiverCompleted p)) same
+      (λ hand. subst (λ (j : ℕ). MayStore k slots id me j n (λ e m. ReceiverCompletes (receiver_of e.0).number m) (ReceiverCompleted k)) (sym (here ∙ ap count_word (sym own)))
+      (completes k slots id me n rest is rises taken hand)) hand

@@ -1,0 +1,211 @@
+-- What a claim of a sender comes to.
+use Rattle.std.proofs.Common.{◌≡◌, ◌≢◌, ℕ, ◌+◌, ◌-◌, ◌<◌, ◌≤◌, inl, inr, Bool, true, false, if◌then◌else◌, List, [], ◌∷◌, ◌++◌, sym, refl, ap, ◌∙◌, subst, arith, append_assoc}
+use Rattle.std.proofs.lemmas.List.{append-nil}
+use Rattle.std.specs.Prelude.{◌^◌, Ok, Err}
+use Rattle.std.proofs.lemmas.Bool.{eq-eqb, ne_eqb, le-leb, lt-leb}
+use Rattle.dr_seq.specs.Size.{IsSize}
+use Rattle.dr_meaning.specs.declared.refusal.Refusal.TheVariants.{Halted, NoRoom}
+use Rattle.dr_graph.specs.Meaning.Graph.{finals}
+use Rattle.dr_runs.specs.declared.look.Look.{Look}
+use Rattle.dr_runs.specs.Looks.{look, last_look}
+use Rattle.dr_plain_senders.specs.Meaning.Shape.{Shape}
+use Rattle.dr_plain_senders.specs.Meaning.Words.{claim_word, is_halted, halt_bit, count_word}
+use Rattle.dr_plain_senders.specs.declared.record.SenderRecord.{SenderRecord}
+use Rattle.dr_plain_senders.specs.declared.record.Step.{Step}
+use Rattle.dr_plain_senders.specs.declared.record.Step.TheVariants.{SenderClaims}
+use Rattle.dr_plain_senders.specs.declared.claiming.ClaimFault.TheVariants.{Refused, Contended}
+use Rattle.dr_plain_senders.specs.Meaning.Records.{sender_looked, claimed_from, SeesRoom, Owns}
+use Rattle.dr_runs.specs.Runs.{IsBeginning}
+use Rattle.dr_plain_senders.proofs.Stations.{begins_on}
+use Rattle.dr_plain_senders.specs.Calls.Ends.{SenderStand, HasLoaded, HasStored, Stays, count_looks}
+use Rattle.dr_plain_senders.specs.Calls.Sending.{gate_looks, FoundRoom, ClaimCall, knows_after, IsCount}
+use Rattle.dr_plain_senders.specs.Calls.Finds.{after_exchange, IsEarlier}
+use Rattle.dr_plain_senders.specs.Inside.Scans.{sender_saw, IsEnough, Scans, ClaimsApart}
+use Rattle.dr_plain_senders.proofs.Scanning.{seen_high}
+use Rattle.dr_plain_senders.specs.Inside.Seats.{Hand}
+use lib.ListN.{get_elem?}
+use Rattle.dr_plain_senders.specs.declared.record.Stage.{Stage}
+use Rattle.dr_plain_senders.specs.declared.record.Own.{Own}
+
+pub going : (found : ℕ) → found < 9223372036854775808 → is_halted found ≡ false
+going found lt = lt-leb halt_bit found (omega arith)
+
+pub stopped : (found : ℕ) → 9223372036854775808 ≤ found → is_halted found ≡ true
+stopped found le = le-leb halt_bit found (omega arith)
+
+-- what was found at each final leaves room
+pub found_room : (k : Shape) (c n need : ℕ) (counts : List ℕ) → is_halted c ≡ false → c + n ≤ k.limit → need ≡ c + n - k.size
+    → IsEnough (finals k.upstreams) counts need → FoundRoom k c n counts
+found_room k c n need counts on limit is E = record { going = on; limit = limit; all = E.all; room = λ i lt. (let a = E.high i lt in omega arith) }
+
+-- the looks of a claim, as one list
+abbrev pub first_looks : Shape → ℕ → List ℕ → List Look
+first_looks k c counts = look claim_word c ∷ gate_looks k counts
+
+module _ {T : Type 0} where
+  -- and is seen by the exchange
+  pub sees_room : (k : Shape) (r q s : SenderRecord T) (c n need : ℕ) → c + n ≤ k.limit → need ≡ c + n - k.size → q ≡ sender_looked r claim_word c
+      → Scans k q need s true → SeesRoom k s c n
+  sees_room k r q s c n need limit is first S = record {
+    limit = limit;
+    completed = λ f has. (let a = seen_high (finals k.upstreams) S.0 q.looks f need S.2.all S.2.high (inl (has.0, has.1, has.2)) in
+        let e : last_look 0 s.looks (count_word f) ≡ last_look 0 (q.looks ++ count_looks (finals k.upstreams) S.0) (count_word f) =
+        ap (λ (x : SenderRecord T). last_look 0 x.looks (count_word f)) S.1 in omega arith);
+  }
+
+  pub looked_first : (k : Shape) (r q s : SenderRecord T) (c : ℕ) (counts : List ℕ) → q ≡ sender_looked r claim_word c → s ≡ sender_saw q (gate_looks k counts)
+      → s ≡ sender_saw r (first_looks k c counts)
+  looked_first k r q s c counts first next = next ∙ ap (λ (x : SenderRecord T). sender_saw x (gate_looks k counts)) first
+      ∙ ap (λ (xs : List Look). record r { looks = xs }) (append_assoc r.looks (look claim_word c ∷ []) (gate_looks k counts))
+
+  last_one : (r : SenderRecord T) (seen : List Look) (x : Look) → record (sender_saw r seen) { looks = (r.looks ++ seen) ++ x ∷ [] } ≡ sender_saw r (seen ++ x ∷ [])
+  last_one r seen x = ap (λ (xs : List Look). record r { looks = xs }) (append_assoc r.looks seen (x ∷ []))
+
+  pub hit : (r s t : SenderRecord T) (seen : List Look) (c hi n found : ℕ) → s ≡ sender_saw r seen → t ≡ after_exchange s c n found → found ≡ c
+      → t ≡ knows_after r n (seen ++ look claim_word (c + n) ∷ []) (Ok record { lo = c; hi = hi })
+  hit r s t seen c hi n found was is same =
+      is ∙ (let P : Bool → SenderRecord T = λ b. if b then claimed_from s c n else sender_looked s claim_word found in ap P (eq-eqb found c same))
+      ∙ ap (λ (x : SenderRecord T). claimed_from x c n) was
+      ∙ ap (λ (xs : List Look). record (claimed_from r c n) { looks = xs }) (append_assoc r.looks seen (look claim_word (c + n) ∷ []))
+
+  pub missed : (r s t : SenderRecord T) (seen : List Look) (c n found : ℕ) → s ≡ sender_saw r seen → t ≡ after_exchange s c n found → found ≢ c
+      → t ≡ sender_saw r (seen ++ look claim_word found ∷ [])
+  missed r s t seen c n found was is other =
+      is ∙ (let P : Bool → SenderRecord T = λ b. if b then claimed_from s c n else sender_looked s claim_word found in ap P (ne_eqb found c other))
+      ∙ ap (λ (x : SenderRecord T). sender_looked x claim_word found) was
+      ∙ last_one r seen (look claim_word found)
+
+  -- an exchange for which there was room, by what it found
+  pub record Tried (e : SenderStand T) (n c found : ℕ) (e' : SenderStand T) : Type 0 where
+    pub stays : Stays e e'
+    pub counted : IsCount e.plan n
+    pub counts : List ℕ
+    pub room : FoundRoom e.plan c n counts
+    pub middle : SenderRecord T
+    pub looked : middle ≡ sender_saw e.knows (first_looks e.plan c counts)
+    pub knows : e'.knows ≡ after_exchange middle c n found
+    pub stored : e'.stored ≡ e.stored ++ SenderClaims e.knows.number c n ∷ []
+    pub past : IsBeginning e.past e'.past
+    pub few : e.plan.limit ≤ 2 ^ 62
+    pub size : IsSize e.plan.size
+
+  pub tried : (e a b e' : SenderStand T) (h : Hand T) (n c need found : ℕ) → HasLoaded e (sender_looked e.knows claim_word c) e.hand a → HasLoaded a b.knows a.hand b
+      → Scans a.plan a.knows need b.knows true
+      → HasStored b (SenderClaims b.knows.number c n) (after_exchange b.knows c n found) h e' → IsCount e.plan n → c < 9223372036854775808 → c + n ≤ e.plan.limit
+      → need ≡ c + n - e.plan.size → e.plan.limit ≤ 2 ^ 62 → IsSize e.plan.size
+      → Tried e n c found e'
+  tried e a b e' h n c need found A B S C counted low limit is few size =
+      let scan : Scans e.plan a.knows need b.knows true = subst (λ (k : Shape). Scans k a.knows need b.knows true) A.0.1 S in
+      let mid = looked_first e.plan e.knows a.knows b.knows c scan.0 A.1 scan.1 in record {
+        stays = (C.0.0 ∙ B.0.0 ∙ A.0.0, C.0.1 ∙ B.0.1 ∙ A.0.1);
+        counted = counted;
+        counts = scan.0;
+        room = found_room e.plan c n need scan.0 (going c low) limit is scan.2;
+        middle = b.knows;
+        looked = mid;
+        knows = C.1;
+        stored = C.4 ∙ ap (λ (xs : List (Step T)). xs ++ SenderClaims b.knows.number c n ∷ []) (B.4 ∙ A.4)
+            ∙ ap (λ (q : SenderRecord T). e.stored ++ SenderClaims q.number c n ∷ []) mid;
+        past = begins_on e.past b.past e'.past (begins_on e.past a.past b.past A.3 B.3) C.3;
+        few = few;
+        size = size;
+      }
+
+  pub claim_given : (e e' : SenderStand T) (n c hi found : ℕ) → Tried e n c found e' → found ≡ c → hi ≡ c + n - 1 → ClaimCall e n e' (Ok record { lo = c; hi = hi })
+  claim_given e e' n c hi found T same last = record {
+    stays = T.stays;
+    counts = T.counted;
+    seen = first_looks e.plan c T.counts ++ look claim_word (c + n) ∷ [];
+    looks = (T.counts, T.room, last, refl, refl);
+    knows = hit e.knows T.middle e'.knows (first_looks e.plan c T.counts) c hi n found T.looked T.knows same;
+    steps = SenderClaims e.knows.number c n ∷ [];
+    stored = T.stored;
+    past = T.past;
+    few = T.few;
+    size = T.size;
+  }
+
+  pub claim_halted : (e e' : SenderStand T) (n c found : ℕ) → Tried e n c found e' → found ≢ c → 9223372036854775808 ≤ found → ClaimCall e n e' (Err (Refused Halted))
+  claim_halted e e' n c found T other high = record {
+    stays = T.stays;
+    counts = T.counted;
+    seen = first_looks e.plan c T.counts ++ look claim_word found ∷ [];
+    looks = (found, stopped found high, inr (c, T.counts, T.room, refl, refl));
+    knows = missed e.knows T.middle e'.knows (first_looks e.plan c T.counts) c n found T.looked T.knows other;
+    steps = SenderClaims e.knows.number c n ∷ [];
+    stored = T.stored;
+    past = T.past;
+    few = T.few;
+    size = T.size;
+  }
+
+  pub claim_contended : (e e' : SenderStand T) (n c found : ℕ) → Tried e n c found e' → found ≢ c → found < 9223372036854775808 → ClaimCall e n e' (Err Contended)
+  claim_contended e e' n c found T other low = record {
+    stays = T.stays;
+    counts = T.counted;
+    seen = first_looks e.plan c T.counts ++ look claim_word found ∷ [];
+    looks = (c, found, T.counts, T.room, other, going found low, refl, refl);
+    knows = missed e.knows T.middle e'.knows (first_looks e.plan c T.counts) c n found T.looked T.knows other;
+    steps = SenderClaims e.knows.number c n ∷ [];
+    stored = T.stored;
+    past = T.past;
+    few = T.few;
+    size = T.size;
+  }
+
+  -- what an exchange tells of the sequences that the sender had
+  pub claim_apart : (e a b : SenderStand T) (n c need found : ℕ) → HasLoaded e (sender_looked e.knows claim_word c) e.hand a → HasLoaded a b.knows a.hand b
+      → Scans a.plan a.knows need b.knows true
+      → (found ≡ c → (s : ℕ) (t : Stage T) → Owns b.knows s t → IsEarlier b.plan c (c + n) s t) → found ≡ c → ClaimsApart e c n
+  claim_apart e a b n c need found A B S earlier hit s t own =
+      let plan : b.plan ≡ e.plan = B.0.1 ∙ A.0.1 in
+      let list : b.knows.own ≡ e.knows.own = ap (λ (r : SenderRecord T). r.own) S.1 ∙ ap (λ (r : SenderRecord T). r.own) A.1 in
+      subst (λ (k : Shape). IsEarlier k c (c + n) s t) plan (earlier hit s t (own.0, ap (λ (xs : List (Own T)). get_elem? xs own.0) list ∙ own.1))
+
+  -- the first look found the ring halted
+  pub claim_stopped : (e a : SenderStand T) (n c : ℕ) → HasLoaded e (sender_looked e.knows claim_word c) e.hand a → IsCount e.plan n → 9223372036854775808 ≤ c
+      → e.plan.limit ≤ 2 ^ 62 → IsSize e.plan.size → ClaimCall e n a (Err (Refused Halted))
+  claim_stopped e a n c A counted high few size = record {
+    stays = A.0;
+    counts = counted;
+    seen = look claim_word c ∷ [];
+    steps = [];
+    looks = (c, stopped c high, inl (refl, refl));
+    knows = A.1;
+    stored = A.4 ∙ sym (append-nil e.stored);
+    past = A.3;
+    few = few;
+    size = size;
+  }
+
+  -- a final was too far behind
+  pub claim_no_room : (e a b : SenderStand T) (n c need : ℕ) → HasLoaded e (sender_looked e.knows claim_word c) e.hand a → HasLoaded a b.knows a.hand b
+      → Scans a.plan a.knows need b.knows false → IsCount e.plan n → c < 9223372036854775808 → c + n ≤ e.plan.limit → need ≡ c + n - e.plan.size
+      → e.plan.limit ≤ 2 ^ 62 → IsSize e.plan.size → ClaimCall e n b (Err (Refused NoRoom))
+  claim_no_room e a b n c need A B S counted low limit is few size =
+      let scan : Scans e.plan a.knows need b.knows false = subst (λ (k : Shape). Scans k a.knows need b.knows false) A.0.1 S in let short = scan.2 in record {
+        stays = (B.0.0 ∙ A.0.0, B.0.1 ∙ A.0.1);
+        counts = counted;
+        seen = first_looks e.plan c scan.0;
+        steps = [];
+        looks = (
+          c,
+          scan.0,
+          record {
+            going = going c low;
+            limit = limit;
+            before = short.before;
+            last = short.last;
+            among = short.among;
+            room = λ i lt. (let h = short.high i lt in omega arith);
+            behind = let l = short.low in omega arith;
+          },
+          refl,
+          refl,
+        );
+        knows = looked_first e.plan e.knows a.knows b.knows c scan.0 A.1 scan.1;
+        stored = B.4 ∙ A.4 ∙ sym (append-nil e.stored);
+        past = begins_on e.past a.past b.past A.3 B.3;
+        few = few;
+        size = size;
+      }

@@ -1,0 +1,110 @@
+-- A sender's tokens and slots, as rows are taken one after another.
+use Rattle.std.proofs.Common.{◌≡◌, ℕ, zero, suc, ◌+◌, ◌-◌, ◌*◌, ◌<◌, ◌≤◌, inl, inr, List, [], ◌∷◌, ◌++◌, length, set, drop, sym, refl, ap, ◌∙◌, subst, arith, append_assoc, length-set}
+use Rattle.std.proofs.lemmas.Bool.{cases_eq}
+use Rattle.std.proofs.lemmas.List.{append-nil, length-append}
+use Rattle.std.proofs.Math.Nat.{mul-suc}
+use mathlib.Core.Option.{some, some-injective}
+use lib.ListN.{get_elem?}
+use Rattle.atomic_table.proofs.Lists.{set_here, set_else}
+use Rattle.dr_cells.specs.declared.token.Token.{Token}
+use Rattle.dr_seq.proofs.Apart.{slots_differ}
+use Rattle.dr_runs.proofs.Elements.{there}
+use Rattle.dr_runs.proofs.Lists.{past_end}
+use Rattle.dr_plain_senders.specs.Meaning.Shape.{Shape}
+use Rattle.dr_plain_senders.specs.Meaning.Words.{cell_of, lanes_of}
+use Rattle.dr_plain_senders.specs.Meaning.Lying.{Laid}
+use Rattle.dr_plain_senders.specs.Calls.Ends.{EndOf}
+use Rattle.dr_plain_senders.specs.Inside.Hands.{with_hand}
+use Rattle.dr_plain_senders.specs.Inside.Rows.{row, blank_row, blank_rows, IsWholeOf, AreCollected}
+use Rattle.dr_plain_senders.specs.Inside.Seats.{Hand, LayIn, IsOfRound, taken_by_claim}
+use Rattle.dr_plain_senders.proofs.Taken.{drop_seam}
+use Rattle.dr_plain_senders.proofs.Trading.{drop_at}
+use Rattle.dr_plain_senders.proofs.Rowing.{row_count}
+
+-- one row more
+pub blank_rows_more : {T : Type 0} → (k : Shape) (s n m t : ℕ) → t ≡ s + n → m ≡ n + 1 → blank_rows {T = T} k s n ++ blank_row k t ≡ blank_rows k s m
+blank_rows_more {T} k s zero m t at is = let e : t ≡ s = omega arith in let f : suc zero ≡ m = omega arith in
+    ap (λ (q : ℕ). blank_row {T = T} k q) e ∙ sym (append-nil (blank_row {T = T} k s)) ∙ ap (λ (q : ℕ). blank_rows {T = T} k s q) f
+blank_rows_more {T} k s (suc n) m t at is = let f : suc (n + 1) ≡ m = omega arith in
+    append_assoc (blank_row {T = T} k s) (blank_rows k (s + 1) n) (blank_row k t)
+    ∙ ap (λ (h : Hand T). blank_row k s ++ h) (blank_rows_more k (s + 1) n (n + 1) t (omega arith) refl)
+    ∙ ap (λ (q : ℕ). blank_rows {T = T} k s q) f
+
+pub rows_count : {T : Type 0} → (k : Shape) (s : ℕ) (laid : List (Laid T)) → length (taken_by_claim k s laid) ≡ lanes_of k * length laid
+rows_count k s [] = omega arith
+rows_count k s (a ∷ laid) =
+    let one = row_count k s a in let more = rows_count k (s + 1) laid in
+    omega (arith, length-append (row k s a) (taken_by_claim k (s + 1) laid), mul-suc (lanes_of k) (length laid))
+
+-- a loop of a sender over rows that a claim took, where it began with e: those that are left stand in front, and those that are blank behind the others
+module _ {T K : Type 0} (e : EndOf T K) (k : Shape) (first n : ℕ) (laid : List (Laid T)) (L : LayIn k first n laid) where
+  abbrev pub Collecting : ℕ → EndOf T K → Type 0
+  Collecting s now = now ≡ with_hand e (taken_by_claim k s (drop (s - first) laid) ++ (drop (lanes_of k * n) e.hand ++ blank_rows k first (s - first)))
+
+  pub collecting_none : (others : Hand T) → e.hand ≡ taken_by_claim k first laid ++ others → Collecting first e
+  collecting_none others is =
+      let none : 0 ≡ first - first = omega arith in
+      let left : others ≡ drop (lanes_of k * n) e.hand =
+      sym (ap (λ (h : Hand T). drop (lanes_of k * n) h) is
+      ∙ drop_seam (taken_by_claim k first laid) others (lanes_of k * n) (rows_count k first laid ∙ ap (λ (m : ℕ). lanes_of k * m) L.count)) in
+      ap (λ (h : Hand T). with_hand e h)
+      (is ∙ (λ i. taken_by_claim k first (drop (none i) laid) ++ sym (append-nil (left i)) i)
+      ∙ ap (λ (m : ℕ). taken_by_claim k first (drop (first - first) laid) ++ (drop (lanes_of k * n) e.hand ++ blank_rows k first m)) none)
+
+  front : (s : ℕ) (now : EndOf T K) (a : Laid T) → get_elem? laid (s - first) ≡ some a → Collecting s now
+      → now.hand ≡ row k s a ++ (taken_by_claim k (s + 1) (drop (s - first + 1) laid) ++ (drop (lanes_of k * n) e.hand ++ blank_rows k first (s - first)))
+  front s now a at C = let behind = drop (lanes_of k * n) e.hand ++ blank_rows k first (s - first) in
+      ap (λ (x : EndOf T K). x.hand) C ∙ ap (λ (xs : List (Laid T)). taken_by_claim k s xs ++ behind) (drop_at laid (s - first) a at)
+      ∙ append_assoc (row k s a) (taken_by_claim k (s + 1) (drop (s - first + 1) laid)) behind
+
+  -- what lies in the row that is next
+  pub row_next : (s : ℕ) (now : EndOf T K) → first ≤ s → s < first + n → Collecting s now
+      → (a : Laid T) × (others : Hand T) × IsOfRound k s a × (now.hand ≡ row k s a ++ others)
+  row_next s now low lt C = let count = L.count in let t = there laid (s - first) (omega arith) in let at : first + (s - first) ≡ s = omega arith in (
+    t.0,
+    taken_by_claim k (s + 1) (drop (s - first + 1) laid) ++ (drop (lanes_of k * n) e.hand ++ blank_rows k first (s - first)),
+    subst (λ (q : ℕ). IsOfRound k q t.0) at (L.rounds (s - first) t.0 t.1),
+    front s now t.0 t.1 C,
+  )
+
+  pub collecting_next : (s : ℕ) (now next : EndOf T K) → first ≤ s → s < first + n → Collecting s now
+      → next ≡ with_hand now (drop (lanes_of k) now.hand ++ blank_row k s) → Collecting (s + 1) next
+  collecting_next s now next low lt C new =
+      let count = L.count in let t = there laid (s - first) (omega arith) in let later : s - first + 1 ≡ s + 1 - first = omega arith in
+      let others : Hand T = drop (lanes_of k * n) e.hand in let blank : Hand T = blank_rows k first (s - first) in
+      let left : Hand T = taken_by_claim k (s + 1) (drop (s - first + 1) laid) in
+      let hand : drop (lanes_of k) now.hand ++ blank_row k s ≡ taken_by_claim k (s + 1) (drop (s + 1 - first) laid) ++ (others ++ blank_rows k first (s + 1 - first)) =
+      ap (λ (h : Hand T). drop (lanes_of k) h ++ blank_row k s) (front s now t.0 t.1 C)
+      ∙ ap (λ (h : Hand T). h ++ blank_row k s) (drop_seam (row k s t.0) (left ++ (others ++ blank)) (lanes_of k) (row_count k s t.0))
+      ∙ append_assoc left (others ++ blank) (blank_row k s)
+      ∙ ap (λ (h : Hand T). left ++ h) (append_assoc others blank (blank_row k s))
+      ∙ ap (λ (h : Hand T). left ++ (others ++ h)) (blank_rows_more k first (s - first) (s + 1 - first) s (omega arith) (omega arith))
+      ∙ ap (λ (m : ℕ). taken_by_claim k (s + 1) (drop m laid) ++ (others ++ blank_rows k first (s + 1 - first))) later in
+      new ∙ ap (λ (x : EndOf T K). with_hand x (drop (lanes_of k) now.hand ++ blank_row k s)) C ∙ ap (λ (h : Hand T). with_hand e h) hand
+
+  pub collecting_all : (s : ℕ) (now : EndOf T K) → s ≡ first + n → Collecting s now
+      → now ≡ with_hand e (drop (lanes_of k * n) e.hand ++ blank_rows k first n)
+  collecting_all s now end C =
+      let all : s - first ≡ n = omega arith in let others : Hand T = drop (lanes_of k * n) e.hand in
+      C ∙ ap (λ (m : ℕ). with_hand e (taken_by_claim k s (drop m laid) ++ (others ++ blank_rows k first m))) all
+      ∙ ap (λ (xs : List (Laid T)). with_hand e (taken_by_claim k s xs ++ (others ++ blank_rows k first n))) (past_end laid n L.count)
+
+module _ {T : Type 0} where
+  pub collected_none : (k : Shape) (first : ℕ) (tokens : List (Token T)) → AreCollected k first first tokens tokens
+  collected_none k first tokens = record { count = refl; whole = λ s t low lt at. absurd (omega arith); others = λ i none. refl }
+
+  pub collected_more : (k : Shape) (first s place : ℕ) (tokens was now : List (Token T)) (t : Token T) → AreCollected k first s tokens was → first ≤ s
+      → s < first + k.size → place ≡ cell_of k s → place < length tokens → IsWholeOf k s t → now ≡ set was place t → AreCollected k first (s + 1) tokens now
+  collected_more k first s place tokens was now t C low near is inside all new =
+      let c = cell_of k s in let count = C.count in let put : now ≡ set was c t = new ∙ ap (λ (i : ℕ). set was i t) is in record {
+        count = ap length put ∙ length-set was c t ∙ C.count;
+        whole = λ q u from to at. elim (cases_eq q s) [
+          | inl e ↦ (let same : t ≡ u = some-injective t u (sym (ap (λ (xs : List (Token T)). get_elem? xs (cell_of k q)) put
+              ∙ ap (λ (n : ℕ). get_elem? (set was c t) (cell_of k n)) e ∙ set_here was c t (omega arith)) ∙ at) in
+              subst (λ (n : ℕ). IsWholeOf k n u) (sym e) (subst (λ (x : Token T). IsWholeOf k s x) same all))
+          | inr ne ↦ C.whole q u from (omega arith)
+              (sym (ap (λ (xs : List (Token T)). get_elem? xs (cell_of k q)) put ∙ set_else was c (cell_of k q) t (slots_differ k.size q s ne (omega arith) (omega arith))) ∙ at)
+        ];
+        others = λ i none. ap (λ (xs : List (Token T)). get_elem? xs i) put ∙ set_else was c i t (λ (e : i ≡ c). none s low (omega arith) (sym e))
+            ∙ C.others i (λ q from to. none q from (omega arith));
+      }

@@ -1,0 +1,161 @@
+-- A sender's marks, tokens and slots fit what it knows after each of its calls.
+use Rattle.std.proofs.Common.{◌≡◌, ℕ, ◌+◌, ◌-◌, ◌<◌, ◌≤◌, ◌⊎◌, inl, inr, Bool, true, false, not, ◌&&◌, List, ◌++◌, length, sym, refl, ap, ◌∙◌, subst, arith}
+use Rattle.std.specs.Prelude.{None, Some, Option, is_some}
+use Rattle.std.proofs.lemmas.Bool.{cases_Bool}
+use mathlib.Core.Option.{some}
+use lib.ListN.{get_elem?}
+use Rattle.dr_cells.specs.declared.token.Token.{Token}
+use Rattle.dr_seq.specs.Rounds.{entry_of, is_marked}
+use Rattle.dr_seq.specs.Stamped.{stamped}
+use Rattle.dr_seq.proofs.Stamped.{marked-in, marked-out, length-stamped}
+use Rattle.dr_plain_senders.specs.Meaning.Shape.{Shape}
+use Rattle.dr_plain_senders.specs.Meaning.Records.{Owns, fresh_stage, fresh_own, is_published}
+use Rattle.dr_plain_senders.specs.declared.owned.Owned.{Owned}
+use Rattle.dr_plain_senders.specs.declared.record.Stage.{Stage}
+use Rattle.dr_plain_senders.specs.declared.record.Own.{Own}
+use Rattle.dr_plain_senders.specs.declared.record.SenderRecord.{SenderRecord}
+use Rattle.dr_plain_senders.specs.Calls.Ends.{SenderStand}
+use Rattle.dr_plain_senders.specs.Calls.Finds.{IsEarlier}
+use Rattle.dr_plain_senders.specs.Inside.Fits.{MarksFit, SenderFits, is_open}
+use Rattle.atomic_table.proofs.Lists.{at_longer}
+use Rattle.dr_plain_senders.proofs.Places.{more_right, more_cases}
+use Rattle.dr_plain_senders.proofs.KeepsClaims.{fresh_at, fresh_there}
+use Rattle.dr_plain_senders.proofs.Owning.{marked_was}
+
+pub no_lent : {X : Type 0} (o : Option X) → is_some o ≡ false → o ≡ None
+no_lent None e = refl
+no_lent (Some x) e = absurd (cc)
+
+module _ {T : Type 0} where
+  -- a sender has what its list has
+  pub owns_same : (r q : SenderRecord T) (s : ℕ) (t : Stage T) → q.own ≡ r.own → Owns r s t → Owns q s t
+  owns_same r q s t same own = (own.0, ap (λ (xs : List (Own T)). get_elem? xs own.0) same ∙ own.1)
+
+  -- where a sender learns something, and its sequences stay
+  pub marks_same : (k : Shape) (r q : SenderRecord T) (o : Owned) → q.own ≡ r.own → MarksFit k r o → MarksFit k q o
+  marks_same k r q o same F = record {
+    claims = F.claims;
+    writes = F.writes;
+    shows = F.shows;
+    own = λ s m. (let x = F.own s m in (x.0, owns_same r q s x.0 same x.1));
+    written = λ s m. (let x = F.written s m in (x.0, owns_same r q s x.0 same x.1));
+    published = λ s m. (let x = F.published s m in (x.0, owns_same r q s x.0 same x.1));
+    old = λ s t own m. F.old s t (owns_same q r s t (sym same) own) m;
+    shown = λ s t own m. F.shown s t (owns_same q r s t (sym same) own) m;
+  }
+
+  pub fits_same : (e e' : SenderStand T) (o : Owned) (end : ℕ) (tokens : List (Token T)) → e'.plan ≡ e.plan → e'.knows.own ≡ e.knows.own → e'.hand ≡ e.hand
+      → SenderFits e o end tokens → SenderFits e' o end tokens
+  fits_same e e' o end tokens plan own hand F =
+      let at : SenderStand T = record e' { plan = e.plan } in
+      let P : Shape → Type 0 = λ k. SenderFits (record e' { plan = k }) o end tokens in
+      let fits : SenderFits at o end tokens = record {
+        marks = marks_same e.plan e.knows e'.knows o own F.marks;
+        limit = F.limit;
+        last = λ some_one. (let x = F.last some_one in (x.0, owns_same e.knows e'.knows (end - 1) x.0 own x.1));
+        below = λ s t owned. F.below s t (owns_same e'.knows e.knows s t (sym own) owned);
+        near = F.near;
+        count = F.count;
+        whole = F.whole;
+        hand = hand ∙ F.hand;
+      } in subst P (sym plan) fits
+
+-- what a claim adds to what a sender has
+module _ {T : Type 0} (r q : SenderRecord T) (c n : ℕ) (grown : q.own ≡ r.own ++ fresh_own r.number c n) where
+  kept : (s : ℕ) (t : Stage T) → Owns r s t → Owns q s t
+  kept s t own =
+      (own.0, ap (λ (xs : List (Own T)). get_elem? xs own.0) grown ∙ at_longer r.own (fresh_own r.number c n) own.0 (record { sequence = s; stage = t }) own.1)
+
+  pub own_new : (s : ℕ) → c ≤ s → s < c + n → Owns q s (fresh_stage r.number)
+  own_new s low high = let at : c + (s - c) ≡ s = omega arith in (
+    length r.own + (s - c),
+    ap (λ (xs : List (Own T)). get_elem? xs (length r.own + (s - c))) grown
+        ∙ more_right r.own (fresh_own r.number c n) (s - c) (record { sequence = c + (s - c); stage = fresh_stage r.number })
+        (fresh_there r.number c n (s - c) (omega arith))
+        ∙ ap (λ (x : ℕ). let o : Own T = record { sequence = x; stage = fresh_stage r.number } in some o) at,
+  )
+
+  -- it has it newly, or had it
+  abbrev pub Whence : ℕ → Stage T → Type 0
+  Whence s t = ((c ≤ s) × (s < c + n) × (t ≡ fresh_stage r.number)) ⊎ Owns r s t
+
+  pub whence : (s : ℕ) (t : Stage T) → Owns q s t → Whence s t
+  whence s t own =
+      elim (more_cases r.own (fresh_own r.number c n) own.0 (record { sequence = s; stage = t }) (ap (λ (xs : List (Own T)). get_elem? xs own.0) (sym grown) ∙ own.1)) [
+        | inl old ↦ inr (own.0, old)
+        | inr x ↦ (let d = fresh_at r.number c n x.0 (record { sequence = s; stage = t }) x.2 in
+            let at : c + x.0 ≡ s = ap (λ (o : Own T). o.sequence) d.1 in let lt = d.0 in inl (omega arith, omega arith, sym (ap (λ (o : Own T). o.stage) d.1)))
+      ]
+
+  module _ (k : Shape) (o : Owned) (F : MarksFit k r o) (some_one : 0 < n) (few : n ≤ k.size)
+      (earlier : (s : ℕ) (t : Stage T) → Owns r s t → IsEarlier k c (c + n) s t) where
+    abbrev pub claimed_marks : List ℕ
+    claimed_marks = stamped (entry_of (length o.claimed)) o.claimed c n
+
+    here : (s : ℕ) → c ≤ s → s < c + n → is_marked claimed_marks s ≡ true
+    here s low high = let len = F.claims in marked-in o.claimed c n s (omega arith) (omega arith) low high
+
+    before : (s : ℕ) → s < c → is_marked claimed_marks s ≡ true → is_marked o.claimed s ≡ true
+    before s lt m = let len = F.claims in elim (marked_was o.claimed c n s (omega arith) m) [
+      | inl within ↦ absurd (let a = within.0 in omega arith)
+      | inr was ↦ was
+    ]
+
+    -- a sequence that is not published keeps its mark
+    keeps_mark : (s : ℕ) (t : Stage T) → Owns r s t → is_published t ≡ false → is_marked claimed_marks s ≡ is_marked o.claimed s
+    keeps_mark s t owned hidden =
+        let len = F.claims in let e = earlier s t owned in let below = e.0 in let near = e.1 (no_lent t.lent hidden) in
+        marked-out o.claimed c n s (omega arith) (omega arith) (λ j lt eq. omega arith)
+
+    unpublished_new : (s : ℕ) → c ≤ s → is_marked o.published s ≡ false
+    unpublished_new s low = elim (cases_Bool (is_marked o.published s)) [
+      | inl marked ↦ absurd (let y = F.published s marked in let e = earlier s y.0 y.1 in let below = e.0 in omega arith)
+      | inr unmarked ↦ unmarked
+    ]
+
+    -- a sender's marks once it claimed n from c on
+    pub marks_claimed : MarksFit k q (record o { claimed = claimed_marks })
+    marks_claimed =
+        let len = F.claims in let same : length claimed_marks ≡ length o.claimed = length-stamped (entry_of (length o.claimed)) o.claimed c n in record {
+          claims = same ∙ F.claims;
+          writes = F.writes;
+          shows = F.shows;
+          own = λ s m. elim (marked_was o.claimed c n s (omega arith) m) [
+            | inl within ↦ (fresh_stage r.number, own_new s within.0 within.1)
+            | inr was ↦ (let x = F.own s was in (x.0, kept s x.0 x.1))
+          ];
+          written = λ s m. (let x = F.written s m in (x.0, kept s x.0 x.1));
+          published = λ s m. (let x = F.published s m in (x.0, kept s x.0 x.1));
+          old = λ s t own m. elim (whence s t own) [
+            | inl x ↦ absurd (let yes = here s x.0 x.1 in cc)
+            | inr owned ↦ elim (cases_Bool (is_published t)) [
+              | inl shown ↦ shown
+              | inr hidden ↦ F.old s t owned (sym (keeps_mark s t owned hidden) ∙ m)
+            ]
+          ];
+          shown = λ s t own m. elim (whence s t own) [
+            | inl x ↦ ap is_published x.2 ∙ sym (unpublished_new s x.0)
+            | inr owned ↦ F.shown s t owned (before s (earlier s t owned).0 m)
+          ];
+        }
+
+    -- what was open stays open, what is claimed is open, and nothing else
+    pub open_before : (s : ℕ) → s < c → is_open o s ≡ is_open (record o { claimed = claimed_marks }) s
+    open_before s lt = elim (cases_Bool (is_marked o.claimed s)) [
+      | inl marked ↦ (let own = F.own s marked in elim (cases_Bool (is_published own.0)) [
+        | inl shown ↦ (let hides : not (is_marked o.published s) ≡ false = ap not (sym (F.shown s own.0 own.1 marked) ∙ shown) in
+            closed (is_marked o.claimed s) (not (is_marked o.published s)) hides ∙ sym (closed (is_marked claimed_marks s) (not (is_marked o.published s)) hides))
+        | inr hidden ↦ ap (λ (b : Bool). b && not (is_marked o.published s)) (sym (keeps_mark s own.0 own.1 hidden))
+      ])
+      | inr unmarked ↦ (let still : is_marked claimed_marks s ≡ false = elim (cases_Bool (is_marked claimed_marks s)) [
+        | inl now ↦ absurd (let was = before s lt now in cc)
+        | inr not_now ↦ not_now
+      ] in ap (λ (b : Bool). b && not (is_marked o.published s)) (unmarked ∙ sym still))
+    ]
+      where
+        closed : (a b : Bool) → b ≡ false → (a && b) ≡ false
+        closed true b e = e
+        closed false b e = refl
+
+    pub open_here : (s : ℕ) → c ≤ s → s < c + n → is_open (record o { claimed = claimed_marks }) s ≡ true
+    open_here s low high = (λ i. here s low high i && not (unpublished_new s low i))

@@ -1,0 +1,201 @@
+-- A sender that looks or claims keeps the rule, and so does a halt.
+use Rattle.std.proofs.Common.{◌≡◌, ℕ, zero, suc, ◌+◌, ◌<◌, inl, inr, false, List, ◌++◌, length, set, replicate, sym, ap, ◌∙◌, subst, arith, length-set, get_or-set_same, get_or-set_other}
+use Rattle.std.proofs.lemmas.List.{length-append, length-replicate}
+use mathlib.Core.Option.{some, some-injective, some-ne-none}
+use lib.ListN.{get_elem?}
+use Rattle.dr_runs.proofs.Elements.{at_below, each_set}
+use Rattle.dr_runs.proofs.Offers.{final_inside}
+use Rattle.dr_plain_senders.specs.Meaning.Shape.{Shape}
+use Rattle.dr_plain_senders.specs.Meaning.Words.{claim_word, claimed_in, is_halted, halted_from, halt_bit, count_word, mark_start, mark_word}
+use Rattle.dr_plain_senders.specs.declared.record.Stage.{Stage}
+use Rattle.dr_plain_senders.specs.declared.record.Own.{Own}
+use Rattle.dr_plain_senders.specs.declared.record.SenderRecord.{SenderRecord}
+use Rattle.dr_plain_senders.specs.declared.record.HalterRecord.{HalterRecord}
+use Rattle.dr_plain_senders.specs.Meaning.Records.{fresh_stage, fresh_own, sender_looked, claimed_from, halter_halted, SeesRoom, Owns, mark_found}
+use Rattle.dr_plain_senders.specs.Meaning.Rule.{World, ArePast, SenderKept, KeepsRule, IsOut}
+use Rattle.dr_plain_senders.specs.Meaning.Steps.{sender_knows, sender_claims, halted_words}
+use Rattle.atomic_table.proofs.Lists.{at_longer}
+use Rattle.dr_plain_senders.proofs.Places.{word_at, more_right, more_cases, at_replicate, in_replicate, claimed_low, halted_low, claimed_halted, halted_rises, is_halted_from, Rises, rises_set, past_rises}
+use Rattle.dr_runs.proofs.Looks.{past_more, last_look_le}
+use Rattle.dr_plain_senders.proofs.Facts.{handler_inside, none_or_some}
+use Rattle.dr_plain_senders.proofs.Stays.{Lasts, out_lasts, room_stays, receiver_stays, sender_stays}
+
+module _ {T : Type 0} where
+  -- a sender's record changes
+  sender_changes : (k : Shape) (w : World T) (p : ℕ) (r : SenderRecord T) → SenderKept k w.words w.stages p r → KeepsRule k w → KeepsRule k (sender_knows w p r)
+  sender_changes k w p r now K = record {
+    shape = K.shape;
+    wide = K.wide;
+    inlets = length-set w.senders p r ∙ K.inlets;
+    outlets = K.outlets;
+    claim = K.claim;
+    limit = K.limit;
+    room = K.room;
+    marks = K.marks;
+    marked = K.marked;
+    exact = K.exact;
+    sent = each_set (SenderKept k w.words w.stages) w.senders p r now (λ q x ne there. K.sent q x there);
+    received = K.received;
+    halter = K.halter;
+  }
+
+  -- a sender looks
+  pub keeps_sender_looks : (k : Shape) (w : World T) (p i : ℕ) (r : SenderRecord T) → i < mark_start k → get_elem? w.senders p ≡ some r → KeepsRule k w
+      → KeepsRule k (sender_knows w p (sender_looked r i (word_at w.words i)))
+  keeps_sender_looks k w p i r low at K = let was = K.sent p r at in
+      sender_changes k w p (sender_looked r i (word_at w.words i))
+      (record { number = was.number; own = was.own; all = was.all; looks = past_more (mark_start k) w.words i (word_at w.words i) r.looks low (omega arith) was.looks }) K
+
+  -- it looks at a mark
+  pub keeps_mark_found : (k : Shape) (w : World T) (p word found : ℕ) (r : SenderRecord T) → get_elem? w.senders p ≡ some r → KeepsRule k w
+      → KeepsRule k (sender_knows w p (mark_found r word found))
+  keeps_mark_found k w p word found r at K =
+      let was = K.sent p r at in sender_changes k w p (mark_found r word found) (record { number = was.number; own = was.own; all = was.all; looks = was.looks }) K
+
+  pub fresh_at : (p c n i : ℕ) (o : Own T) → get_elem? (fresh_own p c n) i ≡ some o → (i < n) × (record { sequence = c + i; stage = fresh_stage p } ≡ o)
+  fresh_at p c zero i o at = absurd (some-ne-none o (sym at))
+  fresh_at p c (suc n) zero o at = (
+    omega arith,
+    (let z : c + 0 ≡ c = omega arith in ap (λ (s : ℕ). let x : Own T = record { sequence = s; stage = fresh_stage p } in x) z)
+        ∙ some-injective _ o at,
+  )
+  fresh_at p c (suc n) (suc i) o at =
+      let d = fresh_at p (suc c) n i o at in
+      let l = d.0 in (
+        omega arith,
+        (let z : c + suc i ≡ suc c + i = omega arith in
+            ap (λ (s : ℕ). let x : Own T = record { sequence = s; stage = fresh_stage p } in x) z) ∙ d.1,
+      )
+
+  pub fresh_there : (p c n i : ℕ) → i < n → get_elem? (fresh_own {T = T} p c n) i ≡ some record { sequence = c + i; stage = fresh_stage p }
+  fresh_there p c zero i lt = absurd (omega arith)
+  fresh_there p c (suc n) zero lt =
+      let z : c ≡ c + 0 = omega arith in ap (λ (s : ℕ). let o : Own T = record { sequence = s; stage = fresh_stage p } in some o) z
+  fresh_there p c (suc n) (suc i) lt = let z : suc c + i ≡ c + suc i = omega arith in
+      fresh_there p (suc c) n i (omega arith) ∙ ap (λ (s : ℕ). let o : Own T = record { sequence = s; stage = fresh_stage p } in some o) z
+
+  -- what is claimed now, its sender has
+  claimed_own : (r : SenderRecord T) (p c n s i : ℕ) (t : Stage T) → r.number ≡ p → c + i ≡ s → get_elem? (replicate n (fresh_stage p)) i ≡ some t → Owns (claimed_from r c n) s t
+  claimed_own r p c n s i t number at new =
+      let inside = at_below (replicate n (fresh_stage p)) i t new in let len = length-replicate n (fresh_stage {T = T} p) in
+      let fresh : fresh_stage r.number ≡ t = ap fresh_stage number ∙ at_replicate n (fresh_stage p) t i new in (
+        length r.own + i,
+        more_right r.own (fresh_own r.number c n) i (record { sequence = c + i; stage = fresh_stage r.number }) (fresh_there r.number c n i (omega arith))
+            ∙ (λ j. let o : Own T = record { sequence = at j; stage = fresh j } in some o),
+      )
+
+  -- a sender claims
+  pub keeps_claims : (k : Shape) (w : World T) (p c n : ℕ) (r : SenderRecord T) → get_elem? w.senders p ≡ some r → 0 < n → SeesRoom k r c n
+      → word_at w.words claim_word ≡ c → KeepsRule k w → KeepsRule k (sender_claims w p r c n)
+  keeps_claims k w p c n r at some_one room found K =
+      let was = K.sent p r at in let us = set w.words claim_word (c + n) in let new = replicate n (fresh_stage {T = T} p) in let more = w.stages ++ new in
+      let wide = K.wide in let small = K.shape.small in let fits = room.limit in
+      let low : c < halt_bit = omega arith in
+      let now : c ≡ length w.stages = sym (claimed_low c low) ∙ ap claimed_in (sym found) ∙ K.claim in
+      let longer : length more ≡ c + n = omega (arith, length-append w.stages new, length-replicate n (fresh_stage {T = T} p)) in
+      let here : word_at us claim_word ≡ c + n = get_or-set_same w.words claim_word (c + n) 0 (omega arith) in
+      let stays : (j : ℕ) → 0 < j → word_at us j ≡ word_at w.words j = λ j pos. get_or-set_other w.words claim_word j (c + n) 0 (λ (e : j ≡ 0). omega arith) in
+      let rises : Rises k w.words us = rises_set k w.words claim_word (c + n) (omega arith) (λ _. omega arith) in
+      let lasts : Lasts w.stages more = λ s l x. (x.0, at_longer w.stages new s x.0 x.1, x.2) in
+      let old_out : (s : ℕ) → IsOut more s → IsOut w.stages s = λ s x. elim (more_cases w.stages new s x.1.0 x.1.1) [
+        | inl old ↦ (x.0, (x.1.0, old, x.1.2))
+        | inr y ↦ absurd (none_or_some x.1.0.lent x.0 (ap (λ (t : Stage T). t.lent) (sym (at_replicate n (fresh_stage p) x.1.0 y.0 y.2))) x.1.2)
+      ] in
+      let going : is_halted (word_at w.words claim_word) ≡ false = ap is_halted found ∙ halted_low c low in record {
+        shape = K.shape;
+        wide = length-set w.words claim_word (c + n) ∙ K.wide;
+        inlets = length-set w.senders p (claimed_from r c n) ∙ K.inlets;
+        outlets = K.outlets;
+        claim = ap claimed_in here ∙ claimed_low (c + n) (omega arith) ∙ sym longer;
+        limit = omega arith;
+        room = λ f final. (let i = final_inside k.upstreams f final in let a = room.completed f final in
+            let b = last_look_le (mark_start k) w.words 0 r.looks (count_word f) (omega arith) was.looks in let e = stays (count_word f) (omega arith) in omega arith);
+        marks = λ s le. out_lasts w.stages more lasts s (K.marks s (let e = stays (mark_word k s) (omega arith) in omega arith));
+        marked = λ s x. (let a = K.marked s (old_out s x) in let e = stays (mark_word k s) (omega arith) in omega arith);
+        exact = λ s x near. stays (mark_word k s) (omega arith) ∙ K.exact s (old_out s x) (omega arith);
+        sent = each_set (SenderKept k us more) w.senders p (claimed_from r c n)
+            (record {
+              number = was.number;
+              own = λ i o there. elim (more_cases r.own (fresh_own r.number c n) i o there) [
+                | inl old ↦ (let d = was.own i o old in (d.0, at_longer w.stages new o.sequence o.stage d.1))
+                | inr x ↦ (let d = fresh_at r.number c n x.0 o x.2 in let number = was.number in
+                    subst (λ (o : Own T). (o.stage.owner ≡ p) × (get_elem? more o.sequence ≡ some o.stage)) d.1 (
+                      number,
+                      ap (λ (m : ℕ). get_elem? more (m + x.0)) now ∙ more_right w.stages new x.0 (fresh_stage p) (in_replicate n (fresh_stage p) x.0 d.0)
+                          ∙ ap (λ (m : ℕ). some (fresh_stage m)) (sym number),
+                    ))
+              ];
+              all = λ s t there mine. elim (more_cases w.stages new s t there) [
+                | inl old ↦ (let x = was.all s t old mine in (x.0, at_longer r.own (fresh_own r.number c n) x.0 (record { sequence = s; stage = t }) x.1))
+                | inr y ↦ claimed_own r p c n s y.0 t (was.number) (let at = y.1 in omega arith) y.2
+              ];
+              looks = past_more (mark_start k) us claim_word (c + n) r.looks (omega arith) (omega arith) (past_rises k w.words us r.looks rises was.looks);
+            })
+            (λ q x ne there. sender_stays k w.words us w.stages more q x rises (λ s t old _. at_longer w.stages new s t old)
+            (λ s t at_more mine. elim (more_cases w.stages new s t at_more) [
+              | inl old ↦ old
+              | inr y ↦ absurd (ne (sym (ap (λ (u : Stage T). u.owner) (at_replicate n (fresh_stage p) t y.0 y.2) ∙ mine)))
+            ]) (K.sent q x there));
+        received = λ h q there. (let old = K.received h q there in
+            receiver_stays k w.words us w.stages more h q K.shape.graph (handler_inside k w h q there K) (stays (count_word h) (omega arith)) rises lasts
+            (omega arith) (λ y. absurd (let t = (old.told y).0 in cc)) old);
+        halter = past_rises k w.words us w.halter.looks rises K.halter;
+      }
+
+  -- the highest bit of the claim word is set
+  halting : (k : Shape) (w : World T) (senders : List (SenderRecord T)) (halter : HalterRecord) → length senders ≡ k.senders
+      → ((p : ℕ) (r : SenderRecord T) → get_elem? senders p ≡ some r → SenderKept k (halted_words w) w.stages p r) → ArePast k (halted_words w) halter.looks
+      → KeepsRule k w → KeepsRule k (record w { words = halted_words w; senders = senders; halter = halter })
+  halting k w senders halter count sent looks K =
+      let n = word_at w.words claim_word in let us = halted_words w in let wide = K.wide in
+      let here : word_at us claim_word ≡ halted_from n = get_or-set_same w.words claim_word (halted_from n) 0 (omega arith) in
+      let stays : (j : ℕ) → 0 < j → word_at us j ≡ word_at w.words j =
+      λ j pos. get_or-set_other w.words claim_word j (halted_from n) 0 (λ (e : j ≡ 0). omega arith) in
+      let rises : Rises k w.words us = rises_set k w.words claim_word (halted_from n) (omega arith) (λ _. halted_rises n) in record {
+        shape = K.shape;
+        wide = length-set w.words claim_word (halted_from n) ∙ K.wide;
+        inlets = count;
+        outlets = K.outlets;
+        claim = ap claimed_in here ∙ claimed_halted n ∙ K.claim;
+        limit = K.limit;
+        room = room_stays k w.words us (length w.stages) rises K.room;
+        marks = λ s le. K.marks s (let e = stays (mark_word k s) (omega arith) in omega arith);
+        marked = λ s x. (let a = K.marked s x in let e = stays (mark_word k s) (omega arith) in omega arith);
+        exact = λ s x near. stays (mark_word k s) (omega arith) ∙ K.exact s x near;
+        sent = sent;
+        received = λ h q there. (let old = K.received h q there in
+            receiver_stays k w.words us w.stages w.stages h q K.shape.graph (handler_inside k w h q there K) (stays (count_word h) (omega arith)) rises
+            (λ s l x. x) (omega arith) (λ y. (ap is_halted here ∙ is_halted_from n, (old.told y).1)) old);
+        halter = looks;
+      }
+
+  halt_rises : (k : Shape) (w : World T) → KeepsRule k w → Rises k w.words (halted_words w)
+  halt_rises k w K = let n = word_at w.words claim_word in let wide = K.wide in rises_set k w.words claim_word (halted_from n) (omega arith) (λ _. halted_rises n)
+
+  halt_here : (k : Shape) (w : World T) → KeepsRule k w → word_at (halted_words w) claim_word ≡ halted_from (word_at w.words claim_word)
+  halt_here k w K = let n = word_at w.words claim_word in let wide = K.wide in get_or-set_same w.words claim_word (halted_from n) 0 (omega arith)
+
+  pub keeps_sender_halts : (k : Shape) (w : World T) (p : ℕ) (r : SenderRecord T) → get_elem? w.senders p ≡ some r → KeepsRule k w
+      → KeepsRule k (record w { words = halted_words w; senders = set w.senders p (sender_looked r claim_word (halted_from (word_at w.words claim_word))) })
+  keeps_sender_halts k w p r at K =
+      let n = word_at w.words claim_word in let us = halted_words w in let was = K.sent p r at in let rises = halt_rises k w K in let here = halt_here k w K in
+      halting k w (set w.senders p (sender_looked r claim_word (halted_from n))) w.halter (length-set w.senders p (sender_looked r claim_word (halted_from n))
+      ∙ K.inlets)
+      (each_set (SenderKept k us w.stages) w.senders p (sender_looked r claim_word (halted_from n))
+      (record {
+        number = was.number;
+        own = was.own;
+        all = was.all;
+        looks =
+            past_more (mark_start k) us claim_word (halted_from n) r.looks (omega arith) (omega arith) (past_rises k w.words us r.looks rises was.looks);
+      })
+      (λ q x ne there. sender_stays k w.words us w.stages w.stages q x rises (λ s t old _. old) (λ s t old _. old) (K.sent q x there)))
+      (past_rises k w.words us w.halter.looks rises K.halter) K
+
+  pub keeps_halter_halts : (k : Shape) (w : World T) → KeepsRule k w
+      → KeepsRule k (record w { words = halted_words w; halter = halter_halted w.halter (word_at w.words claim_word) })
+  keeps_halter_halts k w K =
+      let n = word_at w.words claim_word in let us = halted_words w in let rises = halt_rises k w K in let here = halt_here k w K in
+      halting k w w.senders (halter_halted w.halter n) K.inlets
+      (λ p x there. sender_stays k w.words us w.stages w.stages p x rises (λ s t old _. old) (λ s t old _. old) (K.sent p x there))
+      (past_more (mark_start k) us claim_word (halted_from n) w.halter.looks (omega arith) (omega arith) (past_rises k w.words us w.halter.looks rises K.halter)) K

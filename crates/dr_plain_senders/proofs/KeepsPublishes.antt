@@ -1,0 +1,161 @@
+-- A sender that publishes keeps the rule.
+use Rattle.std.proofs.Common.{◌≡◌, ◌≢◌, ℕ, ◌+◌, ◌<◌, ◌≤◌, inl, inr, Bool, if◌then◌else◌, List, length, set, None, sym, refl, ap, ◌∙◌, subst, arith, length-set, get_or-set_same, get_or-set_other}
+use Rattle.std.proofs.lemmas.Bool.{cases_eq, eq-eqb, ne_eqb, cases_lt}
+use Rattle.std.proofs.Math.Nat.{mod-lt}
+use mathlib.Core.Option.{some}
+use lib.ListN.{get_elem?}
+use Rattle.atomic_table.proofs.Lists.{at_set, set_here}
+use Rattle.dr_seq.specs.Rounds.{entry_of}
+use Rattle.dr_runs.proofs.Elements.{at_below, each_set}
+use Rattle.dr_runs.proofs.Lists.{at_map, map_there}
+use Rattle.dr_plain_senders.specs.Meaning.Shape.{Shape}
+use Rattle.dr_plain_senders.specs.Meaning.Words.{claim_word, claimed_in, is_halted, count_word, mark_start, mark_word}
+use Rattle.dr_plain_senders.specs.declared.record.Lent.{Lent}
+use Rattle.dr_plain_senders.specs.declared.record.Stage.{Stage}
+use Rattle.dr_plain_senders.specs.declared.record.Own.{Own}
+use Rattle.dr_plain_senders.specs.declared.record.SenderRecord.{SenderRecord}
+use Rattle.dr_plain_senders.specs.Meaning.Records.{published, own_after, brought}
+use Rattle.dr_plain_senders.specs.Meaning.Rule.{World, Room, IsOut, SenderKept, KeepsRule}
+use Rattle.dr_plain_senders.specs.Meaning.Steps.{sender_publishes}
+use Rattle.dr_plain_senders.proofs.Places.{word_at, set_else, one_value, Rises, rises_set, past_rises, own_slot, rounds_rise, same_or_behind}
+use Rattle.dr_plain_senders.proofs.Facts.{none_or_some, handler_inside, near_open, owned, out_behind}
+use Rattle.dr_plain_senders.proofs.Stays.{Lasts, room_stays, receiver_stays, sender_stays}
+use Rattle.dr_plain_senders.proofs.Brought.{own_brought}
+
+module _ {T : Type 0} where
+  -- one of a sender's sequences after it was brought further
+  brought_own : (p s : ℕ) (t : Stage T) (further : Stage T → Stage T) (stages : List (Stage T)) (o : Own T) → s < length stages → (further t).owner ≡ p
+      → get_elem? stages s ≡ some t → (o.stage.owner ≡ p) × (get_elem? stages o.sequence ≡ some o.stage)
+      → ((own_after s further o).stage.owner ≡ p) × (get_elem? (set stages s (further t)) (own_after s further o).sequence ≡ some (own_after s further o).stage)
+  brought_own p s t further stages o inside owner at was =
+      let more = set stages s (further t) in let Q : Own T → Type 0 = λ x. (x.stage.owner ≡ p) × (get_elem? more x.sequence ≡ some x.stage) in
+      let P : Bool → Type 0 = λ b. Q (if b then record o { stage = further o.stage } else o) in
+      elim (cases_eq o.sequence s) [
+        | inl e ↦ (let same : t ≡ o.stage = one_value stages s t o.stage at (ap (λ (j : ℕ). get_elem? stages j) (sym e) ∙ was.1) in
+            subst P (sym (eq-eqb o.sequence s e))
+            (subst (λ (x : Stage T). ((further x).owner ≡ p) × (get_elem? more o.sequence ≡ some (further x))) same (
+              owner,
+              ap (λ (j : ℕ). get_elem? more j) e
+                  ∙ set_here stages s (further t) inside,
+            )))
+        | inr ne ↦ subst P (sym (ne_eqb o.sequence s ne)) (was.0, set_else stages s o.sequence (further t) o.stage ne was.1)
+      ]
+
+  -- what is published, once a sequence more is
+  pub out_more : (stages : List (Stage T)) (s : ℕ) (t : Stage T) (l : Lent T) (z : ℕ) → z ≢ s → IsOut stages z → IsOut (set stages s (published l t)) z
+  out_more stages s t l z ne x = (x.0, (x.1.0, set_else stages s z (published l t) x.1.0 ne x.1.1, x.1.2))
+
+  pub out_new : (stages : List (Stage T)) (s : ℕ) (t : Stage T) (l : Lent T) → get_elem? stages s ≡ some t → IsOut (set stages s (published l t)) s
+  out_new stages s t l at = (l, (published l t, set_here stages s (published l t) (at_below stages s t at), refl))
+
+  pub out_before : (stages : List (Stage T)) (s : ℕ) (t : Stage T) (l : Lent T) (z : ℕ) → z ≢ s → IsOut (set stages s (published l t)) z → IsOut stages z
+  out_before stages s t l z ne x = elim (at_set stages s z (published l t) x.1.0 x.1.1) [
+    | inl same ↦ absurd (ne same.0)
+    | inr old ↦ (x.0, (x.1.0, old.1, x.1.2))
+  ]
+
+  -- once a mark is stored, whoever finds it or a later one finds its sequence published
+  publishes_marks : (k : Shape) (w : World T) (s : ℕ) (t : Stage T) (l : Lent T) → get_elem? w.stages s ≡ some t → mark_word k s < length w.words → KeepsRule k w
+      → (z : ℕ) → entry_of k.size z ≤ word_at (set w.words (mark_word k s) (entry_of k.size s)) (mark_word k z) → IsOut (set w.stages s (published l t)) z
+  publishes_marks k w s t l here wide K z le =
+      let v = entry_of k.size s in let us = set w.words (mark_word k s) v in let inside = at_below w.stages s t here in let pos = K.shape.some_slot in
+      elim (cases_eq z s) [
+        | inl same ↦ subst (IsOut (set w.stages s (published l t))) (sym same) (out_new w.stages s t l here)
+        | inr ne ↦ out_more w.stages s t l z ne (elim (cases_eq (mark_word k z) (mark_word k s)) [
+          | inl slot ↦ (let found : word_at us (mark_word k z) ≡ v = ap (λ (m : ℕ). word_at us m) slot ∙ get_or-set_same w.words (mark_word k s) v 0 wide in
+              elim (same_or_behind k z s pos slot (omega arith)) [
+                | inl same ↦ absurd (ne same)
+                | inr behind ↦ out_behind k w z s behind inside K
+              ])
+          | inr other ↦ (let e = get_or-set_other w.words (mark_word k s) (mark_word k z) v 0 other in K.marks z (omega arith))
+        ])
+      ]
+
+  -- and of what is published the mark is there, or a later one
+  publishes_marked : (k : Shape) (w : World T) (s : ℕ) (t : Stage T) (l : Lent T) → get_elem? w.stages s ≡ some t → mark_word k s < length w.words → t.lent ≡ None → KeepsRule k w
+      → (z : ℕ) → IsOut (set w.stages s (published l t)) z → entry_of k.size z ≤ word_at (set w.words (mark_word k s) (entry_of k.size s)) (mark_word k z)
+  publishes_marked k w s t l here wide unshown K z x =
+      let v = entry_of k.size s in let us = set w.words (mark_word k s) v in let pos = K.shape.some_slot in let near = near_open k w s t here unshown K in
+      elim (cases_eq (mark_word k z) (mark_word k s)) [
+        | inl slot ↦ (let found : word_at us (mark_word k z) ≡ v = ap (λ (m : ℕ). word_at us m) slot ∙ get_or-set_same w.words (mark_word k s) v 0 wide in
+            let inside : z < length w.stages = (let b = at_below (set w.stages s (published l t)) z x.1.0 x.1.1 in let n = length-set w.stages s (published l t) in omega arith) in
+            elim (cases_lt s z) [
+              | inl after ↦ absurd (own_slot k s z (λ e. omega arith) (omega arith) (omega arith) (omega arith))
+              | inr before ↦ (let a = rounds_rise z s k.size pos before in omega arith)
+            ])
+        | inr other ↦ (let e = get_or-set_other w.words (mark_word k s) (mark_word k z) v 0 other in
+            let a = K.marked z (out_before w.stages s t l z (λ (same : z ≡ s). other (ap (mark_word k) same)) x) in omega arith)
+      ]
+
+  publishes_exact : (k : Shape) (w : World T) (s : ℕ) (t : Stage T) (l : Lent T) → get_elem? w.stages s ≡ some t → mark_word k s < length w.words → t.lent ≡ None → KeepsRule k w
+      → (z : ℕ) → IsOut (set w.stages s (published l t)) z → length w.stages ≤ z + k.size → word_at (set w.words (mark_word k s) (entry_of k.size s)) (mark_word k z) ≡ entry_of k.size z
+  publishes_exact k w s t l here wide unshown K z x close =
+      let v = entry_of k.size s in let near = near_open k w s t here unshown K in
+      elim (cases_eq z s) [
+        | inl same ↦ ap (λ (m : ℕ). word_at (set w.words (mark_word k s) v) (mark_word k m)) same ∙ get_or-set_same w.words (mark_word k s) v 0 wide ∙ ap (entry_of k.size) (sym same)
+        | inr ne ↦ (
+            let inside = at_below w.stages s t here in
+            let below : z < length w.stages = (let b = at_below (set w.stages s (published l t)) z x.1.0 x.1.1 in let n = length-set w.stages s (published l t) in omega arith) in
+            get_or-set_other w.words (mark_word k s) (mark_word k z) v 0 (λ e. own_slot k z s ne (omega arith) (omega arith) (omega arith))
+            ∙ K.exact z (out_before w.stages s t l z ne x) close)
+      ]
+
+  pub keeps_publishes : (k : Shape) (w : World T) (p s i : ℕ) (r : SenderRecord T) (t : Stage T) (l : Lent T) → get_elem? w.senders p ≡ some r
+      → get_elem? r.own i ≡ some record { sequence = s; stage = t } → t.lent ≡ None → KeepsRule k w
+      → KeepsRule k (sender_publishes k w p r s t l)
+  keeps_publishes k w p s i r t l at has unshown K =
+      let was = K.sent p r at in let word = mark_word k s in let v = entry_of k.size s in let us = set w.words word v in let more = set w.stages s (published l t) in
+      let pos = K.shape.some_slot in let wide = K.wide in
+      let own = owned k w p r s i t at has K in let inside : s < length w.stages = at_below w.stages s t own.1 in
+      let high : word < length w.words = (let m = mod-lt s pos in omega arith) in
+      let len : length more ≡ length w.stages = length-set w.stages s (published l t) in
+      let stays : (j : ℕ) → j < mark_start k → word_at us j ≡ word_at w.words j =
+      λ j below. get_or-set_other w.words word j v 0 (λ (e : j ≡ word). omega arith) in
+      let rises : Rises k w.words us = rises_set k w.words word v high (λ h. absurd (omega arith)) in
+      let lasts : Lasts w.stages more = λ z m x. elim (cases_eq z s) [
+        | inl e ↦ absurd (let same : t ≡ x.0 = one_value w.stages s t x.0 own.1 (ap (λ (j : ℕ). get_elem? w.stages j) (sym e) ∙ x.1) in
+            none_or_some t.lent m unshown (ap (λ (y : Stage T). y.lent) same ∙ x.2))
+        | inr ne ↦ (x.0, set_else w.stages s z (published l t) x.0 ne x.1, x.2)
+      ] in
+      let others : (q : ℕ) → q ≢ p → (z : ℕ) (u : Stage T) → get_elem? w.stages z ≡ some u → u.owner ≡ q → get_elem? more z ≡ some u =
+      λ q ne z u there is. elim (cases_eq z s) [
+        | inl e ↦ absurd (let same : t ≡ u = one_value w.stages s t u own.1 (ap (λ (j : ℕ). get_elem? w.stages j) (sym e) ∙ there) in
+            ne (sym is ∙ ap (λ (y : Stage T). y.owner) (sym same) ∙ own.0))
+        | inr other ↦ set_else w.stages s z (published l t) u other there
+      ] in record {
+        shape = K.shape;
+        wide = length-set w.words word v ∙ K.wide;
+        inlets = length-set w.senders p (brought r s (published l)) ∙ K.inlets;
+        outlets = K.outlets;
+        claim = ap claimed_in (stays claim_word (omega arith)) ∙ K.claim ∙ sym len;
+        limit = let c = K.limit in omega arith;
+        room = subst (Room k us) (sym len) (room_stays k w.words us (length w.stages) rises K.room);
+        marks = publishes_marks k w s t l own.1 high K;
+        marked = publishes_marked k w s t l own.1 high unshown K;
+        exact = λ z x near. publishes_exact k w s t l own.1 high unshown K z x (omega arith);
+        sent = each_set (SenderKept k us more) w.senders p (brought r s (published l))
+            (record {
+              number = was.number;
+              own = λ j o there. (let m = at_map (own_after s (published l)) r.own j o there in
+                  subst (λ (x : Own T). (x.stage.owner ≡ p) × (get_elem? more x.sequence ≡ some x.stage)) m.2
+                  (brought_own p s t (published l) w.stages m.0 inside own.0 own.1 (was.own j m.0 m.1)));
+              all = λ z u there mine. elim (at_set w.stages s z (published l t) u there) [
+                | inl e ↦ (let x = own_brought r s t (published l) (i, has) in (x.0, x.1 ∙ (λ j. let o : Own T = record { sequence = sym e.0 j; stage = e.1 j } in some o)))
+                | inr old ↦ (let x = was.all z u old.1 mine in (
+                  x.0,
+                  map_there (own_after s (published l)) r.own x.0 (record { sequence = z; stage = u }) x.1
+                      ∙ ap (λ (b : Bool). let o : Own T = record { sequence = z; stage = u } in some (if b then record o { stage = published l u } else o)) (ne_eqb z s old.0),
+                ))
+              ];
+              looks = past_rises k w.words us r.looks rises was.looks;
+            })
+            (λ q x ne there. sender_stays k w.words us w.stages more q x rises (others q ne)
+            (λ z u at_more mine. elim (at_set w.stages s z (published l t) u at_more) [
+              | inl e ↦ absurd (ne (sym mine ∙ sym (ap (λ (y : Stage T). y.owner) e.1) ∙ own.0))
+              | inr old ↦ old.1
+            ]) (K.sent q x there));
+        received = λ h q there. (let old = K.received h q there in let in_graph = handler_inside k w h q there K in
+            receiver_stays k w.words us w.stages more h q K.shape.graph in_graph (stays (count_word h) (omega arith)) rises lasts (omega arith)
+            (λ y. (ap is_halted (stays claim_word (omega arith)) ∙ (old.told y).0, (let c = (old.told y).1 in omega arith))) old);
+        halter = past_rises k w.words us w.halter.looks rises K.halter;
+      }

@@ -1,0 +1,149 @@
+-- What a receiver is offered, by the counts that it finds one after another.
+use Rattle.std.proofs.Common.{◌≡◌, ◌≢◌, ℕ, suc, ◌+◌, ◌-◌, ◌<◌, ◌≤◌, inl, inr, Bool, true, ◌==◌, if◌then◌else◌, min}
+use Rattle.std.proofs.Common.{List, [], ◌∷◌, ◌++◌, map, length, get_or, take, sym, refl, ap, ◌∙◌, subst, arith, append_assoc}
+use Rattle.std.specs.Prelude.{Contains}
+use Rattle.std.specs.List.{AllPairs}
+use Rattle.std.specs.List.Sorted.{IsStrictlyIncreasing}
+use Rattle.std.proofs.lemmas.Bool.{eq-eqb, ne_eqb}
+use Rattle.std.proofs.lemmas.List.{length-append, append-nil}
+use Rattle.std.proofs.lemmas.List.Kept.{AllPairs-from_increasing}
+use Rattle.dr_graph.specs.Meaning.Graph.{upstreams_of}
+use Rattle.dr_plain_senders.specs.Meaning.Shape.{Shape}
+use Rattle.dr_plain_senders.specs.Meaning.Words.{count_word}
+use Rattle.dr_runs.specs.declared.look.Look.{Look}
+use Rattle.dr_plain_senders.specs.declared.record.Lent.{Lent}
+use Rattle.dr_plain_senders.specs.declared.record.ReceiverRecord.{ReceiverRecord}
+use Rattle.dr_plain_senders.specs.Meaning.Records.{barrier_seen, taken_at_count, receiver_looked}
+use Rattle.dr_runs.specs.Looks.{look, last_look, offered_by, looks_at, lesser_of}
+use Rattle.dr_plain_senders.specs.Calls.Ends.{count_looks}
+use Rattle.dr_plain_senders.specs.Calls.Finds.{FindsEvents}
+use Rattle.dr_plain_senders.specs.Calls.Receiving.{ups_of}
+use Rattle.dr_plain_senders.specs.Inside.Polling.{receiver_saw, IsNear, LooksAtFirst, LooksPast}
+use Rattle.dr_plain_senders.specs.Inside.Seats.{Hand, taken_by_poll}
+use Rattle.dr_runs.proofs.Lists.{take_whole}
+use Rattle.dr_runs.proofs.Looks.{looks_more}
+use Rattle.dr_runs.proofs.Elements.{contains_more, contains_last}
+use Rattle.dr_runs.proofs.Offers.{offers_more}
+
+-- no number stands in a list twice
+AreDistinct : List ℕ → Type 0
+AreDistinct [] = Unit {0}
+AreDistinct (u ∷ us) = ((g : ℕ) → Contains us g → u ≢ g) × AreDistinct us
+
+distinct_of : (us : List ℕ) → AllPairs (λ x y. x < y) us → AreDistinct us
+unfolding AreDistinct
+distinct_of [] all = tt
+distinct_of (u ∷ us) all = (
+  λ g has e. (let inside = has.1 in let lt : u < get_or us has.0 g = all 0 (suc has.0) g (omega arith) (omega arith) in let at = has.2 in omega arith),
+  distinct_of us (λ i j d lt inside. all (suc i) (suc j) d (omega arith) (omega arith)),
+)
+
+last_look_both : (d : ℕ) (xs ys : List Look) (word : ℕ) → last_look d (xs ++ ys) word ≡ last_look (last_look d xs word) ys word
+last_look_both d [] ys word = refl
+last_look_both d (x ∷ xs) ys word = last_look_both (if x.word == word then x.value else d) xs ys word
+
+-- the counts of other handlers
+not_looked : (d : ℕ) (us counts : List ℕ) (w : ℕ) → ((g : ℕ) → Contains us g → count_word g ≢ w) → last_look d (looks_at count_word us counts) w ≡ d
+not_looked d [] counts w others = refl
+not_looked d (u ∷ us) [] w others = refl
+not_looked d (u ∷ us) (n ∷ counts) w others =
+    ap (λ (b : Bool). last_look (if b then n else d) (looks_at count_word us counts) w) (ne_eqb (count_word u) w (others u (0, omega arith, refl)))
+    ∙ not_looked d us counts w (λ g has. others g (suc has.0, (let inside = has.1 in omega arith), has.2))
+
+seen_from : (d : ℕ → ℕ) (us counts : List ℕ) → AreDistinct us → length counts ≡ length us
+    → map (λ u. last_look (d u) (looks_at count_word us counts) (count_word u)) us ≡ counts
+unfolding AreDistinct
+seen_from d [] [] apart e = refl
+seen_from d [] (n ∷ counts) apart e = absurd (omega arith)
+seen_from d (u ∷ us) [] apart e = absurd (omega arith)
+seen_from d (u ∷ us) (n ∷ counts) apart e =
+    let head : last_look (if count_word u == count_word u then n else d u) (looks_at count_word us counts) (count_word u) ≡ n =
+    ap (λ (b : Bool). last_look (if b then n else d u) (looks_at count_word us counts) (count_word u)) (eq-eqb (count_word u) (count_word u) refl)
+    ∙ not_looked n us counts (count_word u) (λ g has same. apart.0 g has (omega arith)) in
+    let tail : map (λ g. last_look (if count_word u == count_word g then n else d g) (looks_at count_word us counts) (count_word g)) us ≡ counts =
+    seen_from (λ g. if count_word u == count_word g then n else d g) us counts apart.1 (omega arith) in
+    λ i. head i ∷ tail i
+
+-- each of some handlers' counts was seen last as it was found
+seen_counts : (looks : List Look) (us counts : List ℕ) → IsStrictlyIncreasing us → length counts ≡ length us
+    → map (λ u. last_look 0 (looks ++ looks_at count_word us counts) (count_word u)) us ≡ counts
+seen_counts looks us counts rising e =
+    (λ i. map (λ u. last_look_both 0 looks (looks_at count_word us counts) (count_word u) i) us)
+    ∙ seen_from (λ u. last_look 0 looks (count_word u)) us counts (distinct_of us (AllPairs-from_increasing us rising)) e
+
+-- where there is a count, what is claimed offers nothing
+offered_same : (a b : ℕ) (counts : List ℕ) → 0 < length counts → offered_by a counts ≡ offered_by b counts
+offered_same a b [] lt = absurd (omega arith)
+offered_same a b (n ∷ counts) lt = refl
+
+-- what the upstreams let through, once all their counts were looked at
+barrier_is : (k : Shape) (h claimed : ℕ) (looks : List Look) (counts : List ℕ) → (let us = upstreams_of k.upstreams h in
+    IsStrictlyIncreasing us → length counts ≡ length us → 0 < length us → barrier_seen k h (looks ++ count_looks us counts) ≡ offered_by claimed counts)
+barrier_is k h claimed looks counts rising e some =
+    let us = upstreams_of k.upstreams h in
+    ap (λ (ns : List ℕ). offered_by 0 ns) (seen_counts looks us counts rising e) ∙ offered_same 0 claimed counts (omega arith)
+
+module _ {T : Type 0} where
+  pub first_none : (k : Shape) (r : ReceiverRecord T) (claimed : ℕ) → LooksAtFirst k r claimed 0 r claimed
+  first_none k r claimed = record {
+    counts = [];
+    each = refl;
+    is = ap (λ (ys : List Look). record r { looks = ys }) (sym (append-nil r.looks));
+    offered = refl;
+    near = λ lt. absurd (omega arith);
+    found = λ lt. absurd (omega arith);
+    told = λ told lt. absurd (omega arith);
+  }
+
+  pub first_more : (k : Shape) (r s s' : ReceiverRecord T) (claimed least least' i u v : ℕ) → LooksAtFirst k r claimed i s least → i < length (ups_of k r)
+      → get_or (ups_of k r) i 0 ≡ u → s' ≡ receiver_saw s (look (count_word u) v ∷ []) → FindsEvents k s (count_word u) v
+      → least' ≡ lesser_of (i == 0) v least → LooksAtFirst k r claimed (i + 1) s' least'
+  first_more k r s s' claimed least least' i u v L lt at is finds new =
+      let ups = ups_of k r in let xs = count_looks (take i ups) L.counts in let len = L.each in
+      let next : count_looks (take (i + 1) ups) (L.counts ++ v ∷ []) ≡ xs ++ look (count_word u) v ∷ [] =
+      looks_more count_word ups L.counts i v L.each lt ∙ ap (λ (w : ℕ). xs ++ look (count_word w) v ∷ []) at in
+      let offer = offers_more claimed v least least' L.counts (i == 0) (ap (λ (m : ℕ). m == 0) (sym len)) L.offered new in
+      let near : IsNear k r v = subst (λ (q : ReceiverRecord T). IsNear k q v) L.is (finds.1, finds.3) in
+      let told : r.told ≡ true → v ≤ length r.received = subst (λ (q : ReceiverRecord T). q.told ≡ true → v ≤ length q.received) L.is finds.2 in record {
+        counts = L.counts ++ v ∷ [];
+        each = omega (arith, length-append L.counts (v ∷ []));
+        is = is ∙ ap (λ (q : ReceiverRecord T). receiver_saw q (look (count_word u) v ∷ [])) L.is
+            ∙ ap (λ (ys : List Look). record r { looks = ys }) (append_assoc r.looks xs (look (count_word u) v ∷ [])) ∙ ap (receiver_saw r) (sym next);
+        offered = offer.0;
+        near = λ _. elim offer.3 [
+          | inl this ↦ subst (IsNear k r) (sym this) near
+          | inr old ↦ subst (IsNear k r) (sym old.1) (L.near (let z = old.0 in omega arith))
+        ];
+        found = λ _. elim offer.3 [
+          | inl this ↦ subst (λ (m : ℕ). Contains (L.counts ++ v ∷ []) m) (sym this) (contains_last L.counts v)
+          | inr old ↦ subst (λ (m : ℕ). Contains (L.counts ++ v ∷ []) m) (sym old.1) (contains_more L.counts least v (L.found (let z = old.0 in omega arith)))
+        ];
+        told = λ y _. (let a = told y in let low = offer.1 in omega arith);
+      }
+
+  -- at the last upstream it takes
+  pub round_last : (k : Shape) (r s s' : ReceiverRecord T) (room claimed least available i u v : ℕ) (hand hand' : Hand T) (lents : List (Lent T))
+      → IsStrictlyIncreasing (ups_of k r)
+      → LooksAtFirst k r claimed i s least → i + 1 ≡ length (ups_of k r) → get_or (ups_of k r) i 0 ≡ u
+      → length lents ≡ taken_at_count k s (count_word u) v room → s' ≡ receiver_looked s (count_word u) v lents → hand' ≡ taken_by_poll k s lents ++ hand
+      → FindsEvents k s (count_word u) v → available ≡ lesser_of (i == 0) v least → LooksPast k r claimed room available hand s' hand'
+  round_last k r s s' room claimed least available i u v hand hand' lents rising L last at many is in_hand finds new =
+      let ups = ups_of k r in let x = receiver_saw s (look (count_word u) v ∷ []) in
+      let A = first_more k r s x claimed least available i u v L (omega arith) at refl finds new in
+      let each : length A.counts ≡ length ups = A.each ∙ last in
+      let whole : take (i + 1) ups ≡ ups = take_whole ups (i + 1) (omega arith) in
+      let now : x ≡ receiver_saw r (count_looks ups A.counts) = A.is ∙ ap (λ (us : List ℕ). receiver_saw r (count_looks us A.counts)) whole in
+      let offer : barrier_seen k r.number (r.looks ++ count_looks ups A.counts) ≡ available =
+      barrier_is k r.number claimed r.looks A.counts rising each (omega arith) ∙ sym A.offered in record {
+        counts = A.counts;
+        each = each;
+        lents = lents;
+        many = many ∙ ap (λ (y : ReceiverRecord T). min room (barrier_seen k y.number y.looks - length y.received)) now
+            ∙ ap (λ (n : ℕ). min room (n - length r.received)) offer;
+        is = is ∙ ap (λ (y : ReceiverRecord T). record y { received = y.received ++ lents }) now;
+        in_hand = in_hand ∙ ap (λ (y : ReceiverRecord T). taken_by_poll k y lents ++ hand) L.is;
+        offered = A.offered;
+        near = A.near (omega arith);
+        found = A.found (omega arith);
+        told = λ told. A.told told (omega arith);
+      }

@@ -1,0 +1,109 @@
+-- What stands in a receiver's fields once it took events.
+use Rattle.std.proofs.Common.{◌≡◌, ℕ, ◌+◌, ◌-◌, ◌<◌, ◌≤◌, inl, inr, Bool, ◌==◌, if◌then◌else◌, min}
+use Rattle.std.proofs.Common.{List, ◌++◌, length, take, drop, sym, ap, ◌∙◌, subst, arith}
+use Rattle.std.proofs.lemmas.Bool.{cases_eq, cases_lt, eq-eqb, ne_eqb}
+use Rattle.std.proofs.lemmas.List.{length-append}
+use mathlib.Core.Option.{some}
+use lib.ListN.{get_elem?}
+use Rattle.atomic_table.proofs.Lists.{at_longer}
+use Rattle.dr_cells.specs.declared.token.Token.{Token}
+use Rattle.dr_seq.specs.Rounds.{entry_of}
+use Rattle.dr_seq.proofs.Apart.{slots_differ}
+use Rattle.dr_runs.specs.Stretches.{stretch}
+use Rattle.dr_runs.proofs.Lists.{take_whole}
+use Rattle.dr_runs.proofs.Elements.{there, at_below}
+use Rattle.dr_plain_senders.specs.Meaning.Shape.{Shape}
+use Rattle.dr_plain_senders.specs.Meaning.Words.{cell_of, lane_of}
+use Rattle.dr_plain_senders.specs.Meaning.Lying.{lent, part_of, placed}
+use Rattle.dr_plain_senders.specs.declared.record.Lent.{Lent}
+use Rattle.dr_plain_senders.specs.declared.record.ReceiverRecord.{ReceiverRecord}
+use Rattle.dr_plain_senders.specs.Meaning.Records.{taken_at_mark, is_marked_next}
+use Rattle.dr_plain_senders.specs.Calls.Ends.{ReceiverStand}
+use Rattle.dr_plain_senders.specs.Calls.Finds.{FindsNext}
+use Rattle.dr_plain_senders.specs.Inside.Fits.{ReceiverFits}
+use Rattle.dr_plain_senders.specs.Inside.Hands.{with_hand, blank_slots}
+use Rattle.dr_plain_senders.specs.Inside.Seats.{Hand, lent_all, taken_by_poll}
+use Rattle.dr_plain_senders.specs.Inside.Trades.{parts_between, blanks_between, PartsTaken}
+use Rattle.dr_plain_senders.proofs.Trading.{parts_count}
+use Rattle.dr_plain_senders.proofs.Taken.{blanks_both, drop_seam}
+
+module _ {T : Type 0} where
+  -- one look at a mark takes one event at most, which there is a cell for
+  pub next_count : (k : Shape) (r : ReceiverRecord T) (mark entry room count : ℕ) → room ≤ 1 → entry ≡ entry_of k.size (length r.received)
+      → count ≡ (if mark == entry then room else 0) → count ≡ taken_at_mark k r mark room
+  next_count k r mark entry room count few is count_is =
+      count_is ∙ ap (λ (n : ℕ). if mark == n then room else 0) is
+      ∙ (let least : room ≡ min room 1 = omega arith in ap (λ (n : ℕ). if is_marked_next k r mark then n else 0) least)
+
+  pub next_near : (e : ReceiverStand T) (t c : ℕ) (parts : List (Token T)) (mark room count : ℕ) → ReceiverFits e t c parts → FindsNext e.plan e.knows mark
+      → room ≤ 1 → count ≡ taken_at_mark e.plan e.knows mark room → t + count ≤ c + e.plan.size
+  next_near e t c parts mark room count F finds few is =
+      let entry = entry_of e.plan.size (length e.knows.received) in let near = F.near in let all = F.taken in let done = F.completed in
+      elim (cases_eq mark entry) [
+        | inl same ↦ (let lt = (finds same).1 in
+            let n : count ≡ min room 1 = is ∙ ap (λ (b : Bool). if b then min room 1 else 0) (eq-eqb mark entry same) in omega arith)
+        | inr other ↦ (let n : count ≡ 0 = is ∙ ap (λ (b : Bool). if b then min room 1 else 0) (ne_eqb mark entry other) in omega arith)
+      ]
+
+-- a receiver's station took these events, whose parts are first in hand
+module _ {T : Type 0} (e e' : ReceiverStand T) (t c count : ℕ) (parts : List (Token T)) (lents : List (Lent T)) (F : ReceiverFits e t c parts)
+    (plan : e'.plan ≡ e.plan) (number : e'.knows.number ≡ e.knows.number) (done : e'.knows.completed ≡ e.knows.completed)
+    (received : e'.knows.received ≡ e.knows.received ++ lents) (in_hand : e'.hand ≡ taken_by_poll e.plan e.knows lents ++ e.hand)
+    (many : length lents ≡ count) (near : t + count ≤ c + e.plan.size) where
+  pub received_count : length e'.knows.received ≡ t + count
+  received_count = let all = F.taken in ap length received ∙ omega (arith, length-append e.knows.received lents)
+
+  pub may_take : (t ≤ t + count) × (t + count ≤ length e'.knows.received) × (t + count ≤ t + e'.plan.size)
+  may_take = let len = received_count in let rises = F.rises in
+      let size : e'.plan.size ≡ e.plan.size = ap (λ (p : Shape). p.size) plan in (omega arith, omega arith, omega arith)
+
+  pub parts_room : length parts ≡ e'.plan.size
+  parts_room = F.parts.count ∙ ap (λ (p : Shape). p.size) (sym plan)
+
+  pub new_in_hand : e'.hand ≡ parts_between e'.plan e'.knows t (t + count) ++ e.hand
+  new_in_hand =
+      let n : t + count - t ≡ count = omega arith in
+      let behind : drop t e'.knows.received ≡ lents = ap (λ (xs : List (Lent T)). drop t xs) received ∙ drop_seam e.knows.received lents t (sym F.taken) in
+      let new : take (t + count - t) (drop t e'.knows.received) ≡ lents = (λ i. take (n i) (behind i)) ∙ take_whole lents count (omega arith) in
+      in_hand ∙ (λ i. stretch (placed (sym plan i) (lane_of (sym number i))) (sym F.taken i) (lent_all (sym new i)) ++ e.hand)
+
+  -- what it had in hand, behind what it took
+  old_in_hand : drop (t + count - t) e'.hand ≡ blanks_between e'.plan e'.knows e'.knows.completed t
+  old_in_hand =
+      let may = may_take in
+      ap (λ (h : Hand T). drop (t + count - t) h) new_in_hand
+      ∙ drop_seam (parts_between e'.plan e'.knows t (t + count)) e.hand (t + count - t) (parts_count e'.plan e'.knows t (t + count) may.1)
+      ∙ F.hand ∙ (λ i. blank_slots (sym plan i) (lane_of (sym number i)) (sym done i) (sym F.taken i - sym done i))
+
+  module _ (parts' : List (Token T)) (P : PartsTaken e'.plan e'.knows t (t + count) parts parts') where
+    held_still : (q : ℕ) (l : Lent T) → e'.knows.completed ≤ q → q < t → get_elem? e'.knows.received q ≡ some l
+        → get_elem? parts' (cell_of e'.plan q) ≡ some (part_of e'.plan q (lent l))
+    held_still q l low lt at =
+        let rises = F.rises in let all = F.taken in let is_done = F.completed in
+        let size : e'.plan.size ≡ e.plan.size = ap (λ (p : Shape). p.size) plan in
+        let a = there e.knows.received q (omega arith) in
+        let same : some a.0 ≡ some l = sym (at_longer e.knows.received lents q a.0 a.1) ∙ ap (λ (xs : List (Lent T)). get_elem? xs q) (sym received) ∙ at in
+        P.others (cell_of e'.plan q) (λ p from to. slots_differ e'.plan.size p q (λ (z : p ≡ q). omega arith) (omega arith) (omega arith))
+        ∙ subst (λ (p : Shape). get_elem? parts (cell_of p q) ≡ some (part_of p q (lent l))) (sym plan) (F.parts.held q l (omega arith) (a.1 ∙ same))
+
+    pub fits_taken : (s : ReceiverStand T) → s ≡ with_hand e' (drop (t + count - t) e'.hand ++ blanks_between e'.plan e'.knows t (t + count))
+        → ReceiverFits s (t + count) c parts'
+    fits_taken s is =
+        let rises = F.rises in let is_done = F.completed in let len = received_count in
+        let size : e'.plan.size ≡ e.plan.size = ap (λ (p : Shape). p.size) plan in
+        subst (λ (x : ReceiverStand T). ReceiverFits x (t + count) c parts') (sym is) (record {
+          taken = sym len;
+          completed = is_done ∙ sym done;
+          rises = omega arith;
+          near = omega arith;
+          parts = record {
+            count = P.count ∙ parts_room;
+            held = λ q l low at. (let inside = at_below e'.knows.received q l at in elim (cases_lt q t) [
+              | inl lt ↦ held_still q l low lt at
+              | inr ge ↦ P.taken q l ge (omega arith) at
+            ]);
+          };
+          hand = ap (λ (h : Hand T). h ++ blanks_between e'.plan e'.knows t (t + count)) old_in_hand
+              ∙ sym (blanks_both e'.plan e'.knows e'.knows.completed t (t + count) (omega arith) (omega arith))
+              ∙ ap (λ (n : ℕ). blanks_between e'.plan e'.knows e'.knows.completed n) (sym len);
+        })

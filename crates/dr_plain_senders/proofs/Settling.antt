@@ -1,0 +1,90 @@
+-- What a run of a ring says of its ends, once they come together.
+use Rattle.std.proofs.Common.{◌≡◌, ℕ, suc, ◌+◌, ◌≤◌, Bool, List, [], ◌∷◌, cond, length, take, Option, Some, sym, refl, ap, ◌∙◌, subst, arith}
+use Rattle.std.specs.List.{take_while, filter_map, cons_option}
+use Rattle.std.specs.Prelude.{Contains, is_some}
+use Rattle.std.proofs.lemmas.List.Sums.{take_while-cons}
+use mathlib.Core.Option.{some, some-injective, some-ne-none}
+use lib.ListN.{get_elem?}
+use Rattle.dr_graph.specs.Meaning.Graph.{upstreams_of}
+use Rattle.dr_plain_senders.specs.Meaning.Shape.{Shape}
+use Rattle.dr_plain_senders.specs.Meaning.Words.{count_word}
+use Rattle.dr_plain_senders.specs.declared.record.Lent.{Lent}
+use Rattle.dr_plain_senders.specs.declared.record.Stage.{Stage}
+use Rattle.dr_plain_senders.specs.declared.record.ReceiverRecord.{ReceiverRecord}
+use Rattle.dr_plain_senders.specs.Meaning.Records.{is_published}
+use Rattle.dr_plain_senders.specs.Meaning.Rule.{World, IsOutWith, KeepsRule}
+use Rattle.dr_plain_senders.specs.Meaning.Settling.{HasBeginning, FollowsUpstream, IsSent, Settles}
+use Rattle.dr_plain_senders.proofs.Places.{word_at}
+use Rattle.dr_plain_senders.proofs.Owners.{AllOwned}
+
+module _ {T : Type 0} where
+  abbrev out_of : List (Stage T) → List (Lent T)
+  out_of ts = filter_map (λ (t : Stage T). t.lent) (take_while is_published ts)
+
+  -- each event of a list is that of its sequence, which is published
+  abbrev AreOut : List (Lent T) → List (Stage T) → Type 0
+  AreOut ls ts = (s : ℕ) (l : Lent T) → get_elem? ls s ≡ some l → IsOutWith ts s l
+
+  -- the events of a published sequence and of those behind it
+  out_cons : (l : Lent T) (t : Stage T) (ts : List (Stage T)) → t.lent ≡ Some l → out_of (t ∷ ts) ≡ l ∷ out_of ts
+  out_cons l t ts out =
+      ap (filter_map (λ (x : Stage T). x.lent)) (take_while-cons is_published t ts ∙ ap (λ (b : Bool). cond b (t ∷ take_while is_published ts) []) (ap is_some out))
+      ∙ ap (λ (o : Option (Lent T)). cons_option o (out_of ts)) out
+
+  out_next : (l : Lent T) (ls : List (Lent T)) (t : Stage T) (ts : List (Stage T)) → AreOut (l ∷ ls) (t ∷ ts) → (out_of (t ∷ ts) ≡ l ∷ out_of ts) × AreOut ls ts
+  out_next l ls t ts all =
+      let first = all 0 l refl in let same : t ≡ first.0 = some-injective t first.0 first.1 in
+      (out_cons l t ts (ap (λ (x : Stage T). x.lent) same ∙ first.2), λ s m at. all (suc s) m at)
+
+  first_events : (ls : List (Lent T)) (ts : List (Stage T)) → AreOut ls ts → (ls ≡ take (length ls) (out_of ts)) × (length ls ≤ length (out_of ts))
+  first_events [] ts all = (refl, omega arith)
+  first_events (l ∷ ls) [] all = let first = all 0 l refl in absurd (some-ne-none first.0 (sym first.1))
+  first_events (l ∷ ls) (t ∷ ts) all =
+      let next = out_next l ls t ts all in let rest = first_events ls ts next.1 in
+      let len : length (out_of (t ∷ ts)) ≡ suc (length (out_of ts)) = ap length next.0 in let le = rest.1 in (
+        ap (λ (xs : List (Lent T)). l ∷ xs) rest.0 ∙ ap (take (suc (length ls))) (sym next.0),
+        omega arith,
+      )
+
+  all_events : (ls : List (Lent T)) (ts : List (Stage T)) → AreOut ls ts → length ts ≤ length ls → (ls ≡ out_of ts) × (length ls ≡ length ts)
+  all_events [] [] all le = (refl, refl)
+  all_events [] (t ∷ ts) all le = absurd (omega arith)
+  all_events (l ∷ ls) [] all le = let first = all 0 l refl in absurd (some-ne-none first.0 (sym first.1))
+  all_events (l ∷ ls) (t ∷ ts) all le =
+      let next = out_next l ls t ts all in let rest = all_events ls ts next.1 (omega arith) in
+      (ap (λ (xs : List (Lent T)). l ∷ xs) rest.0 ∙ sym next.0, ap suc rest.1)
+
+  has_beginning : (k : Shape) (w : World T) (h : ℕ) (r : ReceiverRecord T) → get_elem? w.receivers h ≡ some r → KeepsRule k w → HasBeginning k w r
+  has_beginning k w h r at K =
+      let was = K.received h r at in let first = first_events r.received w.stages was.beginning in record {
+        beginning = first.0;
+        taken = first.1;
+        drained = λ told. all_events r.received w.stages was.beginning (was.told told).1;
+        completed = was.completed;
+        room = λ has. (let e : length w.stages ≤ k.size + word_at w.words (count_word r.number) = K.room r.number has in
+            let count : word_at w.words (count_word r.number) ≡ r.completed = ap (λ (n : ℕ). word_at w.words (count_word n)) was.number ∙ was.count in
+            omega arith);
+      }
+
+  follows : (k : Shape) (w : World T) (h j : ℕ) (r u : ReceiverRecord T) → get_elem? w.receivers h ≡ some r → get_elem? w.receivers j ≡ some u → KeepsRule k w
+      → FollowsUpstream k r u
+  follows k w h j r u at there K has =
+      let was = K.received h r at in let other = K.received j u there in
+      let here = subst (λ (n : ℕ). Contains (upstreams_of k.upstreams n) u.number) was.number has in
+      let le : length r.received ≤ word_at w.words (count_word j) =
+      was.after j (subst (λ (n : ℕ). Contains (upstreams_of k.upstreams h) n) other.number here) in
+      let count : word_at w.words (count_word j) ≡ u.completed = other.count in omega arith
+
+  is_sent : (k : Shape) (w : World T) (h s : ℕ) (r : ReceiverRecord T) (l : Lent T) → get_elem? w.receivers h ≡ some r → get_elem? r.received s ≡ some l
+      → KeepsRule k w → AllOwned w → IsSent w s l
+  is_sent k w h s r l at there K all = let x = (K.received h r at).beginning s l there in let own = all s x.0 x.1 in (own.0, x.0, own.1, own.2, x.2)
+
+  -- the ends of a run agree
+  pub settles : (k : Shape) (w : World T) → KeepsRule k w → AllOwned w → Settles k w
+  settles k w K all = record {
+    claimed = all;
+    owned = λ p i r o at own. (let S = K.sent p r at in let is = S.own i o own in (is.0 ∙ sym S.number, is.1));
+    each = λ h r at. has_beginning k w h r at K;
+    sent = λ h s r l at there. is_sent k w h s r l at there K all;
+    follow = λ h j r u at there. follows k w h j r u at there K;
+  }

@@ -1,0 +1,45 @@
+-- What a look may find: no word that is looked at falls. And what an exchange comes to.
+use Rattle.std.specs.Prelude.{◌≡◌, ℕ, ◌+◌, ◌<◌, ◌≤◌, ◌==◌, if◌then◌else◌, true, List, length, Some, None}
+use Rattle.dr_seq.specs.Rounds.{entry_of}
+use Rattle.dr_runs.specs.declared.look.Look.{Look}
+use Rattle.dr_runs.specs.Looks.{last_look}
+use Rattle.dr_plain_senders.specs.Meaning.Shape.{Shape}
+use Rattle.dr_plain_senders.specs.Meaning.Words.{claim_word, claimed_in, is_halted}
+use Rattle.dr_plain_senders.specs.declared.record.Lent.{Lent}
+use Rattle.dr_plain_senders.specs.declared.record.Stage.{Stage}
+use Rattle.dr_plain_senders.specs.declared.record.SenderRecord.{SenderRecord}
+use Rattle.dr_plain_senders.specs.declared.record.ReceiverRecord.{ReceiverRecord}
+use Rattle.dr_plain_senders.specs.Meaning.Records.{Owns, sender_looked, claimed_from}
+
+abbrev pub FindsMore : List Look → ℕ → ℕ → Type 0
+FindsMore looks word n = last_look 0 looks word ≤ n
+
+-- how many an exchange of c for c + n claims
+abbrev pub exchanged : ℕ → ℕ → ℕ → ℕ
+exchanged c n found = if found == c then n else 0
+
+module _ {T : Type 0} where
+  -- no fewer sequences are claimed than a receiver took, and no more than it took where it was told that the ring drained
+  abbrev pub FindsClaims : ReceiverRecord T → ℕ → Type 0
+  FindsClaims r n = (last_look 0 r.looks claim_word ≤ n) × (length r.received ≤ claimed_in n) × (r.told ≡ true → (is_halted n ≡ true) × (claimed_in n ≡ length r.received))
+
+  -- an upstream completed no less than a receiver took, no more where it was told that the ring drained, nor more than a round beyond what it completed
+  abbrev pub FindsEvents : Shape → ReceiverRecord T → ℕ → ℕ → Type 0
+  FindsEvents k r word n =
+      (last_look 0 r.looks word ≤ n) × (length r.received ≤ n) × (r.told ≡ true → n ≤ length r.received) × (n ≤ k.size + r.completed)
+
+  -- who was told that the ring drained finds no mark of its next event, nor does who has a whole round in hand
+  abbrev pub FindsNext : Shape → ReceiverRecord T → ℕ → Type 0
+  FindsNext k r n = n ≡ entry_of k.size (length r.received) → (r.told ≡ true → ⊥) × (length r.received < k.size + r.completed)
+
+  -- a sequence that a sender has is claimed before another claim from c up to n, and published where that takes its cell
+  abbrev pub IsEarlier : Shape → ℕ → ℕ → ℕ → Stage T → Type 0
+  IsEarlier k c n s t = (s < c) × (t.lent ≡ None → n ≤ s + k.size)
+
+  -- the mark of a sender's own sequence is there once it is published
+  abbrev pub FindsMark : Shape → SenderRecord T → ℕ → ℕ → Type 0
+  FindsMark k r s n = (t : Stage T) (l : Lent T) → Owns r s t → t.lent ≡ Some l → entry_of k.size s ≤ n
+
+  -- a sender's exchange of c for c + n claims where it finds c, and is a look where it finds another number
+  abbrev pub after_exchange : SenderRecord T → ℕ → ℕ → ℕ → SenderRecord T
+  after_exchange r c n found = if found == c then claimed_from r c n else sender_looked r claim_word found

@@ -1,0 +1,113 @@
+-- What a sender's claim answers, and what it leaves of what the sender knows.
+use Rattle.std.specs.Prelude.{◌≡◌, ◌≢◌, ℕ, ◌+◌, ◌-◌, ◌^◌, ◌<◌, ◌≤◌, ◌⊎◌, true, false, List, [], ◌∷◌, ◌++◌, length, slice_index, replicate, Some, None, Option, Result, Ok, Err}
+use mathlib.Core.Option.{some}
+use lib.ListN.{get_elem?}
+use Rattle.dr_seq.specs.Size.{IsSize}
+use Rattle.dr_meaning.specs.declared.refusal.Refusal.TheVariants.{NoRoom, Halted, BadCount, Exhausted}
+use Rattle.dr_meaning.specs.declared.command.Claimed.{Claimed}
+use Rattle.dr_graph.specs.Meaning.Graph.{finals}
+use Rattle.dr_runs.specs.declared.look.Look.{Look}
+use Rattle.dr_runs.specs.Looks.{look}
+use Rattle.dr_plain_senders.specs.Meaning.Shape.{Shape}
+use Rattle.dr_plain_senders.specs.Meaning.Words.{claim_word, is_halted, cell_of}
+use Rattle.dr_plain_senders.specs.Meaning.Records.{fresh_own}
+use Rattle.dr_plain_senders.specs.declared.record.SenderRecord.{SenderRecord}
+use Rattle.dr_plain_senders.specs.declared.record.Step.{Step}
+use Rattle.dr_plain_senders.specs.declared.record.Step.TheVariants.{SenderClaims}
+use Rattle.dr_plain_senders.specs.declared.claiming.ClaimFault.{ClaimFault}
+use Rattle.dr_plain_senders.specs.declared.claiming.ClaimFault.TheVariants.{Refused, Contended}
+use Rattle.dr_plain_senders.specs.Meaning.Lying.{Laid}
+use Rattle.dr_plain_senders.specs.Inside.Seats.{LayIn, taken_by_claim}
+use Rattle.dr_runs.specs.Runs.{IsBeginning}
+use Rattle.dr_plain_senders.specs.Calls.Ends.{SenderStand, SenderEnd, Stays, at_station, count_looks}
+
+-- a claim looks at the finals' counts in rising order
+abbrev pub gate_looks : Shape → List ℕ → List Look
+gate_looks k counts = count_looks (finals k.upstreams) counts
+
+-- a count leaves room for n from c on
+abbrev pub LeavesRoom : Shape → ℕ → ℕ → ℕ → Type 0
+LeavesRoom k c n count = c + n ≤ k.size + count
+
+-- there is room for n from c on: within the limit, and the sender looked at each final, and each leaves room
+pub record FoundRoom (k : Shape) (c n : ℕ) (counts : List ℕ) : Type 0 where
+  pub going : is_halted c ≡ false
+  pub limit : c + n ≤ k.limit
+  pub all : length counts ≡ length (finals k.upstreams)
+  pub room : (i : ℕ) → i < length counts → LeavesRoom k c n (slice_index counts i)
+
+-- there is none: the last count at which the sender looked is the first that leaves no room
+pub record FoundNoRoom (k : Shape) (c n : ℕ) (counts : List ℕ) : Type 0 where
+  pub going : is_halted c ≡ false
+  pub limit : c + n ≤ k.limit
+  pub before : ℕ
+  pub last : length counts ≡ before + 1
+  pub among : length counts ≤ length (finals k.upstreams)
+  pub room : (i : ℕ) → i < before → LeavesRoom k c n (slice_index counts i)
+  pub behind : k.size + slice_index counts before < c + n
+
+-- a claim is of some sequences, at most as many as there are slots
+abbrev pub IsCount : Shape → ℕ → Type 0
+IsCount k n = (0 < n) × (n ≤ k.size)
+
+-- a bad count is refused before all else
+abbrev pub Counts : Shape → ℕ → Result Claimed ClaimFault → Type 0
+Counts k n (Err (Refused BadCount)) = (n ≡ 0) ⊎ (k.size < n)
+Counts k n _ = IsCount k n
+
+module _ {T : Type 0} where
+  -- where a claim of the sender p looked, what it found, and what it exchanged: it looked at the claim word first, then at the finals' counts, and where it found room it exchanged the claim word from what it found there, by which it is decided
+  abbrev pub LooksToClaim : Shape → ℕ → ℕ → List Look → List (Step T) → Result Claimed ClaimFault → Type 0
+  LooksToClaim k p n seen steps (Ok c) =
+      (counts : List ℕ) × FoundRoom k c.lo n counts × (c.hi ≡ c.lo + n - 1) × (seen ≡ look claim_word c.lo ∷ gate_looks k counts ++ look claim_word (c.lo + n) ∷ [])
+      × (steps ≡ SenderClaims p c.lo n ∷ [])
+  LooksToClaim k p n seen steps (Err (Refused BadCount)) = (seen ≡ []) × (steps ≡ [])
+  LooksToClaim k p n seen steps (Err (Refused Halted)) =
+      (found : ℕ) × (is_halted found ≡ true) × (((seen ≡ look claim_word found ∷ []) × (steps ≡ []))
+      ⊎ ((c : ℕ) × (counts : List ℕ) × FoundRoom k c n counts × (seen ≡ look claim_word c ∷ gate_looks k counts ++ look claim_word found ∷ []) × (steps ≡ SenderClaims p c n ∷ [])))
+  LooksToClaim k p n seen steps (Err (Refused Exhausted)) =
+      (found : ℕ) × (is_halted found ≡ false) × (k.limit < found + n) × (seen ≡ look claim_word found ∷ []) × (steps ≡ [])
+  LooksToClaim k p n seen steps (Err (Refused NoRoom)) =
+      (c : ℕ) × (counts : List ℕ) × FoundNoRoom k c n counts × (seen ≡ look claim_word c ∷ gate_looks k counts) × (steps ≡ [])
+  LooksToClaim k p n seen steps (Err (Refused other)) = ⊥
+  -- another sender claimed between the first look and the exchange
+  LooksToClaim k p n seen steps (Err Contended) =
+      (c found : ℕ) × (counts : List ℕ) × FoundRoom k c n counts × (found ≢ c) × (is_halted found ≡ false)
+      × (seen ≡ look claim_word c ∷ gate_looks k counts ++ look claim_word found ∷ []) × (steps ≡ SenderClaims p c n ∷ [])
+
+  -- what a sender knows after a claim: its looks, and the stretch where it is given
+  abbrev pub knows_after : SenderRecord T → ℕ → List Look → Result Claimed ClaimFault → SenderRecord T
+  knows_after r n seen (Ok c) = record r { own = r.own ++ fresh_own r.number c.lo n; looks = r.looks ++ seen }
+  knows_after r n seen (Err fault) = record r { looks = r.looks ++ seen }
+
+  -- the slots that the stretch has are in hand, with what lay in them, and else the same
+  abbrev pub ClaimTakes : SenderStand T → ℕ → SenderStand T → Result Claimed ClaimFault → Type 0
+  ClaimTakes e n e' (Ok c) = (laid : List (Laid T)) × LayIn e.plan c.lo n laid × (e'.hand ≡ taken_by_claim e.plan c.lo laid ++ e.hand)
+  ClaimTakes e n e' (Err fault) = e'.hand ≡ e.hand
+
+  pub record ClaimCall (e : SenderStand T) (n : ℕ) (e' : SenderStand T) (result : Result Claimed ClaimFault) : Type 0 where
+    pub stays : Stays e e'
+    pub counts : Counts e.plan n result
+    pub seen : List Look
+    pub steps : List (Step T)
+    pub looks : LooksToClaim e.plan e.knows.number n seen steps result
+    pub knows : e'.knows ≡ knows_after e.knows n seen result
+    pub stored : e'.stored ≡ e.stored ++ steps
+    pub past : IsBeginning e.past e'.past
+    -- so no sequence reaches 2^62, and no claim is of more than 65,536
+    pub few : e.plan.limit ≤ 2 ^ 62
+    pub size : IsSize e.plan.size
+
+  -- something lies in the cell of each sequence of a stretch, and what lies in all others is as before
+  pub record GainsCells (k : Shape) (lo n : ℕ) (cells cells' : List (Option T)) : Type 0 where
+    pub gained : (s : ℕ) → lo ≤ s → s < lo + n → (x : T) × (get_elem? cells' (cell_of k s) ≡ some (Some x))
+    pub others : (i : ℕ) → ((s : ℕ) → lo ≤ s → s < lo + n → cell_of k s ≢ i) → get_elem? cells' i ≡ get_elem? cells i
+
+  -- nothing is written of what a claim adds
+  abbrev pub ClaimGains : SenderEnd T → ℕ → SenderEnd T → Result Claimed ClaimFault → Type 0
+  ClaimGains e n e' (Ok c) = (e'.writes ≡ e.writes ++ replicate n None) × GainsCells e.plan c.lo n e.cells e'.cells
+  ClaimGains e n e' (Err fault) = (e'.writes ≡ e.writes) × (e'.cells ≡ e.cells)
+
+  -- the call of a sender's end
+  abbrev pub SenderClaimCall : SenderEnd T → ℕ → SenderEnd T → Result Claimed ClaimFault → Type 0
+  SenderClaimCall e n e' result = ClaimCall (at_station e) n (at_station e') result × ClaimGains e n e' result

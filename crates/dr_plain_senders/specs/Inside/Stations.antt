@@ -1,0 +1,54 @@
+-- The ends of a ring, each at its station, with the seat that stands for it.
+use Rattle.std.specs.Prelude.{◌≡◌, ℕ, ◌<◌}
+use denote.RawPtr.{Ptr}
+use Rattle.atomic_table.specs.Seated.{TableId}
+use Rattle.dr_runs.specs.Seats.{past_of}
+use Rattle.dr_runs.specs.Looks.{looks_counted}
+use Rattle.dr_plain_senders.specs.Meaning.Shape.{Shape, handlers_of}
+use Rattle.dr_plain_senders.specs.Calls.Plans.{IsPlan}
+use Rattle.dr_plain_senders.specs.Calls.Ends.{SenderStand, ReceiverStand, HalterStand}
+use Rattle.dr_plain_senders.specs.declared.gathered.Gathered.{Gathered}
+use Rattle.dr_plain_senders.specs.Inside.Gathered.{HasPlaces}
+use Rattle.dr_plain_senders.specs.Inside.Seats.{End, Sitting, IsAtTable, stored_of, sender_of, receiver_of, halter_of, IsSender, IsReceiver, IsHalter}
+
+-- the table's rule is the ring's, for its plan
+pub record IsKeyed (table_key k : Shape) : Type 0 where
+  pub key : table_key ≡ k
+  pub made : IsPlan k
+
+module _ {T : Type 0} where
+  -- the end that a seat at a table stands for
+  abbrev pub sender_stand : TableId → Shape → Sitting T → SenderStand T
+  sender_stand ring k me = record { ring = ring; plan = k; knows = sender_of me.0.ends; hand = me.1; past = past_of me.0; stored = stored_of me.0 }
+
+  abbrev pub receiver_stand : TableId → Shape → Sitting T → ReceiverStand T
+  receiver_stand ring k me = record { ring = ring; plan = k; knows = receiver_of me.0.ends; hand = me.1; past = past_of me.0; stored = stored_of me.0 }
+
+  abbrev pub halter_stand : TableId → Shape → Sitting T → HalterStand T
+  halter_stand ring k me = record { ring = ring; plan = k; knows = halter_of me.0.ends; hand = me.1; past = past_of me.0; stored = stored_of me.0 }
+
+  -- an end's seat is at the table of its ring and stands for that end alone, and its looks are counted
+  pub record SenderSits (at seat : TableId) (key k : Shape) (me : End T) (number looked : ℕ) : Type 0 where
+    pub table : IsAtTable seat at k
+    pub keyed : IsKeyed key k
+    pub end : IsSender me
+    pub own : (sender_of me.0).number ≡ number
+    pub sender : number < k.senders
+    pub looks : looked ≡ looks_counted (sender_of me.0).looks
+
+  pub record ReceiverSits (at seat : TableId) (key k : Shape) (me : End T) (number looked : ℕ) : Type 0 where
+    pub table : IsAtTable seat at k
+    pub keyed : IsKeyed key k
+    pub end : IsReceiver me
+    pub own : (receiver_of me.0).number ≡ number
+    pub handler : number < handlers_of k
+    pub looks : looked ≡ looks_counted (receiver_of me.0).looks
+
+  -- the halter has the strip's memory too, and places for what the ends bring once they come together
+  pub record HalterSits (at seat : TableId) (key k : Shape) (me : End T) (start : Ptr) (len : ℕ) (gathered : Gathered T) : Type 0 where
+    pub table : IsAtTable seat at k
+    pub keyed : IsKeyed key k
+    pub end : IsHalter me
+    pub strip : k.strip ≡ start
+    pub cells : k.size ≡ len
+    pub places : HasPlaces (handlers_of k) k.size gathered

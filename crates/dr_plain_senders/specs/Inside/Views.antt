@@ -1,0 +1,21 @@
+-- How an end's caller sees it.
+use Rattle.std.specs.Prelude.{List}
+use Rattle.dr_cells.specs.declared.token.Token.{Token}
+use Rattle.dr_plain_senders.specs.declared.owned.Owned.{Owned}
+use Rattle.dr_plain_senders.specs.Calls.Ends.{SenderStand, SenderEnd, ReceiverStand, ReceiverEnd}
+use Rattle.dr_plain_senders.specs.Inside.Fits.{cells_of, writes_of}
+
+module _ {T : Type 0} where
+  abbrev pub sender_end : SenderStand T → Owned → List (Token T) → SenderEnd T
+  sender_end e o tokens = record {
+    ring = e.ring;
+    plan = e.plan;
+    knows = e.knows;
+    writes = writes_of e.plan o tokens e.knows.own;
+    cells = cells_of tokens;
+    past = e.past;
+    stored = e.stored;
+  }
+
+  abbrev pub receiver_end : ReceiverStand T → ReceiverEnd T
+  receiver_end e = record { ring = e.ring; plan = e.plan; knows = e.knows; past = e.past; stored = e.stored }

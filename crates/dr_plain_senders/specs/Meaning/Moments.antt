@@ -1,0 +1,141 @@
+-- What each list of steps comes to, from a ring's opening.
+use Rattle.std.specs.Prelude.{◌≡◌, ℕ, zero, suc, ◌+◌, ◌-◌, ◌<◌, ◌≤◌, ◌==◌, if◌then◌else◌, true, false, List, [], ◌∷◌, ◌++◌, map, length, replicate}
+use Rattle.std.specs.Prelude.{slice_index, slice_index_or, Option, Some, None, nat_le, take, drop, Contains}
+use Rattle.std.specs.List.{range_with_len, filter_map}
+use mathlib.Core.Option.{some}
+use lib.ListN.{get_elem?}
+use Rattle.dr_seq.specs.Rounds.{entry_of}
+use Rattle.dr_meaning.specs.declared.command.Command.TheVariants.{Claim, Write, Publish, Poll, Complete, Halt}
+use Rattle.dr_meaning.specs.declared.refusal.Refusal.TheVariants.{NotClaimed, AlreadyPublished}
+use Rattle.dr_meaning.specs.declared.command.Reply.TheVariants.{Refused, Claimed, Written, Published, Batch, Completed, Halting}
+use Rattle.dr_meaning.specs.Meaning.Machine as machine
+use Rattle.dr_meaning.specs.Meaning.Machine.{State, available}
+use Rattle.dr_meaning.specs.Meaning.Transcript.{Transcript}
+use Rattle.dr_runs.specs.Runs as runs
+use Rattle.dr_runs.specs.Entries.{entry, told_drained}
+use Rattle.dr_plain_senders.specs.Meaning.Shape.{Shape, handlers_of, ring_setup}
+use Rattle.dr_plain_senders.specs.Meaning.Words.{claim_word, is_halted, count_word, mark_word, words_of}
+use Rattle.dr_plain_senders.specs.declared.record.Lent.{Lent}
+use Rattle.dr_plain_senders.specs.declared.record.Stage.{Stage}
+use Rattle.dr_plain_senders.specs.declared.record.SenderRecord.{SenderRecord}
+use Rattle.dr_plain_senders.specs.declared.record.ReceiverRecord.{ReceiverRecord}
+use Rattle.dr_plain_senders.specs.declared.record.Step.{Step}
+use Rattle.dr_plain_senders.specs.declared.record.Step.TheVariants.{SenderLooksAtClaims, SenderLooksAtCount, SenderClaims, SenderPublishes, SenderLooksAtMark, SenderHalts}
+use Rattle.dr_plain_senders.specs.declared.record.Step.TheVariants.{ReceiverLooksAtClaims, ReceiverLooksAtMark, ReceiverLooksAtCount, ReceiverCompletes, HalterHalts}
+use Rattle.dr_plain_senders.specs.Meaning.Records.{fresh_stage, is_published, tells_drained, taken_at_mark, taken_at_count}
+use Rattle.dr_plain_senders.specs.Meaning.Rule.{World}
+use Rattle.dr_plain_senders.specs.Meaning.Steps.{Happens}
+
+module _ {T : Type 0} where
+  abbrev pub fresh_sender : ℕ → SenderRecord T
+  fresh_sender p = record { number = p; own = []; marks = []; looks = [] }
+
+  -- n senders, from the number p on
+  abbrev pub fresh_senders : ℕ → ℕ → List (SenderRecord T)
+  fresh_senders p zero = []
+  fresh_senders p (suc n) = fresh_sender p ∷ fresh_senders (suc p) n
+
+  abbrev pub fresh_receiver : ℕ → ReceiverRecord T
+  fresh_receiver h = record { number = h; received = []; marks = []; completed = 0; told = false; looks = [] }
+
+  -- n receivers, from the number h on
+  abbrev pub fresh_receivers : ℕ → ℕ → List (ReceiverRecord T)
+  fresh_receivers h zero = []
+  fresh_receivers h (suc n) = fresh_receiver h ∷ fresh_receivers (suc h) n
+
+  -- a new ring: each word is 0
+  abbrev pub new_world : Shape → World T
+  new_world k = record {
+    words = replicate (words_of k) 0;
+    stages = [];
+    senders = fresh_senders 0 k.senders;
+    receivers = fresh_receivers 0 (handlers_of k);
+    halter = record { looks = [] };
+  }
+
+  abbrev pub taken_of : ReceiverRecord T → ℕ
+  taken_of r = length r.received
+
+  -- a sequence's stage, also where it is not claimed
+  abbrev pub stage_at : List (Stage T) → ℕ → Stage T
+  stage_at stages s = slice_index_or stages s (fresh_stage 0)
+
+  abbrev pub event_in : Option (Lent T) → Option T
+  event_in None = None
+  event_in (Some l) = Some l.event
+
+  abbrev pub event_of : Stage T → Option T
+  event_of t = event_in t.lent
+
+  -- what the machine is, where the ring is so
+  abbrev pub picture_of : Shape → World T → State T
+  picture_of k w = record (machine.opening (ring_setup k)) {
+    owners = map (λ t. t.owner) w.stages;
+    written = λ s. event_of (stage_at w.stages s);
+    published = λ s. is_published (stage_at w.stages s);
+    taken = map taken_of w.receivers;
+    completed = map (λ h. slice_index w.words (count_word h)) (range_with_len 0 (handlers_of k));
+    halted = is_halted (slice_index w.words claim_word);
+  }
+
+  abbrev pub receiver_at : World T → ℕ → ReceiverRecord T
+  receiver_at w h = slice_index_or w.receivers h (fresh_receiver 0)
+
+  -- the events of n sequences from s on, as far as they are published
+  abbrev pub events_from : List (Stage T) → ℕ → ℕ → List T
+  events_from stages s n = filter_map event_of (take n (drop s stages))
+
+  -- the poll that hands out these events, where some are handed out
+  abbrev pub poll_of : ℕ → ℕ → List T → ℕ → Transcript T
+  poll_of h taken [] available = []
+  poll_of h taken (event ∷ events) available =
+      entry (Poll h (length (event ∷ events))) (Batch taken (length (event ∷ events)) (taken + length (event ∷ events) == available)) (event ∷ events)
+
+  -- what a receiver takes at a look, so many
+  abbrev pub batch_of : Shape → World T → ℕ → ReceiverRecord T → ℕ → Transcript T
+  batch_of k w h r n = poll_of h (length r.received) (events_from w.stages (length r.received) n) (available (ring_setup k) (picture_of k w) h)
+
+  -- the writes of events by the sender p to its sequences from s on, each with the publication
+  abbrev pub published_by : ℕ → ℕ → List T → Transcript T
+  published_by p s [] = []
+  published_by p s (event ∷ events) = entry (Write p s event) Written [] ++ entry (Publish p s s) Published [] ++ published_by p (s + 1) events
+
+  -- The events of a step: a claim is decided by the exchange, a write and the publication of its sequence by the store of the mark,
+  -- a poll by the look at which it takes events, and `Drained` is told by a look at the claim word.
+  abbrev pub entries_of : Shape → Step T → World T → Transcript T
+  entries_of k (SenderLooksAtClaims p) w = []
+  entries_of k (SenderLooksAtCount p f) w = []
+  entries_of k (SenderClaims p c n) w = if slice_index w.words claim_word == c then entry (Claim p n) (Claimed c (c + n - 1)) [] else []
+  entries_of k (SenderPublishes p s events) w = published_by p s events
+  entries_of k (SenderLooksAtMark p s) w = []
+  entries_of k (SenderHalts p) w = entry Halt Halting []
+  entries_of k (ReceiverLooksAtClaims h) w = if tells_drained (receiver_at w h) (slice_index w.words claim_word) then told_drained h ∷ [] else []
+  entries_of k (ReceiverLooksAtMark h room) w =
+      let r : ReceiverRecord T = receiver_at w h in batch_of k w h r (taken_at_mark k r (slice_index w.words (mark_word k (length r.received))) room)
+  entries_of k (ReceiverLooksAtCount h u room) w =
+      let r : ReceiverRecord T = receiver_at w h in batch_of k w h r (taken_at_count k r (count_word u) (slice_index w.words (count_word u)) room)
+  entries_of k (ReceiverCompletes h n) w = entry (Complete h n) Completed []
+  entries_of k HalterHalts w = entry Halt Halting []
+
+  -- a list of steps, with the entries of their events
+  abbrev pub Runs : Shape → List (Step T) → Transcript T → World T → World T → Type 0
+  Runs k steps entries w w' = runs.Runs (Happens k) (entries_of k) steps entries w w'
+
+  -- who was told that the ring drained, was told so by a poll of the run
+  abbrev pub WereTold : World T → Transcript T → Type 0
+  WereTold w entries = (h : ℕ) (r : ReceiverRecord T) → get_elem? w.receivers h ≡ some r → r.told ≡ true → Contains entries (told_drained h)
+
+  -- a sequence that a sender may not write any more, or never might: it is not its own, or it is published
+  abbrev pub IsShut : World T → ℕ → ℕ → Type 0
+  IsShut w p s = (t : Stage T) → get_elem? w.stages s ≡ some t → t.owner ≡ p → (l : Lent T) × (t.lent ≡ Some l)
+
+  -- the machine refuses a write as the mark in the sequence's cell says
+  abbrev pub RefusesByMark : Shape → World T → ℕ → ℕ → T → Type 0
+  RefusesByMark k w p s event =
+      machine.step (ring_setup k) (picture_of k w) (Write p s event)
+      ≡ machine.unchanged (Refused (if nat_le (entry_of k.size s) (slice_index w.words (mark_word k s)) then AlreadyPublished else NotClaimed)) (picture_of k w)
+
+  -- No handler's count falls, and no claim is taken back: so what the last look of a claim without room finds was so already at its first, and what is claimed stays so.
+  abbrev pub NothingFalls : Shape → World T → World T → Type 0
+  NothingFalls k w u =
+      ((f : ℕ) → f < handlers_of k → slice_index w.words (count_word f) ≤ slice_index u.words (count_word f)) × (length w.stages ≤ length u.stages)

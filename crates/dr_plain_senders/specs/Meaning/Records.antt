@@ -1,0 +1,111 @@
+-- What each kind of step makes of the record of its end.
+use Rattle.std.specs.Prelude.{◌≡◌, ℕ, zero, suc, ◌+◌, ◌-◌, ◌≤◌, ◌==◌, ◌&&◌, ◌||◌, if◌then◌else◌, Bool, min, List, [], ◌∷◌, ◌++◌, map, length, Some, None, is_some, Contains}
+use mathlib.Core.Option.{some}
+use lib.ListN.{get_elem?}
+use Rattle.dr_seq.specs.Rounds.{entry_of}
+use Rattle.dr_graph.specs.Meaning.Graph.{upstreams_of, finals}
+use Rattle.dr_runs.specs.declared.look.Look.{Look}
+use Rattle.dr_runs.specs.Looks.{look, last_look, offered_by}
+use Rattle.dr_plain_senders.specs.Meaning.Shape.{Shape}
+use Rattle.dr_plain_senders.specs.Meaning.Words.{claim_word, claimed_in, is_halted, halted_from, count_word, mark_word}
+use Rattle.dr_plain_senders.specs.declared.record.Lent.{Lent}
+use Rattle.dr_plain_senders.specs.declared.record.Stage.{Stage}
+use Rattle.dr_plain_senders.specs.declared.record.Own.{Own}
+use Rattle.dr_plain_senders.specs.declared.record.SenderRecord.{SenderRecord}
+use Rattle.dr_plain_senders.specs.declared.record.ReceiverRecord.{ReceiverRecord}
+use Rattle.dr_plain_senders.specs.declared.record.HalterRecord.{HalterRecord}
+
+-- up to where the upstreams of a handler let events through, as far as it saw
+abbrev pub barrier_seen : Shape → ℕ → List Look → ℕ
+barrier_seen k h looks = offered_by 0 (map (λ u. last_look 0 looks (count_word u)) (upstreams_of k.upstreams h))
+
+abbrev pub halter_halted : HalterRecord → ℕ → HalterRecord
+halter_halted r found = record r { looks = r.looks ++ look claim_word (halted_from found) ∷ [] }
+
+module _ {T : Type 0} where
+  -- the events that were lent
+  abbrev pub events_of : List (Lent T) → List T
+  events_of lents = map (λ (l : Lent T). l.event) lents
+
+  -- a sequence that is claimed alone
+  abbrev pub fresh_stage : ℕ → Stage T
+  fresh_stage p = record { owner = p; lent = None }
+
+  -- its event is lent to all handlers
+  abbrev pub published : Lent T → Stage T → Stage T
+  published l t = record t { lent = Some l }
+
+  abbrev pub is_published : Stage T → Bool
+  is_published t = is_some t.lent
+
+  -- n sequences from c on, claimed by p
+  abbrev pub fresh_own : ℕ → ℕ → ℕ → List (Own T)
+  fresh_own p c zero = []
+  fresh_own p c (suc n) = record { sequence = c; stage = fresh_stage p } ∷ fresh_own p (suc c) n
+
+  -- a sender has a sequence, which has come to a stage
+  abbrev pub Owns : SenderRecord T → ℕ → Stage T → Type 0
+  Owns r s t = (i : ℕ) × (get_elem? r.own i ≡ some record { sequence = s; stage = t })
+
+  -- it has brought one of its sequences further
+  abbrev pub own_after : ℕ → (Stage T → Stage T) → Own T → Own T
+  own_after s further o = if o.sequence == s then record o { stage = further o.stage } else o
+
+  abbrev pub brought : SenderRecord T → ℕ → (Stage T → Stage T) → SenderRecord T
+  brought r s further = record r { own = map (own_after s further) r.own }
+
+  -- what it lent of its sequences from s on is published
+  abbrev pub own_published : ℕ → List (Lent T) → List (Own T) → List (Own T)
+  own_published s [] own = own
+  own_published s (l ∷ lents) own = own_published (s + 1) lents (map (own_after s (published l)) own)
+
+  abbrev pub has_published : SenderRecord T → ℕ → List (Lent T) → SenderRecord T
+  has_published r s lents = record r { own = own_published s lents r.own }
+
+  -- it has looked at a word
+  abbrev pub sender_looked : SenderRecord T → ℕ → ℕ → SenderRecord T
+  sender_looked r word found = record r { looks = r.looks ++ look word found ∷ [] }
+
+  -- it has looked at a mark
+  abbrev pub mark_found : SenderRecord T → ℕ → ℕ → SenderRecord T
+  mark_found r word found = record r { marks = r.marks ++ look word found ∷ [] }
+
+  -- it has claimed n sequences from c on
+  abbrev pub claimed_from : SenderRecord T → ℕ → ℕ → SenderRecord T
+  claimed_from r c n = record r { own = r.own ++ fresh_own r.number c n; looks = r.looks ++ look claim_word (c + n) ∷ [] }
+
+  -- one look at the claim word tells a receiver that the ring drained: it is halted, and what is claimed is what the receiver took
+  abbrev pub tells_drained : ReceiverRecord T → ℕ → Bool
+  tells_drained r found = is_halted found && (claimed_in found == length r.received)
+
+  abbrev pub claims_looked : ReceiverRecord T → ℕ → ReceiverRecord T
+  claims_looked r found = record r { told = r.told || tells_drained r found; looks = r.looks ++ look claim_word found ∷ [] }
+
+  -- whether the mark of its next event is there
+  abbrev pub is_marked_next : Shape → ReceiverRecord T → ℕ → Bool
+  is_marked_next k r found = found == entry_of k.size (length r.received)
+
+  -- how many events a receiver without upstreams takes where it finds this at the mark of the next one, and has room for so many
+  abbrev pub taken_at_mark : Shape → ReceiverRecord T → ℕ → ℕ → ℕ
+  taken_at_mark k r found room = if is_marked_next k r found then min room 1 else 0
+
+  -- it has looked at that mark, and taken these
+  abbrev pub mark_looked : Shape → ReceiverRecord T → ℕ → List (Lent T) → ReceiverRecord T
+  mark_looked k r found lents = record r { received = r.received ++ lents; marks = r.marks ++ look (mark_word k (length r.received)) found ∷ [] }
+
+  -- how many events it takes at a look at an upstream's count, where it has room for so many: what its upstreams then let through, as far as it saw
+  abbrev pub taken_at_count : Shape → ReceiverRecord T → ℕ → ℕ → ℕ → ℕ
+  taken_at_count k r word found room = min room (barrier_seen k r.number (r.looks ++ look word found ∷ []) - length r.received)
+
+  -- a receiver has looked at a word, and taken these
+  abbrev pub receiver_looked : ReceiverRecord T → ℕ → ℕ → List (Lent T) → ReceiverRecord T
+  receiver_looked r word found lents = record r { received = r.received ++ lents; looks = r.looks ++ look word found ∷ [] }
+
+  -- it has completed all below n
+  abbrev pub completed_to : ReceiverRecord T → ℕ → ReceiverRecord T
+  completed_to r n = record r { completed = n }
+
+  -- a sender has room for n from c on, as far as it saw: within the limit, and no slot is used again that some final handler has not completed
+  pub record SeesRoom (k : Shape) (r : SenderRecord T) (c n : ℕ) : Type 0 where
+    pub limit : c + n ≤ k.limit
+    pub completed : (f : ℕ) → Contains (finals k.upstreams) f → c + n ≤ k.size + last_look 0 r.looks (count_word f)

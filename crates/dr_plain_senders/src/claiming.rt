@@ -1,0 +1,105 @@
+//! What a claim is made of, and why it is refused.
+
+ghost use Rattle.std.specs.Prelude.{◌≡◌, ◌+◌, ◌^◌, ◌≤◌, IfOk};
+ghost use Rattle.dr_plain_senders.specs.Calls.ClaimFault.{number_of, name_of};
+ghost use Rattle.dr_plain_senders.specs.Calls.Ends.{HasLoaded};
+ghost use Rattle.dr_plain_senders.specs.Calls.Sending.{ClaimCall, ClaimTakes, IsCount};
+ghost use Rattle.dr_plain_senders.specs.Inside.Scans.{Scans, ClaimsApart};
+
+use crate::laws::SenderStation;
+use crate::plan::HALT_BIT;
+use dr_meaning::{Claimed, Refusal};
+use std::marker::Brand;
+use thiserror::Error;
+
+/// Why a claim is refused.
+#[derive(Clone, Copy, Debug, PartialEq, Eq, Error)]
+pub enum ClaimFault {
+    /// For a cause that every exchange has.
+    #[error("{0}")]
+    Refused(Refusal),
+    /// Another sender claimed meanwhile, and nothing is changed: the claim may be tried again.
+    #[error("contended")]
+    Contended,
+}
+
+impl ClaimFault {
+    /// The number of the refusal, or of a claim that another came before, which stays the same in
+    /// every release.
+    pub fn number(self) -> u32
+        ensures { result ≡ number_of self }
+    {
+        match self {
+            ClaimFault::Refused(refusal) => refusal.number(),
+            ClaimFault::Contended => 16,
+        }
+    }
+
+    /// The name of the refusal, or of a claim that another came before, as programs print it.
+    pub fn name(self) -> &'static str
+        ensures { result.now ≡ name_of self }
+    {
+        match self {
+            ClaimFault::Refused(refusal) => refusal.name(),
+            ClaimFault::Contended => "contended",
+        }
+    }
+}
+
+impl<T> SenderStation<T> {
+    /// Claims the next `n` sequences. It looks at the claim word, then at each final handler's
+    /// count, and exchanges the claim word if it still is what it was. It then has the slots of
+    /// their cells in hand, in front of all else.
+    ///
+    /// The causes of a refusal in their order: `BadCount` (none, or more than the size), `Halted`,
+    /// `Exhausted`, `NoRoom`, and at the exchange `Halted` once more, or `Contended`: another
+    /// sender claimed meanwhile. A refused claim may have looked, and changes nothing else.
+    #[tactic(auto, using(crate::proofs::Stations::begins_same, crate::proofs::Stations::begins_on))]
+    pub fn try_claim(&mut self, n: u64) -> Result<Claimed, ClaimFault>
+        ensures call { ClaimCall self.old n self.new result }
+        ensures hand { ClaimTakes self.old n self.new result }
+        ensures own { IfOk result (λ c. ClaimsApart self.old c.lo n) }
+        ensures fits { IfOk result (λ c. (c.lo + n ≤ 2 ^ 62) × IsCount self.old.plan n) }
+    {
+        let size = self.plan().size().get();
+        let limit = self.plan().limit();
+        if n == 0 || n > size {
+            return Err(ClaimFault::Refused(Refusal::BadCount));
+        }
+        let lo = self.look_at_claims();
+        if lo >= HALT_BIT {
+            return Err(ClaimFault::Refused(Refusal::Halted));
+        }
+        let upto = lo + n;
+        if upto > limit {
+            return Err(ClaimFault::Refused(Refusal::Exhausted));
+        }
+        if !self.has_room(upto.saturating_sub(size)) {
+            return Err(ClaimFault::Refused(Refusal::NoRoom));
+        }
+        let found = self.claim::<Brand>(lo, n);
+        if found == lo {
+            return Ok(Claimed { lo, hi: upto - 1 });
+        }
+        if found >= HALT_BIT {
+            return Err(ClaimFault::Refused(Refusal::Halted));
+        }
+        Err(ClaimFault::Contended)
+    }
+
+    /// Whether every final handler has completed `need` events. It looks at their counts in order,
+    /// up to the first that is less.
+    pub(crate) fn has_room(&mut self, need: u64) -> bool
+        ensures only { HasLoaded self.old self.new.knows self.old.hand self.new }
+        ensures answer { Scans self.old.plan self.old.knows need self.new.knows result }
+    {
+        for place in 0..self.plan().finals().len() {
+            let handler = self.plan().finals()[place];
+            let count = self.look_at_count(handler);
+            if count < need {
+                return false;
+            }
+        }
+        true
+    }
+}

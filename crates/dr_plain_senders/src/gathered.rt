@@ -1,0 +1,52 @@
+//! Where the ends of a ring put what they have, once they come together.
+
+ghost use Rattle.std.specs.Prelude.{◌≡◌, length, IfOk};
+ghost use Rattle.dr_plain_senders.specs.Inside.Gathered.{HasPlaces};
+
+use crate::dealt::blanks;
+use dr_cells::Token;
+use dr_runs::HandlerCounts;
+use std::alloc::{AllocError, Global};
+
+/// Places for the handlers' counts and parts and for the cells, and which of the cells a sender
+/// brought.
+#[derive(Drop)]
+pub(crate) struct Gathered<T> {
+    pub(crate) counts: Vec<HandlerCounts>,
+    pub(crate) hands: Vec<Vec<Token<T>>>,
+    pub(crate) tokens: Vec<Token<T>>,
+    pub(crate) brought: Vec<bool>,
+}
+
+// As many empty rows of tokens.
+fn empty_hands<T>(alloc: Global, count: usize) -> Result<Vec<Vec<Token<T>>>, AllocError>
+    ensures { IfOk result (λ hands. length hands.items ≡ count) }
+{
+    let mut hands = Vec::with_capacity(alloc, count)?;
+    for made in 0..count {
+        hands.push(Vec::new(alloc))?;
+    }
+    Ok(hands)
+}
+
+impl<T> Gathered<T> {
+    /// Places of so many handlers and cells.
+    pub(crate) fn of(
+        alloc: Global,
+        handlers: usize,
+        cells: usize,
+    ) -> Result<Gathered<T>, AllocError>
+        ensures { IfOk result (λ places. HasPlaces handlers cells places) }
+    {
+        let counts = vec![in alloc; HandlerCounts::NONE; handlers]?;
+        let hands = empty_hands(alloc, handlers)?;
+        let tokens = blanks(alloc, cells)?;
+        let brought = vec![in alloc; false; cells]?;
+        Ok(Gathered {
+            counts,
+            hands,
+            tokens,
+            brought,
+        })
+    }
+}

@@ -1,0 +1,126 @@
+//! The steps of a ring over its table, and what every list of them comes to.
+//!
+//! Each end has a station, which is what its steps need, and each kind of step is one function of
+//! a station (the halter's is [`halt`](crate::Halter::halt)): one atomic change of one word. Its
+//! contract gives what the end knows afterwards, and which slots it then has in hand, from what it
+//! knew before and the word found or stored, by the same definition as the step has in [`moments`].
+
+mod halter;
+mod plays;
+mod receiver;
+mod sender;
+pub(crate) mod settling;
+
+ghost use Rattle.std.specs.Prelude.{List, ℕ, ◌≡◌, ◌↔◌, ◌<◌, ◌≤◌, ◌++◌, true, length, slice_index};
+ghost use Rattle.dr_seq.specs.Rounds.{entry_of};
+ghost use Rattle.dr_meaning.specs.Meaning.Transcript.{Transcript, LeadsTo};
+ghost use Rattle.dr_meaning.specs.Meaning.Laws.{Laws};
+ghost use Rattle.dr_meaning.specs.Meaning.Progress.{NobodyIsStuck};
+ghost use Rattle.dr_plain_senders.specs.Meaning.Shape.{Shape, IsShape, ring_setup};
+ghost use Rattle.dr_plain_senders.specs.Meaning.Words.{claim_word, mark_word, is_halted};
+ghost use Rattle.dr_plain_senders.specs.Meaning.Rule.{World, KeepsRule};
+ghost use Rattle.dr_plain_senders.specs.declared.record.Step.{Step};
+ghost use Rattle.dr_plain_senders.specs.Meaning.Moments.{Runs, new_world, picture_of, IsShut, RefusesByMark, NothingFalls, WereTold};
+ghost use Rattle.dr_plain_senders.specs.Calls.Replies.{AreOpen, picture_with, open_writes, RepliesAsAnswered};
+ghost use Rattle.dr_plain_senders.specs.Calls.Handing.{HandsWhatWasThere};
+
+use crate::plan::Plan;
+use crate::record::View;
+use atomic_table::{Seat, Shared, Table, TableRule};
+use dr_cells::Token;
+use dr_meaning::{every_transcript_is_lawful, nobody_is_stuck};
+pub use halter::Halter;
+pub use receiver::ReceiverStation;
+pub use sender::SenderStation;
+use std::alloc::Global;
+use std::marker::Brand;
+
+/// The rule that every step keeps.
+pub struct RingRule;
+
+impl<T> TableRule<Token<T>, View<T>, Plan<T>> for RingRule {
+    ghost use Rattle.dr_plain_senders.specs.Inside.Seats.{Ruled, all_ends};
+
+    ghost holds = { Ruled };
+
+    ghost first = { all_ends };
+}
+
+/// The words and slots of a ring, as its ends share them.
+pub type Words<T> = Shared<Token<T>, View<T>, Plan<T>, RingRule>;
+
+/// The words and slots of a ring with their memory.
+pub type RingTable<T> = Table<Token<T>, View<T>, Plan<T>, RingRule, Global>;
+
+/// What an end steps with.
+pub type RingSeat<T> = Seat<Token<T>, View<T>>;
+
+/// What all ends of a ring share: its table, and what it was made for.
+#[derive(Drop)]
+pub(crate) struct RingBody<T> {
+    pub(crate) table: RingTable<T>,
+    pub(crate) plan: Plan<T>,
+}
+
+/// What a step names, for its proof alone: what the ring is made for, and a sequence or how many
+/// events there is room for.
+pub trait Names {
+    ghost plan: { Shape };
+
+    ghost number: { ℕ };
+
+    ghost use Rattle.std.specs.Prelude.{ℕ};
+    ghost use Rattle.dr_plain_senders.specs.Meaning.Shape.{Shape};
+}
+
+impl Names for Brand {
+    ghost use Rattle.dr_plain_senders.specs.Inside.Seats.{no_shape};
+
+    ghost plan = { no_shape };
+
+    ghost number = { 0 };
+}
+
+/// What a publication names besides, for its proof alone: what it lent.
+pub trait Lends<T> {
+    ghost lents: { List (Lent T) };
+
+    ghost use Rattle.std.specs.Prelude.{List};
+    ghost use Rattle.dr_plain_senders.specs.declared.record.Lent.{Lent};
+}
+
+impl<T> Lends<T> for Brand {
+    ghost use Rattle.std.specs.Prelude.{[]};
+
+    ghost lents = { [] };
+}
+
+/// Whatever steps fall in whatever order: between any two of them the rule holds, the entries of
+/// their events lead the machine to the ring's picture, in which nobody is stuck, and the
+/// transcript has the five laws. Whatever senders wrote besides and did not publish, those writes
+/// lead the machine on to the picture with them. A sequence is published exactly where the mark in
+/// its cell is of its round or a later one, so one look at the mark tells it, and with it why the
+/// machine refuses a write of a sequence that is not the sender's own, or is published. A claim, a
+/// publication of a whole stretch and a poll that takes nothing by what the deciding look finds, a
+/// write of one's own sequence and a completion are answered as the machine then replies. A poll
+/// hands over at least what the picture had at any moment since its receiver last stepped. Whoever
+/// was told that the ring drained, was told so by a poll of the transcript. No handler's count
+/// falls, and no claim is taken back. Once a ring is halted, nothing more is claimed. It does
+/// nothing when it runs: the contract is the theorem.
+pub fn moments<T>()
+    ensures rule { (k : Shape) (steps : List (Step T)) (entries : Transcript T) (w : World T) → IsShape k → Runs k steps entries (new_world k) w → KeepsRule k w }
+    ensures leads { (k : Shape) (steps : List (Step T)) (entries : Transcript T) (w : World T) → IsShape k → Runs k steps entries (new_world k) w → LeadsTo (ring_setup k) entries (picture_of k w) }
+    ensures writes { (k : Shape) (steps : List (Step T)) (entries : Transcript T) (w : World T) → IsShape k → Runs k steps entries (new_world k) w → (wrote : List (ℕ × T)) → AreOpen w wrote → LeadsTo (ring_setup k) (entries ++ open_writes w wrote) (picture_with k w wrote) }
+    ensures laws { (k : Shape) (steps : List (Step T)) (entries : Transcript T) (w : World T) → IsShape k → Runs k steps entries (new_world k) w → Laws (ring_setup k) entries }
+    ensures progress { (k : Shape) (steps : List (Step T)) (entries : Transcript T) (w : World T) → IsShape k → Runs k steps entries (new_world k) w → NobodyIsStuck (ring_setup k) (picture_of k w) }
+    ensures marks { (k : Shape) (steps : List (Step T)) (entries : Transcript T) (w : World T) → IsShape k → Runs k steps entries (new_world k) w → (s : ℕ) → ((picture_of k w).published s ≡ true) ↔ (entry_of k.size s ≤ slice_index w.words (mark_word k s)) }
+    ensures refused { (k : Shape) (steps : List (Step T)) (entries : Transcript T) (w : World T) → IsShape k → Runs k steps entries (new_world k) w → (p s : ℕ) (event : T) → p < k.senders → IsShut w p s → RefusesByMark k w p s event }
+    ensures replies { (k : Shape) (steps : List (Step T)) (entries : Transcript T) (w : World T) → IsShape k → Runs k steps entries (new_world k) w → RepliesAsAnswered k w }
+    ensures hands { (k : Shape) (steps more : List (Step T)) (entries rest : Transcript T) (w u : World T) → IsShape k → Runs k steps entries (new_world k) w → Runs k more rest w u → HandsWhatWasThere k w u }
+    ensures rises { (k : Shape) (steps more : List (Step T)) (entries rest : Transcript T) (w u : World T) → IsShape k → Runs k steps entries (new_world k) w → Runs k more rest w u → NothingFalls k w u }
+    ensures told { (k : Shape) (steps : List (Step T)) (entries : Transcript T) (w : World T) → IsShape k → Runs k steps entries (new_world k) w → WereTold w entries }
+    ensures halted { (k : Shape) (steps more : List (Step T)) (entries rest : Transcript T) (w u : World T) → IsShape k → Runs k steps entries (new_world k) w → Runs k more rest w u → is_halted (slice_index w.words claim_word) ≡ true → length u.stages ≡ length w.stages }
+{
+    every_transcript_is_lawful::<T>();
+    nobody_is_stuck::<T>();
+}

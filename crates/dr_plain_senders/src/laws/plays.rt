@@ -1,0 +1,85 @@
+//! What each kind of step tells. These types are for the proofs alone.
+
+ghost use Rattle.std.specs.Prelude.{◌-◌};
+ghost use Rattle.dr_plain_senders.specs.Inside.Seats.{Loads, Stores, SenderLooked, SenderClaimed, SenderPublished, SenderLookedAtMark, SenderHalted, ReceiverLookedAtClaims, ReceiverLookedAtMark, ReceiverLookedAtCount, ReceiverCompleted, HalterHalted, sender_of, receiver_of};
+ghost use Rattle.dr_plain_senders.specs.Meaning.Records.{events_of};
+ghost use Rattle.dr_plain_senders.specs.declared.record.Step.TheVariants.{SenderClaims, SenderPublishes, SenderHalts, ReceiverCompletes, HalterHalts};
+
+use super::{Lends, Names};
+use crate::record::View;
+use atomic_table::Play;
+use dr_cells::Token;
+use std::marker::PhantomData;
+
+pub struct Look;
+
+impl<T> Play<Token<T>, View<T>> for Look {
+    ghost then = { Loads SenderLooked };
+}
+
+pub struct Claim<J> {
+    named: PhantomData<J>,
+}
+
+impl<T, J: Names> Play<Token<T>, View<T>> for Claim<J> {
+    ghost then = { Stores (λ s me n. SenderClaims (sender_of me.0).number s.first (s.second - s.first)) (SenderClaimed J.plan) };
+}
+
+pub struct Publish<J, L> {
+    named: PhantomData<J>,
+    lent: PhantomData<L>,
+}
+
+impl<T, J: Names, L: Lends<T>> Play<Token<T>, View<T>> for Publish<J, L> {
+    ghost then = { Stores (λ s me n. SenderPublishes (sender_of me.0).number J.number (events_of L.lents)) (SenderPublished J.plan J.number L.lents) };
+}
+
+pub struct LookAtMark<J> {
+    named: PhantomData<J>,
+}
+
+impl<T, J: Names> Play<Token<T>, View<T>> for LookAtMark<J> {
+    ghost then = { Loads (SenderLookedAtMark J.plan J.number) };
+}
+
+pub struct SenderHalt;
+
+impl<T> Play<Token<T>, View<T>> for SenderHalt {
+    ghost then = { Stores (λ s me n. SenderHalts (sender_of me.0).number) SenderHalted };
+}
+
+pub struct LookAtClaims;
+
+impl<T> Play<Token<T>, View<T>> for LookAtClaims {
+    ghost then = { Loads ReceiverLookedAtClaims };
+}
+
+pub struct LookAtNext<J> {
+    named: PhantomData<J>,
+}
+
+impl<T, J: Names> Play<Token<T>, View<T>> for LookAtNext<J> {
+    ghost then = { Loads (ReceiverLookedAtMark J.plan J.number) };
+}
+
+pub struct LookAtUpstream<J> {
+    named: PhantomData<J>,
+}
+
+impl<T, J: Names> Play<Token<T>, View<T>> for LookAtUpstream<J> {
+    ghost then = { Loads (ReceiverLookedAtCount J.plan J.number) };
+}
+
+pub struct Complete<J> {
+    named: PhantomData<J>,
+}
+
+impl<T, J: Names> Play<Token<T>, View<T>> for Complete<J> {
+    ghost then = { Stores (λ s me n. ReceiverCompletes (receiver_of me.0).number n) (ReceiverCompleted J.plan) };
+}
+
+pub struct Halt;
+
+impl<T> Play<Token<T>, View<T>> for Halt {
+    ghost then = { Stores (λ s me n. HalterHalts) HalterHalted };
+}

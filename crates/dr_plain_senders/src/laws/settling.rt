@@ -1,0 +1,68 @@
+//! How seats come together, at the end, and one of them takes all that lies in the slots. No step of
+//! these changes a word or a record.
+
+ghost use Rattle.std.specs.Prelude.{◌≡◌, ◌<◌, List};
+ghost use Rattle.dr_runs.specs.Seats.{both_views};
+ghost use Rattle.dr_plain_senders.specs.Calls.Ends.{SenderEnd, ReceiverEnd, HalterStand};
+ghost use Rattle.dr_plain_senders.specs.Inside.Finishing.{HasAllEnds, TookAll};
+
+use super::{Names, RingSeat, Words};
+use crate::plan::CLAIM_WORD;
+use crate::record::View;
+use atomic_table::{Join, Play, Split};
+use dr_cells::Token;
+use std::marker::PhantomData;
+
+// A view leaves its seat, which keeps the slots that it has in hand.
+struct Leave;
+
+impl<T> Split<View<T>> for Leave {
+    ghost use Rattle.dr_runs.specs.Seats.{no_view};
+
+    ghost left = { λ _. no_view };
+
+    ghost right = { λ v. v };
+}
+
+struct Together;
+
+impl<T> Join<View<T>> for Together {
+    ghost use Rattle.dr_runs.specs.Seats.{both_views, no_view};
+
+    ghost both = { both_views };
+
+    ghost spent = { no_view };
+}
+
+/// A load of the claim word by which its seat takes what lies in the slots of each cell that no
+/// sender has, and stands for no end any more. It tells which run came to what the ends knew.
+pub struct TakesAll<J> {
+    named: PhantomData<J>,
+}
+
+impl<T, J: Names> Play<Token<T>, View<T>> for TakesAll<J> {
+    ghost then = { λ s me n me'. TookAll J.plan me n me' };
+}
+
+/// A seat takes in what another stands for. What slots that other has in hand stay in no seat.
+pub fn take_in<T>(words: &Words<T>, seat: &mut RingSeat<T>, mut other: RingSeat<T>)
+    requires table { (seat.old.table_id ≡ words.now.table_id) × (other.table_id ≡ words.now.table_id) × (0 < words.now.table_id.words) }
+    ensures seat { (seat.new.table_id ≡ seat.old.table_id) × (seat.new.id ≡ seat.old.id) }
+    ensures view { seat.new.me ≡ (both_views seat.old.me.0 other.me.0, seat.old.me.1) }
+{
+    let view = words.split_seat::<Leave>(&mut other);
+    words.join_seat::<Together>(seat, view);
+}
+
+/// The seat that stands for all ends ends the ring: it takes what lies in the slots of each cell
+/// that no sender has, and stands for no end any more. One run came to what the ends knew, and to
+/// the claim word. It costs one load.
+pub fn take_all<T, J: Names>(words: &Words<T>, seat: &mut RingSeat<T>) -> u64
+    requires table { (seat.old.table_id ≡ words.now.table_id) × (0 < words.now.table_id.words) }
+    requires plan { words.now.key ≡ J.plan }
+    requires ends { (ss : List (SenderEnd T)) × (rs : List (ReceiverEnd T)) × (t : HalterStand T) × HasAllEnds seat.old.me.0 ss rs t × (J.plan ≡ t.plan) }
+    ensures seat { seat.new.table_id ≡ seat.old.table_id }
+    ensures took { TookAll J.plan seat.old.me result seat.new.me }
+{
+    words.load::<TakesAll<J>>(seat, CLAIM_WORD)
+}

@@ -1,0 +1,45 @@
+//! The ring over plain memory with several senders: each hands events of any type to a graph of
+//! receivers, each end on a thread of its own. An event lies once in memory, and tokens of it travel.
+//!
+//! Begin with `specs/Meaning`: `Words` says where each word lies, `Records` what each kind of step
+//! makes of what its end knows, `Rule` is what holds between any two steps, `Lying` where each token
+//! is, and `Steps` lists the kinds.
+#![tactic(auto)]
+
+mod answers;
+mod claiming;
+mod dealt;
+mod events;
+mod exchanges;
+mod finishing;
+mod gathered;
+mod giving_up;
+mod inlet;
+pub mod laws;
+mod lending;
+mod opening;
+mod outlets;
+mod owned;
+mod plan;
+mod polling;
+mod publishing;
+mod receiver;
+mod reclaiming;
+pub mod record;
+mod rooms;
+mod sender;
+mod settled;
+mod taking;
+mod updating;
+mod writing;
+
+pub use claiming::ClaimFault;
+pub use dr_cells::Values;
+pub use events::Events;
+pub use finishing::finish;
+pub use laws::Halter;
+pub use opening::senders_ring;
+pub use plan::Plan;
+pub use receiver::Receiver;
+pub use sender::Sender;
+pub use settled::Settled;

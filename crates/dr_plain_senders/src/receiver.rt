@@ -1,0 +1,110 @@
+//! An end that receives every event.
+
+ghost use Rattle.std.specs.Prelude.{◌≡◌, ◌<◌, ◌^◌, length, IfSome, IfNone};
+ghost use Rattle.dr_runs.specs.Looks.{looks_counted};
+ghost use Rattle.dr_plain_senders.specs.Calls.Receiving.{PollCall, CompleteCall, ReadsInHand, IsNotInHand};
+
+use crate::answers::{claimed_in, nothing_offered};
+use crate::laws::ReceiverStation;
+use crate::plan::HALT_BIT;
+use dr_cells::Token;
+use dr_meaning::{Polled, Refusal};
+use std::marker::{Brand, Model};
+
+/// The end of one handler, which receives every event after its upstreams. No call waits or takes
+/// memory.
+#[derive(Drop)]
+pub struct Receiver<T> {
+    pub(crate) station: ReceiverStation<T>,
+    pub(crate) taken: u64,
+    pub(crate) completed: u64,
+    // Its parts of the events that it took and did not complete, each in the place of its cell.
+    pub(crate) parts: Vec<Token<T>>,
+}
+
+impl<T> Model for Receiver<T> {
+    ghost use Rattle.dr_plain_senders.specs.Calls.Ends.{ReceiverEnd};
+    ghost use Rattle.dr_plain_senders.specs.Inside.Fits.{ReceiverFits};
+    ghost use Rattle.dr_plain_senders.specs.Inside.Views.{receiver_end};
+
+    ghost Value = { ReceiverEnd T };
+
+    ghost view = { λ s. receiver_end s.station };
+
+    ghost invariant = { λ s. ReceiverFits s.station s.taken s.completed s.parts.items };
+}
+
+impl<T> Receiver<T> {
+    /// Takes the next events, as many as the barrier offers and there is room for. It looks at the
+    /// claim word, and then, for a handler without upstreams, at the marks of the next events, of
+    /// one more than there is room for, as far as they are there; or else at the count of each
+    /// upstream. It may read what it took until it completes it.
+    ///
+    /// It is refused with `BadCount`, and changes nothing, where there is no room.
+    #[tactic(auto, using(crate::proofs::Stations::begins_same, crate::proofs::Stations::begins_on))]
+    pub fn poll(&mut self, room: u64) -> Result<Polled, Refusal>
+        ensures call { PollCall self.old room self.new result }
+        ensures fits { length self.new.knows.received < 2 ^ 64 }
+    {
+        let first = self.taken;
+        if room == 0 {
+            return Err(Refusal::BadCount);
+        }
+        let found = self.see_claims();
+        let claimed = claimed_in(found);
+        let available = self.take_offered(claimed, room);
+        if available <= first {
+            return Ok(nothing_offered(found >= HALT_BIT, claimed, first));
+        }
+        let count = (available - first).min(room);
+        Ok(Polled::Batch {
+            first,
+            count,
+            end: first + count == available,
+        })
+    }
+
+    /// Completes all events below `upto`: the handlers that follow may take them, and the senders
+    /// may use their cells again once all final handlers have completed them. Its parts of them
+    /// are gone.
+    ///
+    /// Refusals in their order: `Behind` (more are completed), `NotTaken`. They change nothing.
+    #[tactic(auto, using(crate::proofs::Stations::begins_same))]
+    pub fn complete(&mut self, upto: u64) -> Result<(), Refusal>
+        ensures { CompleteCall self.old upto self.new result }
+    {
+        if upto < self.completed {
+            return Err(Refusal::Behind);
+        }
+        if upto > self.taken {
+            return Err(Refusal::NotTaken);
+        }
+        self.station
+            .give_back(self.completed, upto, &mut self.parts);
+        self.station.turn_all(self.taken - upto);
+        self.station.complete::<Brand>(upto);
+        self.completed = upto;
+        Ok(())
+    }
+
+    /// An event that it took and did not complete, where it lies. Of any other sequence it gives
+    /// nothing.
+    pub fn event(&self, sequence: u64) -> Option<&T>
+        ensures some { IfSome result (λ event. ReadsInHand self.now.knows sequence event.now) }
+        ensures none { IfNone result (IsNotInHand self.now.knows sequence) }
+        ensures fits { length self.now.knows.received < 2 ^ 64 }
+    {
+        let upto = self.taken;
+        if sequence < self.completed || sequence >= upto {
+            return None;
+        }
+        Some(self.station.read(sequence, &self.parts))
+    }
+
+    /// How many words the receiver has loaded that other ends store, up to the greatest `u64`.
+    pub fn looks(&self) -> u64
+        ensures { result ≡ looks_counted self.now.knows.looks }
+    {
+        self.station.looks
+    }
+}

@@ -1,0 +1,112 @@
+//! What the ends know. No value of a record is ever made: they stand in proofs alone.
+
+use dr_runs::Look;
+use std::collections::LinkedList;
+
+/// An event as it was lent to all handlers: which lending of its cell, and the event.
+pub struct Lent<T> {
+    pub round: u64,
+    pub event: T,
+}
+
+/// How far a claimed sequence has come: who claimed it, and, once it is published, its event as it
+/// was lent.
+pub struct Stage<T> {
+    pub owner: u64,
+    pub lent: Option<Lent<T>>,
+}
+
+/// A sequence that a sender claimed, and how far it brought it.
+pub struct Own<T> {
+    pub sequence: u64,
+    pub stage: Stage<T>,
+}
+
+/// What a sender knows: its number, the sequences that it claimed, and its looks, those at marks
+/// apart.
+pub struct SenderRecord<T> {
+    pub number: u64,
+    pub own: LinkedList<Own<T>>,
+    pub marks: LinkedList<Look>,
+    pub looks: LinkedList<Look>,
+}
+
+/// What a receiver knows: its number, the events that it received, each as it was lent, how many it
+/// completed, whether it was told that the ring drained, and its looks, those at marks apart.
+pub struct ReceiverRecord<T> {
+    pub number: u64,
+    pub received: LinkedList<Lent<T>>,
+    pub marks: LinkedList<Look>,
+    pub completed: u64,
+    pub told: bool,
+    pub looks: LinkedList<Look>,
+}
+
+/// What the halter knows.
+pub struct HalterRecord {
+    pub looks: LinkedList<Look>,
+}
+
+/// What one of the ends knows.
+pub enum EndRecord<T> {
+    Sends(SenderRecord<T>),
+    Receives(ReceiverRecord<T>),
+    Halts(HalterRecord),
+}
+
+/// A step of a ring: one atomic change of one word, with what no record tells of it.
+pub enum Step<T> {
+    SenderLooksAtClaims {
+        sender: u64,
+    },
+    /// A sender looks at the count of a final handler.
+    SenderLooksAtCount {
+        sender: u64,
+        handler: u64,
+    },
+    /// A sender exchanges the claim word: where it finds `found`, it claims so many sequences more.
+    SenderClaims {
+        sender: u64,
+        found: u64,
+        more: u64,
+    },
+    /// A sender stores the mark of one of its sequences, and so publishes its event.
+    SenderPublishes {
+        sender: u64,
+        sequence: u64,
+        events: LinkedList<T>,
+    },
+    /// A sender looks at the mark in a sequence's cell.
+    SenderLooksAtMark {
+        sender: u64,
+        sequence: u64,
+    },
+    SenderHalts {
+        sender: u64,
+    },
+    ReceiverLooksAtClaims {
+        handler: u64,
+    },
+    /// A receiver without upstreams looks at the mark of its next event, and takes that where it is
+    /// published, if it has room.
+    ReceiverLooksAtMark {
+        handler: u64,
+        room: u64,
+    },
+    /// A receiver looks at an upstream's count, and takes what its upstreams then let through, at
+    /// most so many.
+    ReceiverLooksAtCount {
+        handler: u64,
+        upstream: u64,
+        room: u64,
+    },
+    /// A receiver stores its count.
+    ReceiverCompletes {
+        handler: u64,
+        upto: u64,
+    },
+    HalterHalts,
+}
+
+/// What a seat of a ring stands for.
+pub type View<T> = dr_runs::View<EndRecord<T>, Step<T>>;

@@ -1,0 +1,78 @@
+//! An end that claims, writes and publishes.
+
+ghost use Rattle.std.specs.Prelude.{◌≡◌, ℕ};
+ghost use Rattle.dr_runs.specs.Looks.{looks_counted};
+ghost use Rattle.dr_plain_senders.specs.Meaning.Words.{claim_word, halted_from};
+ghost use Rattle.dr_plain_senders.specs.Meaning.Records.{sender_looked};
+ghost use Rattle.dr_plain_senders.specs.declared.record.Step.TheVariants.{SenderHalts};
+ghost use Rattle.dr_plain_senders.specs.Calls.Ends.{HasStoredAt};
+ghost use Rattle.dr_plain_senders.specs.Calls.Sending.{SenderClaimCall};
+
+use crate::claiming::ClaimFault;
+use crate::laws::SenderStation;
+use crate::owned::Owned;
+use dr_cells::Token;
+use dr_meaning::Claimed;
+use std::marker::Model;
+
+/// An end of one of a ring's senders, which claims, writes and publishes. No call waits or takes
+/// memory.
+#[derive(Drop)]
+pub struct Sender<T> {
+    pub(crate) station: SenderStation<T>,
+    pub(crate) owned: Owned,
+    // One more than the last sequence that it claimed.
+    pub(crate) end: u64,
+    // What it has of each cell: all of it while a sequence there is claimed and not published.
+    pub(crate) tokens: Vec<Token<T>>,
+}
+
+impl<T> Model for Sender<T> {
+    ghost use Rattle.dr_plain_senders.specs.Calls.Ends.{SenderEnd};
+    ghost use Rattle.dr_plain_senders.specs.Inside.Fits.{SenderFits};
+    ghost use Rattle.dr_plain_senders.specs.Inside.Views.{sender_end};
+
+    ghost Value = { SenderEnd T };
+
+    ghost view = { λ s. sender_end s.station s.owned s.tokens.items };
+
+    ghost invariant = { λ s. SenderFits s.station s.owned s.end s.tokens.items };
+}
+
+impl<T> Sender<T> {
+    /// Claims the next `n` sequences. It looks at the claim word, then at each final handler's
+    /// count, and exchanges the claim word if it still is what it was.
+    ///
+    /// The causes of a refusal in their order: `BadCount` (none, or more than the size), `Halted`,
+    /// `Exhausted`, `NoRoom`, and at the exchange `Halted` once more, or `Contended`: another
+    /// sender claimed meanwhile. A refused claim may have looked, and changes nothing else.
+    pub fn try_claim(&mut self, n: u64) -> Result<Claimed, ClaimFault>
+        ensures { SenderClaimCall self.old n self.new result }
+    {
+        match self.station.try_claim(n) {
+            Ok(claimed) => {
+                let end = claimed.lo + n;
+                self.station.collect(claimed.lo, end, &mut self.tokens);
+                self.owned.claim(claimed.lo, end);
+                self.end = end;
+                Ok(claimed)
+            }
+            Err(fault) => Err(fault),
+        }
+    }
+
+    /// Halts the ring, in one step. It always succeeds, and may be repeated. What is claimed may
+    /// still be written and published; a receiver that took all of it is told `Drained`.
+    pub fn halt(&mut self)
+        ensures { (found : ℕ) × HasStoredAt self.old (SenderHalts self.old.knows.number) (sender_looked self.old.knows claim_word (halted_from found)) self.new }
+    {
+        self.station.halt();
+    }
+
+    /// How many words the sender has loaded that other ends change, up to the greatest `u64`.
+    pub fn looks(&self) -> u64
+        ensures { result ≡ looks_counted self.now.knows.looks }
+    {
+        self.station.looks
+    }
+}

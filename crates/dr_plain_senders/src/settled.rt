@@ -1,0 +1,53 @@
+//! How far a ring came.
+
+ghost use Rattle.std.specs.Prelude.{◌≡◌, ◌<◌, length};
+ghost use Rattle.dr_runs.specs.Gathering.{counts_at};
+
+use dr_runs::HandlerCounts;
+
+/// How far a ring came.
+#[derive(Drop)]
+pub struct Settled {
+    pub(crate) claimed: u64,
+    pub(crate) is_halted: bool,
+    pub(crate) handlers: Vec<HandlerCounts>,
+}
+
+impl Settled {
+    /// How many sequences were claimed.
+    pub fn claimed(&self) -> u64
+        ensures { result ≡ self.now.claimed }
+    {
+        self.claimed
+    }
+
+    /// Whether the ring was halted.
+    pub fn is_halted(&self) -> bool
+        ensures { result ≡ self.now.is_halted }
+    {
+        self.is_halted
+    }
+
+    /// How many handlers there are.
+    pub fn handlers(&self) -> usize
+        ensures { result ≡ length self.now.handlers.items }
+    {
+        self.handlers.len()
+    }
+
+    /// How many events a handler took.
+    pub fn taken(&self, handler: usize) -> u64
+        requires { handler < length self.now.handlers.items }
+        ensures { result ≡ (counts_at self.now.handlers.items handler).taken }
+    {
+        self.handlers[handler].taken
+    }
+
+    /// How many events a handler completed.
+    pub fn completed(&self, handler: usize) -> u64
+        requires { handler < length self.now.handlers.items }
+        ensures { result ≡ (counts_at self.now.handlers.items handler).completed }
+    {
+        self.handlers[handler].completed
+    }
+}

@@ -1,0 +1,43 @@
+//! An event is changed where it lies.
+
+ghost use Rattle.std.specs.Fn.{FnOnceReturnsAtMut};
+ghost use Rattle.dr_plain_senders.specs.Calls.Writing.{UpdateCall};
+
+use crate::dealt::{change_in, put_at};
+use crate::sender::Sender;
+use dr_cells::Token;
+use dr_meaning::Refusal;
+
+impl<T> Sender<T> {
+    /// Changes the event of a sequence that this sender claimed and has not published where it lies,
+    /// and so writes it: `change` finds what was written there before, or what an earlier sequence
+    /// left in the cell. Nothing is moved.
+    ///
+    /// Refusals in their order: `NotClaimed` (nobody's), `AlreadyPublished`, `NotClaimed` (another
+    /// sender's). They change nothing.
+    pub fn update<F: FnOnce(&mut T) + Drop>(
+        &mut self,
+        sequence: u64,
+        change: F,
+    ) -> Result<(), Refusal>
+        requires { F.IsAlwaysCallable change }
+        ensures { UpdateCall (λ was now. FnOnceReturnsAtMut F.FnOnce change was tt now) self.old sequence self.new result }
+    {
+        if sequence >= self.station.plan().limit() {
+            return Err(Refusal::NotClaimed);
+        }
+        if !self.owned.has(sequence) {
+            return Err(self.station.refusal(sequence));
+        }
+        if self.owned.is_published(sequence) {
+            return Err(Refusal::AlreadyPublished);
+        }
+        self.owned.write(sequence);
+        let place = self.station.place(sequence);
+        let cells = self.station.plan().cells();
+        let mut token = put_at(&mut self.tokens, place, Token::blank());
+        change_in(&mut token, cells, place, change);
+        put_at(&mut self.tokens, place, token);
+        Ok(())
+    }
+}

@@ -1,0 +1,31 @@
+//! Which rings are refused, and that their events are dropped.
+
+use crate::checks::check;
+use crate::counted::four;
+use crate::graphs::{Shape, graph};
+use crate::rows::LIMIT;
+use dr_meaning::OpenFault;
+use dr_plain_senders::senders_ring;
+use dr_seq::Size;
+use std::alloc::Global;
+use std::process::Abort;
+use std::sync::Arc;
+
+// A ring of four slots is refused so, and of its events none is left.
+fn check_refused(rt: &impl Abort, alloc: Global, limit: u64, senders: usize, fault: OpenFault) {
+    let alive = Arc::new(alloc, 0u64).expect(rt, "memory");
+    let size = Size::new(4).expect(rt, "a size");
+    let graph = graph(rt, alloc, Shape::Chain);
+    let events = four(rt, alloc, &alive);
+    assert!(rt; events.len() as u64 == size.get());
+    let made = senders_ring(alloc, &graph, size, limit, senders, events);
+    check(rt, made.err(), Some(fault));
+    check(rt, Arc::strong_count(&alive) as u64, 1);
+}
+
+#[test]
+fn a_ring_has_one_to_sixteen_senders(rt: HostRuntime) {
+    check_refused(&rt, rt.alloc(), LIMIT, 0, OpenFault::BadProducers);
+    check_refused(&rt, rt.alloc(), LIMIT, 17, OpenFault::BadProducers);
+    check_refused(&rt, rt.alloc(), 0, 16, OpenFault::BadLimit);
+}

@@ -1,0 +1,89 @@
+//! The workers of `dr_workers` over the ring's ends, several of them producers.
+
+use crate::checks::check;
+use crate::graphs::Shape;
+use crate::receiving::{Receive, check_received, start};
+use crate::ring::open;
+use dr_meaning::{Handler, MAX_LIMIT};
+use dr_plain_senders::{Receiver, Sender};
+use dr_seq::Event;
+use dr_workers::{OpenGate, Produced, consume, produce};
+use std::alloc::Global;
+use std::process::Abort;
+use std::sync::Wait;
+use std::thread::{self, JoinHandle, Threads};
+
+const THREE: Event = Event {
+    first: 3,
+    second: 0,
+};
+
+/// Adds up the first words of what it is shown, and counts it.
+#[derive(Drop)]
+struct Adder {
+    total: u64,
+    count: u64,
+}
+
+impl Handler<Event> for Adder {
+    ghost goes = { λ old event s end new. Unit {0} };
+
+    fn on_event(&mut self, event: Event, _s: u64, _end: bool) {
+        self.total = self.total.wrapping_add(event.first);
+        self.count = self.count.wrapping_add(1);
+    }
+}
+
+impl Receive for Receiver<Event> {
+    /// How many events came, where each had a three.
+    fn receive<R: Wait>(mut self, rt: &R, _alloc: Global, who: usize) -> Option<u64> {
+        let mut adder = Adder { total: 0, count: 0 };
+        let mut buffer = [Event::NONE; 64];
+        let fault = consume(rt, &mut self, &OpenGate, who, &mut adder, &mut buffer);
+        if fault.is_some() || adder.total != adder.count.wrapping_mul(3) {
+            return None;
+        }
+        Some(adder.count)
+    }
+}
+
+// A sender sends a script.
+fn send<R: Wait>(rt: &R, mut sender: Sender<Event>, who: usize, script: Vec<Event>) -> Produced {
+    produce(rt, &mut sender, &OpenGate, who, script.as_slice(), 20)
+}
+
+/// The threads of all senders, each of which sends so many threes.
+fn start_senders<R: Threads + Wait + Abort + Copy + Send + 'static>(
+    rt: R,
+    alloc: Global,
+    senders: Vec<Sender<Event>>,
+    count: usize,
+) -> Vec<JoinHandle<Produced>> {
+    let mut started = Vec::new(alloc);
+    for (who, sender) in senders.into_iter().enumerate() {
+        let script = vec![in alloc; THREE; count].expect(&rt, "memory");
+        let worker = thread::spawn(&rt, move || send(&rt, sender, who, script));
+        let pushed = started.push(worker.expect(&rt, "a thread"));
+        pushed.expect(&rt, "memory");
+    }
+    started
+}
+
+/// Each sender sent so many events.
+fn check_sent(rt: &(impl Threads + Abort), started: Vec<JoinHandle<Produced>>, sent: u64) {
+    check(rt, started.len(), 2);
+    for worker in started {
+        check(rt, worker.join(rt), Produced { sent, fault: None });
+    }
+}
+
+#[test]
+fn two_workers_over_a_diamond(rt: HostRuntime) {
+    let events = vec![in rt.alloc(); Event::NONE; 64].expect(&rt, "memory");
+    let mut ends = open(&rt, rt.alloc(), Shape::Diamond, MAX_LIMIT, 2, events);
+    let started = start(rt, rt.alloc(), ends.receivers);
+    let sending = start_senders(rt, rt.alloc(), ends.senders, 5_000);
+    check_sent(&rt, sending, 5_000);
+    ends.halter.halt();
+    check_received(&rt, started, 10_000);
+}
