@@ -18,7 +18,7 @@ ghost use Rattle.dr_plain_senders.specs.Inside.Rooms.{unmarked, AreBlankRows, Ar
 ghost use Rattle.dr_plain_senders.specs.Calls.Making.{sender_at, receiver_at, AreFreshEnds, fault_of};
 ghost use Rattle.dr_plain_senders.specs.Calls.Settling.{AreAllEnds};
 
-use crate::dealt::{blanks, deal};
+use crate::dealt::{blanks, deal, take_last};
 use crate::giving_up::{give_up, take_back};
 use crate::laws::{Halter, ReceiverStation, RingBody, RingSeat, RingTable, SenderStation};
 use crate::owned::Owned;
@@ -67,12 +67,8 @@ fn senders<T>(
 {
     let count = ring.plan.senders();
     for number in 0..count {
-        let Some(owned) = marks.pop() else {
-            unreachable!()
-        };
-        let Some(tokens) = rows.pop() else {
-            unreachable!()
-        };
+        let owned = take_last(&mut marks);
+        let tokens = take_last(&mut rows);
         let next = ring.table.shared.split_seat::<Cut>(&mut rest);
         let own = Arc::try_clone(ring)?;
         let station = SenderStation {
@@ -108,9 +104,7 @@ fn receivers<T>(
 {
     let handlers = ring.plan.handlers();
     for number in 0..handlers {
-        let Some(parts) = rows.pop() else {
-            unreachable!()
-        };
+        let parts = take_last(&mut rows);
         let next = ring.table.shared.split_seat::<Cut>(&mut rest);
         let own = Arc::try_clone(ring)?;
         let station = ReceiverStation {

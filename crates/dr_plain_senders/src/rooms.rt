@@ -34,15 +34,11 @@ fn marks_of(alloc: Global, count: usize, size: Size) -> Result<Vec<Owned>, Alloc
 }
 
 // So many rows, each of so many tokens of no cell.
-fn blank_rows<T>(
-    alloc: Global,
-    count: usize,
-    size: usize,
-) -> Result<Vec<Vec<Token<T>>>, AllocError>
+fn blank_rows<T>(alloc: Global, count: usize, size: usize) -> Result<Vec<Vec<Token<T>>>, AllocError>
     ensures { IfOk result (λ rows. AreBlankRows count size rows.items) }
 {
     let mut rows = Vec::with_capacity(alloc, count)?;
-    for made in 0..count {
+    for row in 0..count {
         rows.push(blanks(alloc, size)?)?;
     }
     Ok(rows)
@@ -53,8 +49,8 @@ impl<T> Rooms<T> {
     pub(crate) fn of(alloc: Global, plan: &Plan<T>) -> Result<Rooms<T>, AllocError>
         ensures { IfOk result (λ rooms. AreRooms plan.now rooms) }
     {
-        let size = plan.size().get() as usize;
         let words = vec![in alloc; 0; plan.words()]?;
+        let size = plan.size().get() as usize;
         let gathered = Gathered::of(alloc, plan.handlers(), size)?;
         let marks = marks_of(alloc, plan.senders(), plan.size())?;
         let tokens = blank_rows(alloc, plan.senders(), size)?;

@@ -12,4 +12,5 @@ abbrev pub invariant-loop-number : goal.invariant-loop-number
 invariant-loop-number g l = let k = (arc_value l.ring).plan in (l.rest.table_id ≡ l.fn.rest.table_id)
     × (l.rest.me ≡ fresh_seat (known_senders l.number (k.senders - l.number) ++ known_receivers 0 (handlers_of k)))
     × (l.senders.items ++ map (sender_at l.fn.rest.table_id k) (fresh_senders l.number (k.senders - l.number)) ≡ map (sender_at l.fn.rest.table_id k)
-    (fresh_senders 0 k.senders)) × (l.marks.items ≡ replicate (k.senders - l.number) (unmarked k.size)) × AreBlankRows (k.senders - l.number) k.size l.rows.items
+    (fresh_senders 0 k.senders))
+    × (l.marks.items ≡ replicate (k.senders - l.number) (unmarked k.size)) × AreBlankRows (k.senders - l.number) k.size l.rows.items
