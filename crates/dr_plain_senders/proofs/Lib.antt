@@ -62,6 +62,6 @@ pub mod StretchReplies
 pub mod ClaimReplies
 pub mod PollReplies
 pub mod Untouched
-pub mod Marked
+pub mod Alike
 pub mod Later
 pub mod Told

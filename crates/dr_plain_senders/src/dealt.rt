@@ -1,7 +1,7 @@
 //! Rows of tokens, one a cell or a slot. None has any bytes.
 
 ghost use Rattle.std.specs.Fn.{FnOnceReturnsAtMut};
-ghost use Rattle.std.specs.Prelude.{◌≡◌, ◌<◌, ◌≤◌, replicate, length, map, slice_set, Some, IfOk};
+ghost use Rattle.std.specs.Prelude.{◌≡◌, ◌<◌, ◌≤◌, [], ◌∷◌, ◌++◌, replicate, length, map, slice_set, Some, IfOk};
 ghost use mathlib.Core.Option.{some};
 ghost use lib.ListN.{get_elem?};
 ghost use Rattle.dr_cells.specs.Hold.{whole, IsWhole};
@@ -32,6 +32,17 @@ pub(crate) fn put_at<S>(row: &mut Vec<S>, place: usize, new: S) -> S
     ensures was { get_elem? row.old.items place ≡ some result }
 {
     replace(&mut row[place], new)
+}
+
+/// Takes the last of a row.
+pub(crate) fn take_last<S>(row: &mut Vec<S>) -> S
+    requires { 0 < length row.old.items }
+    ensures { row.old.items ≡ row.new.items ++ result ∷ [] }
+{
+    let Some(last) = row.pop() else {
+        unreachable!()
+    };
+    last
 }
 
 /// Puts the token of each cell of a row in its place, before all others.

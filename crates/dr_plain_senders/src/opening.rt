@@ -14,11 +14,11 @@ ghost use Rattle.dr_runs.specs.Seats.{fresh_seat};
 ghost use Rattle.dr_plain_senders.specs.Inside.Seats.{IsAtTable, known_senders, known_receivers, fresh_ends};
 ghost use Rattle.dr_plain_senders.specs.Inside.Stations.{IsKeyed};
 ghost use Rattle.dr_plain_senders.specs.Inside.Making.{AreFirst};
-ghost use Rattle.dr_plain_senders.specs.Inside.Rooms.{AreUnmarked, AreRooms};
+ghost use Rattle.dr_plain_senders.specs.Inside.Rooms.{unmarked, AreBlankRows, AreRooms};
 ghost use Rattle.dr_plain_senders.specs.Calls.Making.{sender_at, receiver_at, AreFreshEnds, fault_of};
 ghost use Rattle.dr_plain_senders.specs.Calls.Settling.{AreAllEnds};
 
-use crate::dealt::{blanks, deal};
+use crate::dealt::{blanks, deal, take_last};
 use crate::giving_up::{give_up, take_back};
 use crate::laws::{Halter, ReceiverStation, RingBody, RingSeat, RingTable, SenderStation};
 use crate::owned::Owned;
@@ -46,20 +46,20 @@ impl<T> Split<View<T>> for Cut {
     ghost right = { rest_view };
 }
 
-// The senders, each with its seat and its marks, and the seat of the receivers. `rest` stands for
-// them all.
+// The senders, each with its seat, its marks and its row of tokens, and the seat of the receivers.
+// `rest` stands for them all.
 fn senders<T>(
-    alloc: Global,
     ring: &Arc<RingBody<T>, Global>,
     mut rest: RingSeat<T>,
     mut marks: Vec<Owned>,
+    mut rows: Vec<Vec<Token<T>>>,
     mut senders: Vec<Sender<T>>,
 ) -> Result<(Vec<Sender<T>>, RingSeat<T>), AllocError>
     requires table { IsAtTable rest.table_id (arc_value ring.now).table.shared.table_id (arc_value ring.now).plan }
     requires keyed { IsKeyed (arc_value ring.now).table.shared.key (arc_value ring.now).plan }
     requires all { rest.me ≡ fresh_seat (known_senders 0 (arc_value ring.now).plan.senders ++ known_receivers 0 (handlers_of (arc_value ring.now).plan)) }
-    requires marks { AreUnmarked (arc_value ring.now).plan.size marks.items }
-    requires many { length marks.items ≡ (arc_value ring.now).plan.senders }
+    requires marks { marks.items ≡ replicate (arc_value ring.now).plan.senders (unmarked (arc_value ring.now).plan.size) }
+    requires rows { AreBlankRows (arc_value ring.now).plan.senders (arc_value ring.now).plan.size rows.items }
     requires none { senders.items ≡ [] }
     ensures senders { IfOk result (λ made. made.0.items ≡ map (sender_at rest.table_id (arc_value ring.now).plan) (fresh_senders 0 (arc_value ring.now).plan.senders)) }
     ensures table { IfOk result (λ made. made.1.table_id ≡ rest.table_id) }
@@ -67,10 +67,8 @@ fn senders<T>(
 {
     let count = ring.plan.senders();
     for number in 0..count {
-        let Some(owned) = marks.pop() else {
-            unreachable!()
-        };
-        let tokens = blanks(alloc, ring.plan.size().get() as usize)?;
+        let owned = take_last(&mut marks);
+        let tokens = take_last(&mut rows);
         let next = ring.table.shared.split_seat::<Cut>(&mut rest);
         let own = Arc::try_clone(ring)?;
         let station = SenderStation {
@@ -90,22 +88,23 @@ fn senders<T>(
     Ok((senders, rest))
 }
 
-// The receivers, each with its seat. `rest` stands for them all.
+// The receivers, each with its seat and its row of parts. `rest` stands for them all.
 fn receivers<T>(
-    alloc: Global,
     ring: &Arc<RingBody<T>, Global>,
     mut rest: RingSeat<T>,
+    mut rows: Vec<Vec<Token<T>>>,
     mut receivers: Vec<Receiver<T>>,
 ) -> Result<Vec<Receiver<T>>, AllocError>
     requires table { IsAtTable rest.table_id (arc_value ring.now).table.shared.table_id (arc_value ring.now).plan }
     requires keyed { IsKeyed (arc_value ring.now).table.shared.key (arc_value ring.now).plan }
     requires all { rest.me ≡ fresh_seat (known_receivers 0 (handlers_of (arc_value ring.now).plan)) }
+    requires rows { AreBlankRows (handlers_of (arc_value ring.now).plan) (arc_value ring.now).plan.size rows.items }
     requires none { receivers.items ≡ [] }
     ensures { IfOk result (λ v. v.items ≡ map (receiver_at rest.table_id (arc_value ring.now).plan) (fresh_receivers 0 (handlers_of (arc_value ring.now).plan))) }
 {
     let handlers = ring.plan.handlers();
     for number in 0..handlers {
-        let parts = blanks(alloc, ring.plan.size().get() as usize)?;
+        let parts = take_last(&mut rows);
         let next = ring.table.shared.split_seat::<Cut>(&mut rest);
         let own = Arc::try_clone(ring)?;
         let station = ReceiverStation {
@@ -140,11 +139,9 @@ fn lists_for<T>(alloc: Global, plan: &Plan<T>) -> Result<Lists<T>, AllocError>
     Ok(Lists { senders, receivers })
 }
 
-// The ends of a ring over a table. The lists have room for them, and a share of the body is only
-// counted. Each end's row of tokens has no bytes, but is asked for: where that is refused, the events
-// are kept.
+// The ends of a ring over a table. It asks for no memory: the lists have room for them, and a share
+// of the body is only counted.
 fn assemble<T>(
-    alloc: Global,
     ring: Arc<RingBody<T>, Global>,
     mut seat: RingSeat<T>,
     strip: Strip<T>,
@@ -160,8 +157,8 @@ fn assemble<T>(
     ensures { IfOk result (λ made. AreFreshEnds (arc_value ring).plan made.0.items made.1.items made.2) }
 {
     let rest = ring.table.shared.split_seat::<Cut>(&mut seat);
-    let (senders, rest) = senders(alloc, &ring, rest, rooms.marks, lists.senders)?;
-    let receivers = receivers(alloc, &ring, rest, lists.receivers)?;
+    let (senders, rest) = senders(&ring, rest, rooms.marks, rooms.tokens, lists.senders)?;
+    let receivers = receivers(&ring, rest, rooms.parts, lists.receivers)?;
     let halter = Halter {
         ring,
         seat,
@@ -196,7 +193,7 @@ fn ends<T: Drop>(
         }
     };
     match Arc::new(alloc, RingBody { table, plan }) {
-        Ok(ring) => assemble(alloc, ring, seat, strip, rooms, lists),
+        Ok(ring) => assemble(ring, seat, strip, rooms, lists),
         Err(failed) => {
             let AllocFailed { value } = failed;
             let table = value.table;
@@ -240,7 +237,7 @@ fn prepare<T>(
 /// It is refused with `BadProducers` where there are no senders or more than
 /// [`dr_meaning::MAX_PRODUCERS`], with `BadLimit` where the limit is 0 or above
 /// [`dr_meaning::MAX_LIMIT`], and with `NoMemory` where an allocation failed. The events are then
-/// dropped, but where it was that of an end's row of tokens, which has no bytes.
+/// dropped.
 pub fn senders_ring<T: Drop>(
     alloc: Global,
     graph: &Graph,

@@ -1,7 +1,8 @@
 -- What the ends of a ring need besides its table.
-use Rattle.std.specs.Prelude.{◌≡◌, ℕ, List, length, replicate}
-use mathlib.Core.Option.{some}
-use lib.ListN.{get_elem?}
+use Rattle.std.specs.Prelude.{◌≡◌, ℕ, List, map, replicate}
+use Rattle.std.specs.Global.{Vec}
+use Rattle.dr_cells.specs.declared.token.Token.{Token}
+use Rattle.dr_cells.specs.Tokens.{no_token}
 use Rattle.dr_plain_senders.specs.declared.owned.Owned.{Owned}
 use Rattle.dr_plain_senders.specs.declared.rooms.Rooms.{Rooms}
 use Rattle.dr_plain_senders.specs.Meaning.Shape.{Shape, handlers_of}
@@ -12,12 +13,13 @@ use Rattle.dr_plain_senders.specs.Inside.Gathered.{HasPlaces}
 abbrev pub unmarked : ℕ → Owned
 unmarked n = record { claimed = replicate n 0; written = replicate n 0; published = replicate n 0 }
 
--- each of these is such
-abbrev pub AreUnmarked : ℕ → List Owned → Type 0
-AreUnmarked n marks = (i : ℕ) (o : Owned) → get_elem? marks i ≡ some o → o ≡ unmarked n
+-- so many rows, each of so many tokens of no cell
+abbrev pub AreBlankRows : {T : Type 0} → ℕ → ℕ → List (Vec (Token T)) → Type 0
+AreBlankRows {T} count size rows = map (λ (row : Vec (Token T)). row.items) rows ≡ replicate count (replicate size no_token)
 
 pub record AreRooms {T : Type 0} (k : Shape) (rooms : Rooms T) : Type 0 where
   pub words : rooms.words.items ≡ replicate (words_of k) 0
   pub places : HasPlaces (handlers_of k) k.size rooms.gathered
-  pub marks : AreUnmarked k.size rooms.marks.items
-  pub many : length rooms.marks.items ≡ k.senders
+  pub marks : rooms.marks.items ≡ replicate k.senders (unmarked k.size)
+  pub tokens : AreBlankRows k.senders k.size rooms.tokens.items
+  pub parts : AreBlankRows (handlers_of k) k.size rooms.parts.items

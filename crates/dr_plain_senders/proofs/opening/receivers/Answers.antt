@@ -6,12 +6,18 @@ use Rattle.dr_runs.specs.Seats.{end_of}
 use Rattle.dr_plain_senders.specs.Inside.Stations.{ReceiverSits}
 use Rattle.dr_plain_senders.proofs.Going.{cut_on}
 use Rattle.dr_plain_senders.proofs.Making.{cut_own, cut_rest, receivers_next, receiver_sits, receiver_fits, receiver_view, receiver_listed}
+use Rattle.dr_plain_senders.proofs.Alike.{blank_row_last, blank_rows_left, blank_rows_many}
 use Rattle.dr_plain_senders.proofs.opening.receivers.Goals as goal
+
+pub take_last-parts-requires : goal.take_last-parts-requires
+take_last-parts-requires g c =
+    let count = c.handlers-handlers.ensures.count ∙ ap (λ r. handlers_of r.plan) c.deref.ensures in let test = c.loop-number-test.true in
+    let many = blank_rows_many _ _ _ c.loop-number.invariant.3 in omega arith
 
 pub split_seat-next-requires : goal.split_seat-next-requires
 split_seat-next-requires g c = let t = c.requires.table in (
-  c.loop-number.invariant.0 ∙ t.0 ∙ ap (λ r. r.table.shared.table_id) (sym c.deref-in-loop-number-2.ensures),
-  subst (λ r. 0 < r.table.shared.table_id.words) (sym c.deref-in-loop-number-2.ensures) (omega arith),
+  c.loop-number.invariant.0 ∙ t.0 ∙ ap (λ r. r.table.shared.table_id) (sym c.deref-in-loop-number.ensures),
+  subst (λ r. 0 < r.table.shared.table_id.words) (sym c.deref-in-loop-number.ensures) (omega arith),
   cut_on _ _ _,
 )
 
@@ -33,10 +39,12 @@ loop-number-preserved g c =
       receiver_listed c.args.rest.table_id _ c.loop-number.number _ c.loop-number.receivers.items _ _ _ (omega arith) inv.2 c.in_ok-push.ensures.items
           (receiver_view c.args.rest.table_id _ _ _ _ c.loop-number.number (own.0 ∙ inv.0) (ap (λ r. r.plan) c.in_ok-own.ensures)
           (cut_own _ _ _ _ _ inv.1 (receivers_next c.loop-number.number _ (omega arith)) own.2)),
+      blank_rows_left _ _ c.loop-number.number _ _ _ (omega arith) inv.3 c.take_last-parts.ensures,
     )
 
 pub invariant_of-push : goal.invariant_of-push
 invariant_of-push g c =
     let count = c.handlers-handlers.ensures.count ∙ ap (λ r. handlers_of r.plan) c.deref.ensures in let test = c.loop-number-test.true in
     receiver_fits _ _ c.loop-number.number _ _ (cut_own _ _ _ _ _ c.loop-number.invariant.1 (receivers_next c.loop-number.number _ (omega arith)) c.split_seat-next.ensures.2)
-    (ap length c.in_ok-parts.ensures ∙ length-replicate _ no_token ∙ c.get.ensures.value ∙ c.size.ensures ∙ ap (λ r. r.plan.size) c.deref-in-loop-number.ensures ∙ sym (ap (λ r. r.plan.size) c.in_ok-own.ensures))
+    (ap length (blank_row_last _ _ _ _ _ c.loop-number.invariant.3 c.take_last-parts.ensures) ∙ length-replicate _ no_token
+    ∙ sym (ap (λ r. r.plan.size) c.in_ok-own.ensures))

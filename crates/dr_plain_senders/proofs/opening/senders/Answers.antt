@@ -1,17 +1,22 @@
-use Rattle.std.proofs.Common.{◌<◌, length, arith, ap, sym, subst, ◌∙◌}
+use Rattle.std.proofs.Common.{◌<◌, length, arith, ap, refl, sym, subst, ◌∙◌}
 use Rattle.std.proofs.lemmas.List.{length-replicate}
 use Rattle.dr_cells.specs.Tokens.{no_token}
 use Rattle.dr_runs.specs.Seats.{end_of}
 use Rattle.dr_plain_senders.specs.Inside.Stations.{SenderSits}
 use Rattle.dr_plain_senders.proofs.Going.{cut_on}
 use Rattle.dr_plain_senders.proofs.Making.{cut_own, cut_rest, senders_next, sender_sits, sender_fits, sender_view, sender_listed}
-use Rattle.dr_plain_senders.proofs.Marked.{unmarked_last, unmarked_left, one_less}
+use Rattle.dr_plain_senders.proofs.Alike.{alike_last, alike_left, blank_row_last, blank_rows_left, blank_rows_many}
 use Rattle.dr_plain_senders.proofs.opening.senders.Goals as goal
+
+pub take_last-tokens-requires : goal.take_last-tokens-requires
+take_last-tokens-requires g c =
+    let count = c.senders-count.ensures.count ∙ ap (λ r. r.plan.senders) c.deref.ensures in let test = c.loop-number-test.true in
+    let many = blank_rows_many _ _ _ c.loop-number.invariant.4 in omega arith
 
 pub split_seat-next-requires : goal.split_seat-next-requires
 split_seat-next-requires g c = let t = c.requires.table in (
-  c.loop-number.invariant.0 ∙ t.0 ∙ ap (λ r. r.table.shared.table_id) (sym c.deref-in-loop-number-2.ensures),
-  subst (λ r. 0 < r.table.shared.table_id.words) (sym c.deref-in-loop-number-2.ensures) (omega arith),
+  c.loop-number.invariant.0 ∙ t.0 ∙ ap (λ r. r.table.shared.table_id) (sym c.deref-in-loop-number.ensures),
+  subst (λ r. 0 < r.table.shared.table_id.words) (sym c.deref-in-loop-number.ensures) (omega arith),
   cut_on _ _ _,
 )
 
@@ -32,9 +37,9 @@ loop-number-preserved g c =
       sender_listed c.args.rest.table_id _ c.loop-number.number _ c.loop-number.senders.items _ _ _ (omega arith) inv.2 c.in_ok-push.ensures.items
           (sender_view c.args.rest.table_id _ _ _ _ c.loop-number.number _ _ _ (own.0 ∙ inv.0) (ap (λ r. r.plan) c.in_ok-own.ensures)
           (cut_own _ _ _ _ _ inv.1 (senders_next c.loop-number.number _ _ (omega arith)) own.2)
-          c.in_ok-tokens.ensures (c.get.ensures.value ∙ c.size.ensures ∙ ap (λ r. r.plan.size) c.deref-in-loop-number.ensures)),
-      unmarked_left _ _ _ c.in-Some.owned inv.3 c.in-Some.ensures.items,
-      one_less _ _ c.in-Some.owned _ c.loop-number.number (omega arith) inv.4 c.in-Some.ensures.items,
+          (blank_row_last _ _ _ _ _ inv.4 c.take_last-tokens.ensures) refl),
+      alike_left _ _ _ _ _ c.loop-number.number (omega arith) inv.3 c.take_last-owned.ensures,
+      blank_rows_left _ _ c.loop-number.number _ _ _ (omega arith) inv.4 c.take_last-tokens.ensures,
     )
 
 pub invariant_of-push : goal.invariant_of-push
@@ -42,5 +47,5 @@ invariant_of-push g c =
     let count = c.senders-count.ensures.count ∙ ap (λ r. r.plan.senders) c.deref.ensures in let test = c.loop-number-test.true in
     let me = cut_own _ _ _ _ _ c.loop-number.invariant.1 (senders_next c.loop-number.number _ _ (omega arith)) c.split_seat-next.ensures.2 in
     let ring = sym (ap (λ r. r.plan.size) c.in_ok-own.ensures) in
-    sender_fits _ _ c.loop-number.number _ _ _ _ me ring (unmarked_last _ _ _ c.in-Some.owned c.loop-number.invariant.3 c.in-Some.ensures.items)
-    (ap length c.in_ok-tokens.ensures ∙ length-replicate _ no_token ∙ c.get.ensures.value ∙ c.size.ensures ∙ ap (λ r. r.plan.size) c.deref-in-loop-number.ensures ∙ ring)
+    sender_fits _ _ c.loop-number.number _ _ _ _ me ring (alike_last _ _ _ _ _ c.loop-number.invariant.3 c.take_last-owned.ensures)
+    (ap length (blank_row_last _ _ _ _ _ c.loop-number.invariant.4 c.take_last-tokens.ensures) ∙ length-replicate _ no_token ∙ ring)

@@ -1,10 +1,10 @@
-use Rattle.std.proofs.Common.{◌≡◌, ◌-◌, ◌++◌, length, map}
+use Rattle.std.proofs.Common.{◌≡◌, ◌-◌, ◌++◌, map, replicate}
 use Rattle.std.specs.Arc.{arc_value}
 use Rattle.dr_plain_senders.specs.Meaning.Shape.{handlers_of}
 use Rattle.dr_plain_senders.specs.Meaning.Moments.{fresh_senders}
 use Rattle.dr_runs.specs.Seats.{fresh_seat}
 use Rattle.dr_plain_senders.specs.Inside.Seats.{known_senders, known_receivers}
-use Rattle.dr_plain_senders.specs.Inside.Rooms.{AreUnmarked}
+use Rattle.dr_plain_senders.specs.Inside.Rooms.{unmarked, AreBlankRows}
 use Rattle.dr_plain_senders.specs.Calls.Making.{sender_at}
 use Rattle.dr_plain_senders.proofs.opening.senders.Given as goal
 
@@ -12,4 +12,5 @@ abbrev pub invariant-loop-number : goal.invariant-loop-number
 invariant-loop-number g l = let k = (arc_value l.ring).plan in (l.rest.table_id ≡ l.fn.rest.table_id)
     × (l.rest.me ≡ fresh_seat (known_senders l.number (k.senders - l.number) ++ known_receivers 0 (handlers_of k)))
     × (l.senders.items ++ map (sender_at l.fn.rest.table_id k) (fresh_senders l.number (k.senders - l.number)) ≡ map (sender_at l.fn.rest.table_id k)
-    (fresh_senders 0 k.senders)) × AreUnmarked k.size l.marks.items × (length l.marks.items ≡ k.senders - l.number)
+    (fresh_senders 0 k.senders))
+    × (l.marks.items ≡ replicate (k.senders - l.number) (unmarked k.size)) × AreBlankRows (k.senders - l.number) k.size l.rows.items
