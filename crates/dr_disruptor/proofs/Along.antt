@@ -68,10 +68,10 @@ module _ {A : Type 0} (goes : Relation Event A) (size : ℕ) (events : List Even
       → Along goes size events starts (h + 1) at sent (slice_set handlers h after)
   along_more starts handlers h at sent before after along has slots round full fresh shown =
       let Has : ℕ → A → Type 0 = λ k now. (start : A) → get_elem? starts k ≡ some start
-          → GoesThrough goes start (shown_first size events (far (h + 1) at sent k)) now in
+      → GoesThrough goes start (shown_first size events (far (h + 1) at sent k)) now in
       let here : Has h after = λ start is.
       (let was : GoesThrough goes start (shown_first size events at) before =
-          subst (λ (n : ℕ). GoesThrough goes start (shown_first size events n) before) (far_not h at sent h (omega arith)) (along.each h start before is has) in
+      subst (λ (n : ℕ). GoesThrough goes start (shown_first size events n) before) (far_not h at sent h (omega arith)) (along.each h start before is has) in
       subst (λ (n : ℕ). GoesThrough goes start (shown_first size events n) after) (sym (far_turned (h + 1) at sent h (omega arith)))
       (went_round goes size events start before after at sent slots round full (omega arith) was shown)) in
       let others : (k : ℕ) (now : A) → k ≢ h → get_elem? handlers k ≡ some now → Has k now = λ k now other is. λ start starts_so.
@@ -111,7 +111,7 @@ module _ {A : Type 0} (goes : Relation Event A) (size : ℕ) (events : List Even
         many = along.many;
         each = λ h start now has is.
             subst (λ (n : ℕ). GoesThrough goes start (shown_first size events n) now)
-                (far_not 0 at at h (omega arith) ∙ sym (far_not 0 at sent h (omega arith))) (along.each h start now has is);
+            (far_not 0 at at h (omega arith) ∙ sym (far_not 0 at sent h (omega arith))) (along.each h start now has is);
       } in
       record {
         rests = subst (λ (c : Setup). Rests c.upstreams c.size events 0 at sent core) (sym rests.holds.setup) rests;

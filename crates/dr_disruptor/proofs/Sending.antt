@@ -51,7 +51,7 @@ module _ (old new : CoreView Event) (graph : List (List ℕ)) (size : ℕ) (even
   claim_ok lo hi is_graph rests some fits limit is =
       let each = level rests in
       let (low, high, holds) = core.claim_ok old new graph size events at n rests.counts lo hi (gated graph events at at at rests.counts is_graph each)
-          rests.holds some fits limit is in
+      rests.holds some fits limit is in
       (low, high, record { counts = rests.counts; many = rests.many; each = each; holds = holds })
 
   pub claim_err : (r : Refusal) → IsGraph graph → Rests graph size events 0 at at old → 0 < n → n ≤ size → at + n ≤ 2 ^ 62
@@ -62,8 +62,12 @@ module _ (old new : CoreView Event) (graph : List (List ℕ)) (size : ℕ) (even
   pub write_ok : (w : ℕ) (e : Event) → InHand graph size events (at + n) w at old → at ≤ w → w < at + n → e ≡ slice_index_or events w no_event
       → IsStep old (Write 0 w e) Written [] new
       → InHand graph size events (at + n) (w + 1) at new
-  write_ok w e hand low high here is = record { counts = hand.counts; many = hand.many; each = hand.each;
-      holds = core.write_ok old new graph size events at n hand.counts w e hand.holds low high here is }
+  write_ok w e hand low high here is = record {
+    counts = hand.counts;
+    many = hand.many;
+    each = hand.each;
+    holds = core.write_ok old new graph size events at n hand.counts w e hand.holds low high here is;
+  }
 
   pub write_err : (w : ℕ) (e : Event) (r : Refusal) → InHand graph size events (at + n) w at old → at ≤ w → w < at + n → e ≡ slice_index_or events w no_event
       → IsStep old (Write 0 w e) (Refused r) [] new → ⊥

@@ -35,7 +35,7 @@ offered_is m (u ∷ us) n here each =
     let above : n ≤ least_of (map (λ h. slice_index m.completed h) (u ∷ us)) = least_above_some (λ h. slice_index m.completed h) n u (u ∷ us) first
     (λ f has. let same : slice_index m.completed f ≡ n = each f has in omega arith) in
     let below : least_of (map (λ h. slice_index m.completed h) (u ∷ us)) ≤ slice_index m.completed u =
-        least_of-member (λ h. slice_index m.completed h) (u ∷ us) u first in
+    least_of-member (λ h. slice_index m.completed h) (u ∷ us) u first in
     let same : slice_index m.completed u ≡ n = each u first in
     omega arith
 

@@ -40,7 +40,7 @@ sender_fine k script produced S limit short within unhalted =
     let rest : length (drop produced.sent script) ≡ length script - produced.sent = length-drop produced.sent script in
     let published : length S.back.knows.sent.published ≡ produced.sent = ap length S.published ∙ length-take-le produced.sent script within in
     absurd (ring.no_refusal k S.given claim.last S.back calls.calls (min (length (drop produced.sent script)) (max (k.size / 4) 1)) gives.0 fresh calls.lead
-        S.complete unhalted
+    S.complete unhalted
     (omega arith) (omega arith) (omega arith) claim.other claim.claims))
     gate.answers
 

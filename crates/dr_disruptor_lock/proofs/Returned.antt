@@ -274,14 +274,14 @@ module _ {L A : Type 0} (begun : History Event) (size : ℕ) (goes : Relation Ev
         ran.list
         (λ list found.
         subst (λ (c : Setup). IsAudited (transcript ran.recorded.history) (handlers c) (fronts scripts (map (λ (s : Sent L). s.produced) sent)) list.items)
-            came.history.goes_on.setup
+        came.history.goes_on.setup
         (subst (λ (l : List (List Event)). IsAudited (transcript ran.recorded.history) (handlers ran.recorded.history.core.setup) l list.items) were_sent found))
         came.audited;
     amiss = where_err _ (IsAmiss (transcript ran.recorded.history) (handlers begun.core.setup) (fronts scripts (map (λ (s : Sent L). s.produced) sent))
         (λ list h. h < length starts)) ran.list
         (λ f found.
         amiss_as (transcript ran.recorded.history) ran.recorded.history.core.setup begun.core.setup (map (λ (s : Sent L). s.script.items) sent)
-            (fronts scripts (map (λ (s : Sent L). s.produced) sent))
+        (fronts scripts (map (λ (s : Sent L). s.produced) sent))
         (IsUnlike (map (λ (s : Served L A). s.watching) served)) (λ list h. h < length starts) f came.history.goes_on.setup were_sent
         (λ list h unlike. let below = unlike.0 in let many = length-map served (λ (s : Served L A). s.watching) ∙ many_served in omega arith) found)
         came.amiss;

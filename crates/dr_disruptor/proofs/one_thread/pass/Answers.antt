@@ -27,7 +27,7 @@ returns-in_err-turns g c =
     let full : sent ≡ min (c.loop-at.at + c.args.core.now.setup.size) (length c.args.script.now) = omega arith in
     absurd (c.in_err-turns.ensures c.args.script.now c.args.handlers.now c.loop-at.at sent
     (offered g.H.Handler.goes _ c.args.script.now _ _ c.args.handlers.now c.loop-at.handlers c.loop-at.at sent c.send.new.core c.in_ok-send.ensures same
-        is.along (omega arith) round full))
+    is.along (omega arith) round full))
 
 pub loop-at-preserved : goal.loop-at-preserved
 loop-at-preserved g c =
@@ -41,7 +41,7 @@ loop-at-preserved g c =
     let full : sent ≡ min (c.loop-at.at + c.args.core.now.setup.size) (length c.args.script.now) = omega arith in
     let turned = c.in_ok-turns.ensures c.args.script.now c.args.handlers.now c.loop-at.at sent
     (offered g.H.Handler.goes _ c.args.script.now _ _ c.args.handlers.now c.loop-at.handlers c.loop-at.at sent c.send.new.core c.in_ok-send.ensures same
-        is.along (omega arith) round full) in
+    is.along (omega arith) round full) in
     record {
       within = omega arith;
       rests = subst (λ (s : Setup). Rests s.upstreams s.size c.args.script.now 0 sent sent c.turns.new.core) setup turned.rests;

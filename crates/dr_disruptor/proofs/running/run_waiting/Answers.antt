@@ -22,7 +22,7 @@ finish-requires-clause-fresh g c =
     let made = c.in_ok-fresh in
     let begun = c.in_ok-sender in
     let ready = are_ready k made.fresh begun.sender made.receivers.items made.halter c.args.handlers.items begun.workers.items made.ensures.fresh
-        made.ensures.ends begun.ensures.sender begun.ensures.ends begun.ensures.starts in
+    made.ensures.ends begun.ensures.sender begun.ensures.ends begun.ensures.starts in
     let produced = c.produce_with-produced in
     same_ends k begun.sender produced.new.inlet (map given_end begun.workers.items) made.halter ready.fresh produced.ensures.kept
 
@@ -32,7 +32,7 @@ finish-requires-clause-ends g c =
     let made = c.in_ok-fresh in
     let begun = c.in_ok-sender in
     let ready = are_ready k made.fresh begun.sender made.receivers.items made.halter c.args.handlers.items begun.workers.items made.ensures.fresh
-        made.ensures.ends begun.ensures.sender begun.ensures.ends begun.ensures.starts in
+    made.ensures.ends begun.ensures.sender begun.ensures.ends begun.ensures.starts in
     let produced = c.produce_with-produced in
     all_moved begun.sender produced.new.inlet (map given_end begun.workers.items) made.halter produced.ensures.kept ready.ends
 
@@ -42,7 +42,7 @@ returns-clause-run g c =
     let made = c.in_ok-fresh in
     let begun = c.in_ok-sender in
     let ready = are_ready k made.fresh begun.sender made.receivers.items made.halter c.args.handlers.items begun.workers.items made.ensures.fresh
-        made.ensures.ends begun.ensures.sender begun.ensures.ends begun.ensures.starts in
+    made.ensures.ends begun.ensures.sender begun.ensures.ends begun.ensures.starts in
     let produced = c.produce_with-produced in
     let script = c.args.script.now in
     let ends = map given_end begun.workers.items in
@@ -63,10 +63,10 @@ returns-clause-run g c =
     run_of g.H.Handler.goes k c.args.handlers.items script produced.result (map given_handler begun.workers.items)
     c.in_ok-ran.ran ready.handlers sending produced.ensures.within all
     (came g.H.Handler.goes k c.args.handlers.items produced.new.inlet (map given_handler begun.workers.items) produced.result.fault c.in_ok-ran.ran plan
-        c.in_ok-ran.ensures.ran c.in_ok-ran.ensures.closes c.in_ok-ran.ensures.claimed c.in_ok-ran.ensures.unhalted)
+    c.in_ok-ran.ensures.ran c.in_ok-ran.ensures.closes c.in_ok-ran.ensures.claimed c.in_ok-ran.ensures.unhalted)
 
 pub returns-clause-whole : goal.returns-clause-whole
 returns-clause-whole g c =
     let short : length c.args.script.now < 2 ^ 62 = search rules in
     went_whole g.H.Handler.goes (shape_of c.args.graph.now.upstreams c.args.size) c.args.handlers.items c.args.script.now c.in_ok-ran.ran refl
-        (returns-clause-run g c) (omega arith)
+    (returns-clause-run g c) (omega arith)
