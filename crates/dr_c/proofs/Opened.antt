@@ -36,7 +36,8 @@ freed_more os left left' n next within many freed =
 pub why_here : (b : Bool) (count senders size limit : ℕ) (masks : List ℕ) (fault : OpenFault) → b ≡ false → count ≡ length masks
     → IsWhy false (length masks) senders size limit masks fault → IsWhy b count senders size limit masks fault
 why_here b count senders size limit masks fault closed same why =
-    subst (λ (x : Bool). IsWhy x count senders size limit masks fault) (sym closed) (subst (λ (n : ℕ). IsWhy false n senders size limit masks fault) (sym same) why)
+    subst (λ (x : Bool). IsWhy x count senders size limit masks fault) (sym closed)
+    (subst (λ (n : ℕ). IsWhy false n senders size limit masks fault) (sym same) why)
 
 -- and nothing is amiss where nothing is with the ring
 pub fine_here : (b : Bool) (count senders size limit : ℕ) (masks : List ℕ) → b ≡ false → count ≡ length masks
@@ -62,7 +63,8 @@ bad_size senders size limit masks bad = (bad, (false≢true, ((λ other. other r
 pub no_handlers : (senders size limit : ℕ) (masks : List ℕ) → IsSize size → length masks ≡ 0 → IsWhy false (length masks) senders size limit masks NoHandlers
 no_handlers senders size limit masks fits none = (none, (false≢true, ((λ other. other refl), ((λ bad. bad fits), tt))))
 
-pub too_many : (senders size limit : ℕ) (masks : List ℕ) → IsSize size → length masks ≢ 0 → 16 < length masks → IsWhy false (length masks) senders size limit masks TooMany
+pub too_many : (senders size limit : ℕ) (masks : List ℕ) → IsSize size → length masks ≢ 0 → 16 < length masks
+    → IsWhy false (length masks) senders size limit masks TooMany
 too_many senders size limit masks fits some many = (many, (false≢true, ((λ other. other refl), ((λ bad. bad fits), (some, tt)))))
 
 few : (n : ℕ) → n ≤ 16 → 16 < n → ⊥
@@ -82,7 +84,8 @@ pub bad_producers : (senders size limit : ℕ) (masks : List ℕ) → IsSize siz
 bad_producers senders size limit masks fits some within order bad = (bad, masks_fine senders size limit masks fits some within order)
 
 -- nor is one fault more
-nor : (b : Bool) (count senders size limit : ℕ) (masks : List ℕ) (faults : List OpenFault) (fault : OpenFault) → NoneIsAmiss b count senders size limit masks faults
+nor : (b : Bool) (count senders size limit : ℕ) (masks : List ℕ) (faults : List OpenFault) (fault : OpenFault)
+    → NoneIsAmiss b count senders size limit masks faults
     → (IsAmiss b count senders size limit masks fault → ⊥) → NoneIsAmiss b count senders size limit masks (faults ++ fault ∷ [])
 nor b count senders size limit masks [] fault none not_it = (not_it, tt)
 nor b count senders size limit masks (first ∷ faults) fault none not_it = (none.0, nor b count senders size limit masks faults fault none.1 not_it)
@@ -90,7 +93,8 @@ nor b count senders size limit masks (first ∷ faults) fault none not_it = (non
 senders_fine : (senders size limit : ℕ) (masks : List ℕ) → IsSize size → length masks ≢ 0 → length masks ≤ 16 → AreInOrder masks
     → has_bad_producers (Multi senders) ≡ false → NoneIsAmiss false (length masks) senders size limit masks (before BadLimit)
 senders_fine senders size limit masks fits some within order enough =
-    nor false (length masks) senders size limit masks (before BadProducers) BadProducers (masks_fine senders size limit masks fits some within order) (λ bad. false≢true (sym enough ∙ bad))
+    nor false (length masks) senders size limit masks (before BadProducers) BadProducers (masks_fine senders size limit masks fits some within order)
+    (λ bad. false≢true (sym enough ∙ bad))
 
 pub bad_limit : (senders size limit : ℕ) (masks : List ℕ) → IsSize size → length masks ≢ 0 → length masks ≤ 16 → AreInOrder masks
     → has_bad_producers (Multi senders) ≡ false → is_bad_limit limit ≡ true → IsWhy false (length masks) senders size limit masks BadLimit
@@ -99,10 +103,12 @@ bad_limit senders size limit masks fits some within order enough bad = (bad, sen
 pub all_fine : (senders size limit : ℕ) (masks : List ℕ) → IsSize size → length masks ≢ 0 → length masks ≤ 16 → AreInOrder masks
     → has_bad_producers (Multi senders) ≡ false → is_bad_limit limit ≡ false → IsFine false (length masks) senders size limit masks
 all_fine senders size limit masks fits some within order enough good =
-    nor false (length masks) senders size limit masks (before BadLimit) BadLimit (senders_fine senders size limit masks fits some within order enough) (λ bad. false≢true (sym good ∙ bad))
+    nor false (length masks) senders size limit masks (before BadLimit) BadLimit (senders_fine senders size limit masks fits some within order enough)
+    (λ bad. false≢true (sym good ∙ bad))
 
 -- where nothing is amiss memory may be wanting
-pub no_memory : (b : Bool) (count senders size limit : ℕ) (masks : List ℕ) → IsFine b count senders size limit masks → IsWhy b count senders size limit masks NoMemory
+pub no_memory : (b : Bool) (count senders size limit : ℕ) (masks : List ℕ) → IsFine b count senders size limit masks
+    → IsWhy b count senders size limit masks NoMemory
 no_memory b count senders size limit masks fine = (tt, fine)
 
 -- none of the receivers' handles is open
@@ -117,13 +123,16 @@ pub freed_again : (s : Handle) (hs freed : List Handle) (h : Handle) (n : ℕ) �
 freed_again s hs freed h n closed same none = none ∙ ap (λ (k : ℕ). replicate k None) same ∙ sym (none_before s hs h closed)
 
 -- none of the handles of several senders is open, nor one of their receivers'
-pub none_among : (ss rs : List Handle) (h : Handle) → are_all_open ss rs h ≡ false → (ends_in ss ≡ replicate (length ss) None) × (ends_in rs ≡ replicate (length rs) None)
+pub none_among : (ss rs : List Handle) (h : Handle) → are_all_open ss rs h ≡ false
+    → (ends_in ss ≡ replicate (length ss) None) × (ends_in rs ≡ replicate (length rs) None)
 none_among ss rs h closed =
     let p = list_any (λ k. is_some k.held.value) ss in let q = list_any (λ k. is_some k.held.value) rs in
     let both = or_parts p q (or_parts (p || q) (is_some h.held.value) closed).0 in (none_in ss both.0, none_in rs both.1)
 
-pub senders_again : (ss rs freed : List Handle) (h : Handle) (n : ℕ) → are_all_open ss rs h ≡ false → n ≡ length ss → ends_in freed ≡ replicate n None → ends_in freed ≡ ends_in ss
+pub senders_again : (ss rs freed : List Handle) (h : Handle) (n : ℕ) → are_all_open ss rs h ≡ false → n ≡ length ss → ends_in freed ≡ replicate n None
+    → ends_in freed ≡ ends_in ss
 senders_again ss rs freed h n closed same none = none ∙ ap (λ (k : ℕ). replicate k None) same ∙ sym (none_among ss rs h closed).0
 
-pub receivers_again : (ss rs freed : List Handle) (h : Handle) (n : ℕ) → are_all_open ss rs h ≡ false → n ≡ length rs → ends_in freed ≡ replicate n None → ends_in freed ≡ ends_in rs
+pub receivers_again : (ss rs freed : List Handle) (h : Handle) (n : ℕ) → are_all_open ss rs h ≡ false → n ≡ length rs → ends_in freed ≡ replicate n None
+    → ends_in freed ≡ ends_in rs
 receivers_again ss rs freed h n closed same none = none ∙ ap (λ (k : ℕ). replicate k None) same ∙ sym (none_among ss rs h closed).1

@@ -21,7 +21,8 @@ use Rattle.dr_disruptor.proofs.Turning.{far_other}
 -- Of the core.
 
 -- nothing was sent
-pub rests_first : (graph : List (List ℕ)) (size : ℕ) (events : List Event) (core : CoreView Event) → core.setup ≡ single_setup graph size → Shows core (opening (single_setup graph size))
+pub rests_first : (graph : List (List ℕ)) (size : ℕ) (events : List Event) (core : CoreView Event) → core.setup ≡ single_setup graph size
+    → Shows core (opening (single_setup graph size))
     → Rests graph size events 0 0 0 core
 rests_first graph size events core setup shows =
     let first : State Event = opening (single_setup graph size) in
@@ -55,18 +56,22 @@ module _ {A : Type 0} (goes : Relation Event A) (size : ℕ) (events : List Even
   pub along_first : (starts : List A) → Along goes size events starts 0 0 0 starts
   along_first starts = record {
     many = refl;
-    each = λ h start now has is. subst (λ (n : ℕ). GoesThrough goes start (shown_first size events n) now) (sym (far_not 0 0 0 h (omega arith))) (some-injective start now (sym has ∙ is));
+    each = λ h start now has is. subst (λ (n : ℕ). GoesThrough goes start (shown_first size events n) now) (sym (far_not 0 0 0 h (omega arith)))
+        (some-injective start now (sym has ∙ is));
   }
 
   -- one more had its turn
-  pub along_more : (starts handlers : List A) (h at sent : ℕ) (before after : A) → Along goes size events starts h at sent handlers → get_elem? handlers h ≡ some before
+  pub along_more : (starts handlers : List A) (h at sent : ℕ) (before after : A) → Along goes size events starts h at sent handlers
+      → get_elem? handlers h ≡ some before
       → 0 < size → at % size ≡ 0 → sent ≡ min (at + size) (length events) → at < sent
       → GoesThrough goes before (showings (take (sent - at) (drop at events)) at true) after
       → Along goes size events starts (h + 1) at sent (slice_set handlers h after)
   along_more starts handlers h at sent before after along has slots round full fresh shown =
-      let Has : ℕ → A → Type 0 = λ k now. (start : A) → get_elem? starts k ≡ some start → GoesThrough goes start (shown_first size events (far (h + 1) at sent k)) now in
+      let Has : ℕ → A → Type 0 = λ k now. (start : A) → get_elem? starts k ≡ some start
+      → GoesThrough goes start (shown_first size events (far (h + 1) at sent k)) now in
       let here : Has h after = λ start is.
-      (let was : GoesThrough goes start (shown_first size events at) before = subst (λ (n : ℕ). GoesThrough goes start (shown_first size events n) before) (far_not h at sent h (omega arith)) (along.each h start before is has) in
+      (let was : GoesThrough goes start (shown_first size events at) before =
+      subst (λ (n : ℕ). GoesThrough goes start (shown_first size events n) before) (far_not h at sent h (omega arith)) (along.each h start before is has) in
       subst (λ (n : ℕ). GoesThrough goes start (shown_first size events n) after) (sym (far_turned (h + 1) at sent h (omega arith)))
       (went_round goes size events start before after at sent slots round full (omega arith) was shown)) in
       let others : (k : ℕ) (now : A) → k ≢ h → get_elem? handlers k ≡ some now → Has k now = λ k now other is. λ start starts_so.
@@ -88,21 +93,25 @@ module _ {A : Type 0} (goes : Relation Event A) (size : ℕ) (events : List Even
   }
 
   -- they went through all of them
-  pub along_all : (starts handlers : List A) (at : ℕ) → at ≡ length events → Along goes size events starts 0 at at handlers → AllAreShown goes (shown_here size events) starts handlers
+  pub along_all : (starts handlers : List A) (at : ℕ) → at ≡ length events → Along goes size events starts 0 at at handlers
+      → AllAreShown goes (shown_here size events) starts handlers
   along_all starts handlers at all along = record {
     many = along.many;
-    each = λ h start now has is. subst (λ (n : ℕ). GoesThrough goes start (shown_first size events n) now) (far_not 0 at at h (omega arith) ∙ all) (along.each h start now has is);
+    each = λ h start now has is. subst (λ (n : ℕ). GoesThrough goes start (shown_first size events n) now) (far_not 0 at at h (omega arith) ∙ all)
+        (along.each h start now has is);
   }
 
   -- what was sent is offered to the handlers
-  pub offered : (graph : List (List ℕ)) (slots : ℕ) (starts handlers : List A) (at sent : ℕ) (core : CoreView Event) → Rests graph slots events 0 at sent core → slots ≡ size
-      → Along goes size events starts 0 at at handlers → at < sent → at % size ≡ 0 → sent ≡ min (at + size) (length events) → AreOffered goes events starts at sent core handlers
+  pub offered : (graph : List (List ℕ)) (slots : ℕ) (starts handlers : List A) (at sent : ℕ) (core : CoreView Event) → Rests graph slots events 0 at sent core
+      → slots ≡ size → Along goes size events starts 0 at at handlers → at < sent → at % size ≡ 0
+      → sent ≡ min (at + size) (length events) → AreOffered goes events starts at sent core handlers
   offered graph slots starts handlers at sent core rests is_size along fresh round full =
       let same : size ≡ core.setup.size = sym is_size ∙ ap (λ (c : Setup). c.size) (sym rests.holds.setup) in
       let still : Along goes size events starts 0 at sent handlers = record {
         many = along.many;
         each = λ h start now has is.
-            subst (λ (n : ℕ). GoesThrough goes start (shown_first size events n) now) (far_not 0 at at h (omega arith) ∙ sym (far_not 0 at sent h (omega arith))) (along.each h start now has is);
+            subst (λ (n : ℕ). GoesThrough goes start (shown_first size events n) now)
+            (far_not 0 at at h (omega arith) ∙ sym (far_not 0 at sent h (omega arith))) (along.each h start now has is);
       } in
       record {
         rests = subst (λ (c : Setup). Rests c.upstreams c.size events 0 at sent core) (sym rests.holds.setup) rests;

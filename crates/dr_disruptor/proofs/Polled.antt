@@ -68,7 +68,8 @@ offered n closed cursor r old [] (c ∷ counts) many is saw = absurd (omega arit
 offered n closed cursor r old (u ∷ ups) (c ∷ counts) many is saw =
     let seen : List Look = look closed_word closed ∷ look cursor_word cursor ∷ [] in
     let least = least_of-le (c ∷ counts) 0 (omega arith) in
-    let first : c ≤ n = saw u (old ++ seen) (count_looks ups counts) (look (count_word u) c) (is ∙ sym (append_assoc old seen (count_looks (u ∷ ups) (c ∷ counts)))) (inr refl) in
+    let first : c ≤ n = saw u (old ++ seen) (count_looks ups counts) (look (count_word u) c)
+    (is ∙ sym (append_assoc old seen (count_looks (u ∷ ups) (c ∷ counts)))) (inr refl) in
     omega arith
 
 -- What it was handed.
@@ -87,7 +88,8 @@ module _ (room n : ℕ) where
       let seen : PollLooks = is.1.1.0 in
       let answers = is.1.1.2 in
       let within : offer seen ≤ n =
-      offered n seen.closed seen.cursor b.knows a.knows.looks (upstreams_of a.knows.plan.upstreams a.knows.number) seen.counts is.1.1.1 (ap (λ (r : ReceiverRecord). r.looks) answers.4) saw
+      offered n seen.closed seen.cursor b.knows a.knows.looks (upstreams_of a.knows.plan.upstreams a.knows.number) seen.counts is.1.1.1
+      (ap (λ (r : ReceiverRecord). r.looks) answers.4) saw
       in
       batch_polled room n first count (offer seen) end before after long longer answers.1 answers.2 answers.3.1 within
 

@@ -17,7 +17,8 @@ use Rattle.dr_disruptor.specs.Serving.{AreReady, Worker}
 abbrev the_end : TableId → SenderRecord → List Step → List Step → SenderEnd
 the_end ring knows past stored = record { ring = ring; knows = knows; past = past; stored = stored }
 
-pub are_ready : {A : Type 0} (k : Shape) (s s' : SenderEnd) (rs : List ReceiverEnd) (t : HalterEnd) (starts : List A) (ws : List (Worker A)) → AreFreshEnds k s rs t → AreAllEnds s rs t
+pub are_ready : {A : Type 0} (k : Shape) (s s' : SenderEnd) (rs : List ReceiverEnd) (t : HalterEnd) (starts : List A) (ws : List (Worker A))
+    → AreFreshEnds k s rs t → AreAllEnds s rs t
     → s' ≡ s → map given_end ws ≡ rs → map given_handler ws ≡ starts → AreReady k starts s' ws t
 are_ready k s s' rs t starts ws fresh all same ends handlers =
     subst (λ (e : SenderEnd). AreReady k starts e ws t) (sym same) (record {

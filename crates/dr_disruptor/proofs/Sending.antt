@@ -33,7 +33,8 @@ pub record InHand (graph : List (List ℕ)) (size : ℕ) (events : List Event) (
   pub holds : Holds graph size events claimed written at counts counts core
 
 -- where every handler is that far, so is the least final one
-gated : (graph : List (List ℕ)) (events : List Event) (claimed written at : ℕ) (counts : List ℕ) → IsGraph graph → ((h : ℕ) → h < length graph → slice_index counts h ≡ at)
+gated : (graph : List (List ℕ)) (events : List Event) (claimed written at : ℕ) (counts : List ℕ) → IsGraph graph
+    → ((h : ℕ) → h < length graph → slice_index counts h ≡ at)
     → at ≤ least_completed (passed events claimed written at counts counts) (finals_without graph nobody)
 gated graph events claimed written at counts is each =
     let one = is.gate nobody (λ h. 0) (λ h u has. omega arith) 0 is.some refl in
@@ -44,22 +45,32 @@ module _ (old new : CoreView Event) (graph : List (List ℕ)) (size : ℕ) (even
   level : (rests : Rests graph size events 0 at at old) (h : ℕ) → h < length graph → slice_index rests.counts h ≡ at
   level rests h inside = rests.each h inside ∙ far_not 0 at at h (omega arith)
 
-  pub claim_ok : (lo hi : ℕ) → IsGraph graph → Rests graph size events 0 at at old → 0 < n → n ≤ size → at + n ≤ 2 ^ 62 → IsStep old (Claim 0 n) (Claimed lo hi) [] new
+  pub claim_ok : (lo hi : ℕ) → IsGraph graph → Rests graph size events 0 at at old → 0 < n → n ≤ size → at + n ≤ 2 ^ 62
+      → IsStep old (Claim 0 n) (Claimed lo hi) [] new
       → (lo ≡ at) × (hi ≡ at + n - 1) × InHand graph size events (at + n) at at new
   claim_ok lo hi is_graph rests some fits limit is =
       let each = level rests in
-      let (low, high, holds) = core.claim_ok old new graph size events at n rests.counts lo hi (gated graph events at at at rests.counts is_graph each) rests.holds some fits limit is in
+      let (low, high, holds) = core.claim_ok old new graph size events at n rests.counts lo hi (gated graph events at at at rests.counts is_graph each)
+      rests.holds some fits limit is in
       (low, high, record { counts = rests.counts; many = rests.many; each = each; holds = holds })
 
-  pub claim_err : (r : Refusal) → IsGraph graph → Rests graph size events 0 at at old → 0 < n → n ≤ size → at + n ≤ 2 ^ 62 → IsStep old (Claim 0 n) (Refused r) [] new → ⊥
+  pub claim_err : (r : Refusal) → IsGraph graph → Rests graph size events 0 at at old → 0 < n → n ≤ size → at + n ≤ 2 ^ 62
+      → IsStep old (Claim 0 n) (Refused r) [] new → ⊥
   claim_err r is_graph rests some fits limit is =
       core.claim_err old new graph size events at n rests.counts r (gated graph events at at at rests.counts is_graph (level rests)) rests.holds some fits limit is
 
-  pub write_ok : (w : ℕ) (e : Event) → InHand graph size events (at + n) w at old → at ≤ w → w < at + n → e ≡ slice_index_or events w no_event → IsStep old (Write 0 w e) Written [] new
+  pub write_ok : (w : ℕ) (e : Event) → InHand graph size events (at + n) w at old → at ≤ w → w < at + n → e ≡ slice_index_or events w no_event
+      → IsStep old (Write 0 w e) Written [] new
       → InHand graph size events (at + n) (w + 1) at new
-  write_ok w e hand low high here is = record { counts = hand.counts; many = hand.many; each = hand.each; holds = core.write_ok old new graph size events at n hand.counts w e hand.holds low high here is }
+  write_ok w e hand low high here is = record {
+    counts = hand.counts;
+    many = hand.many;
+    each = hand.each;
+    holds = core.write_ok old new graph size events at n hand.counts w e hand.holds low high here is;
+  }
 
-  pub write_err : (w : ℕ) (e : Event) (r : Refusal) → InHand graph size events (at + n) w at old → at ≤ w → w < at + n → e ≡ slice_index_or events w no_event → IsStep old (Write 0 w e) (Refused r) [] new → ⊥
+  pub write_err : (w : ℕ) (e : Event) (r : Refusal) → InHand graph size events (at + n) w at old → at ≤ w → w < at + n → e ≡ slice_index_or events w no_event
+      → IsStep old (Write 0 w e) (Refused r) [] new → ⊥
   write_err w e r hand low high here is = core.write_err old new graph size events at n hand.counts w e r hand.holds low high here is
 
   pub publish_any : (result : Result (Unit {0}) Refusal) (hi : ℕ) → hi ≡ at + n - 1 → InHand graph size events (at + n) (at + n) at old → 0 < n

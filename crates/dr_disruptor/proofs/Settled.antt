@@ -82,7 +82,8 @@ module _ {A : Type 0} (goes : Relation Event A) (s : SenderEnd) (ws : List (Work
         let inside : h < length (map given_end ws) = at_below (map given_end ws) h e at in
         let many : length (map given_end ws) ≡ handlers_of k = all.all ∙ ap handlers_of plan in
         let number : 0 + h ≡ h = omega arith in
-        let made = ap (λ (l : List ReceiverEnd). get_elem? l h) fresh ∙ fresh_at k s.ring 0 (handlers_of k) h (omega arith) ∙ ap (λ (n : ℕ). some (new_receiver s.ring k n)) number in
+        let made = ap (λ (l : List ReceiverEnd). get_elem? l h) fresh ∙ fresh_at k s.ring 0 (handlers_of k) h (omega arith)
+        ∙ ap (λ (n : ℕ). some (new_receiver s.ring k n)) number in
         some-injective e (new_receiver s.ring k h) (sym at ∙ made)
 
     abbrev Place : ℕ → Type 0
@@ -92,7 +93,8 @@ module _ {A : Type 0} (goes : Relation Event A) (s : SenderEnd) (ws : List (Work
     place = threads.place receiver_place receiver_does received_by is_told answers goes ws ss kept (new_receiver s.ring k) (λ h. (refl, refl)) new_ends starts refl
 
     many_served : length ss ≡ length starts
-    many_served = threads.many_served receiver_place receiver_does received_by is_told answers goes ws ss kept (new_receiver s.ring k) (λ h. (refl, refl)) new_ends starts refl
+    many_served = threads.many_served receiver_place receiver_does received_by is_told answers goes ws ss kept (new_receiver s.ring k) (λ h. (refl, refl))
+        new_ends starts refl
 
     has : (h : ℕ) (p : Place h) → HasBeginning s.knows p.back.outlet.knows
     has h p =
@@ -105,7 +107,8 @@ module _ {A : Type 0} (goes : Relation Event A) (s : SenderEnd) (ws : List (Work
     all_polled : (h : ℕ) (p : Place h) → All (IsPolled 256 (length sent)) (batches_in p.serving.calls.calls)
     all_polled h p =
         let calls = p.serving.calls in
-        polled 256 (length sent) (new_receiver s.ring k h) p.back.outlet calls.calls calls.lead calls.holds.order (saw_published s.knows p.back.outlet.knows (has h p))
+        polled 256 (length sent) (new_receiver s.ring k h) p.back.outlet calls.calls calls.lead calls.holds.order
+        (saw_published s.knows p.back.outlet.knows (has h p))
 
     pub is_ran : (fault : Option WorkFault) → sender_in ran ≡ s → receivers_in ran ≡ receivers → HasRun (sender_in ran) (receivers_in ran) ran.settled.halter.value
         → ran.settled.halter.value.knows.halted ≡ false → ran.settled.published ≡ length sent → ran.handlers.items ≡ map (λ (b : Served A). b.handler) ss
@@ -121,6 +124,7 @@ module _ {A : Type 0} (goes : Relation Event A) (s : SenderEnd) (ws : List (Work
       handlers = subst (λ (e : SenderEnd). AreServed receiver_place receiver_does (λ x. Some (received_by x)) is_told goes (new_receiver e.ring k) starts sent
           ss ran.handlers.items ran.settled.handlers.items ran.endings.items) (sym here)
           (threads.are_served receiver_place receiver_does received_by is_told goes (new_receiver s.ring k) starts sent
-          ss ran.handlers.items ran.settled.handlers.items ran.endings.items (record { who = 16; fault = fault } ∷ []) many_served place took all_polled handlers counts endings);
+          ss ran.handlers.items ran.settled.handlers.items ran.endings.items (record { who = 16; fault = fault } ∷ []) many_served place took all_polled
+          handlers counts endings);
       last = ap (λ (n : ℕ). drop n ran.endings.items) (sym many_served) ∙ ap (drop (length ss)) endings ∙ last_ending 0 ss (record { who = 16; fault = fault } ∷ []);
     }

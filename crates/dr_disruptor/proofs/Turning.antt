@@ -34,7 +34,8 @@ offered_is m (u ∷ us) n here each =
     let first : Contains (u ∷ us) u = (0, omega arith, refl) in
     let above : n ≤ least_of (map (λ h. slice_index m.completed h) (u ∷ us)) = least_above_some (λ h. slice_index m.completed h) n u (u ∷ us) first
     (λ f has. let same : slice_index m.completed f ≡ n = each f has in omega arith) in
-    let below : least_of (map (λ h. slice_index m.completed h) (u ∷ us)) ≤ slice_index m.completed u = least_of-member (λ h. slice_index m.completed h) (u ∷ us) u first in
+    let below : least_of (map (λ h. slice_index m.completed h) (u ∷ us)) ≤ slice_index m.completed u =
+    least_of-member (λ h. slice_index m.completed h) (u ∷ us) u first in
     let same : slice_index m.completed u ≡ n = each u first in
     omega arith
 
@@ -45,7 +46,8 @@ module _ {A : Type 0} (goes : Relation Event A) where
     pub went : GoesThrough goes before (showings (take (sent - at) (drop at events)) at true) after
 
   module _ (graph : List (List ℕ)) (size : ℕ) (events : List Event) (at sent h : ℕ) (old new : CoreView Event) (before after : A)
-      (is_graph : IsGraph graph) (rests : Rests graph size events h at sent old) (inside : h < length graph) (fresh : at < sent) (fits : sent ≤ at + size) (within : sent ≤ length events) where
+      (is_graph : IsGraph graph) (rests : Rests graph size events h at sent old) (inside : h < length graph) (fresh : at < sent) (fits : sent ≤ at + size)
+      (within : sent ≤ length events) where
     here : slice_index rests.counts h ≡ at
     here = rests.each h inside ∙ far_not h at sent h (omega arith)
 
@@ -71,7 +73,8 @@ module _ {A : Type 0} (goes : Relation Event A) where
       ]
     ]
 
-    pub took_turn : (result : Result Polled Refusal) (values : List Event) → TakesTurn goes old h old.setup.size result values new before after → TookTurn graph size events h at sent new before after
+    pub took_turn : (result : Result Polled Refusal) (values : List Event) → TakesTurn goes old h old.setup.size result values new before after
+        → TookTurn graph size events h at sent new before after
     took_turn result values turn =
         let took = core.took_turn goes graph size events at sent h rests.counts old new before after can result values turn in
         record {

@@ -39,12 +39,14 @@ sender_fine k script produced S limit short within unhalted =
     let left : 0 < length (drop produced.sent script) = gives.1.0 in
     let rest : length (drop produced.sent script) ≡ length script - produced.sent = length-drop produced.sent script in
     let published : length S.back.knows.sent.published ≡ produced.sent = ap length S.published ∙ length-take-le produced.sent script within in
-    absurd (ring.no_refusal k S.given claim.last S.back calls.calls (min (length (drop produced.sent script)) (max (k.size / 4) 1)) gives.0 fresh calls.lead S.complete unhalted
+    absurd (ring.no_refusal k S.given claim.last S.back calls.calls (min (length (drop produced.sent script)) (max (k.size / 4) 1)) gives.0 fresh calls.lead
+    S.complete unhalted
     (omega arith) (omega arith) (omega arith) claim.other claim.claims))
     gate.answers
 
 -- workers that had no fault, the handlers' as in every run, and the sender's
-pub all_fine : {A : Type 0} (goes : Relation Event A) (k : Shape) (starts : List A) (sent : List Event) (ran : Ran A) → IsRan goes k starts sent None ran → AreFine ran.endings.items
+pub all_fine : {A : Type 0} (goes : Relation Event A) (k : Shape) (starts : List A) (sent : List Event) (ran : Ran A) → IsRan goes k starts sent None ran
+    → AreFine ran.endings.items
 all_fine goes k starts sent ran is =
     let n = length starts in let endings = ran.endings.items in let none : Ended = record { who = 0; fault = None } in
     let many : length endings - n ≡ 1 = sym (length-drop n endings) ∙ ap length is.last in

@@ -22,7 +22,8 @@ module _ {A : Type 0} (goes : Relation Event A) (k : Shape) (starts : List A) wh
   went_whole script ran limit is short =
       let none = sender_fine k script is.produced is.sending limit short is.within is.unhalted in
       let all : take is.produced.sent script ≡ script = ap (λ (n : ℕ). take n script) (is.all none) ∙ take_all (length script) script (omega arith) in (
-        all_fine goes k starts (take is.produced.sent script) ran (subst (λ (f : Option WorkFault). IsRan goes k starts (take is.produced.sent script) f ran) none is.came),
+        all_fine goes k starts (take is.produced.sent script) ran
+            (subst (λ (f : Option WorkFault). IsRan goes k starts (take is.produced.sent script) f ran) none is.came),
         subst (λ (l : List Event). AllWentThrough goes l starts ran.handlers.items) all is.came.handlers.through,
       )
 
@@ -34,7 +35,8 @@ module _ {A : Type 0} (goes : Relation Event A) (k : Shape) (starts : List A) wh
     pub unhalted : FoundUnhalted back.knows
 
   pub came : (back : SenderEnd) (hs : List A) (fault : Option WorkFault) (ran : Ran A) → back.knows.plan ≡ k
-      → IsRan goes back.knows.plan hs back.knows.sent.published fault ran → ClosesOnceDone back (sender_in ran) → ran.settled.claimed ≡ claimed_of back.knows → FoundUnhalted back.knows → Came back hs fault ran
+      → IsRan goes back.knows.plan hs back.knows.sent.published fault ran → ClosesOnceDone back (sender_in ran) → ran.settled.claimed ≡ claimed_of back.knows
+      → FoundUnhalted back.knows → Came back hs fault ran
   came back hs fault ran plan is closes claimed unhalted = record {
     is = subst (λ (q : Shape). IsRan goes q hs back.knows.sent.published fault ran) plan is;
     closes = closes;

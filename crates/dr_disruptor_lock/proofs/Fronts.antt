@@ -16,7 +16,8 @@ use Rattle.dr_disruptor_lock.specs.Running.{fronts}
 
 -- what the workers gave back of their scripts is what they sent of them
 pub fronts_sent : {L : Type 0} (scripts : List (List Event)) (sent : List (Sent L)) → length sent ≡ length scripts
-    → ((p : ℕ) (script : List Event) (back : Sent L) → get_elem? scripts p ≡ some script → get_elem? sent p ≡ some back → back.script.items ≡ take back.produced.sent script)
+    → ((p : ℕ) (script : List Event) (back : Sent L) → get_elem? scripts p ≡ some script → get_elem? sent p ≡ some back
+    → back.script.items ≡ take back.produced.sent script)
     → map (λ (s : Sent L). s.script.items) sent ≡ fronts scripts (map (λ (s : Sent L). s.produced) sent)
 fronts_sent [] [] many each = refl
 fronts_sent [] (b ∷ sent) many each = absurd (omega arith)

@@ -30,7 +30,8 @@ module _ {W B : Type 0} (Keeps : W → B → Type 0) where
       (w, at_index workers h w (omega arith) is, subst (Keeps w) (value_at backs h back back at) kept)
 
 -- all tasks were done by those who promised it
-pub are_sent : {L : Type 0} (begun : History Event) (size : ℕ) (workers : List (Producer L)) (tasks : List (Task L)) (sent : List (Sent L)) → map given_task workers ≡ tasks
+pub are_sent : {L : Type 0} (begun : History Event) (size : ℕ) (workers : List (Producer L)) (tasks : List (Task L)) (sent : List (Sent L))
+    → map given_task workers ≡ tasks
     → ((h : ℕ) (w : Producer L) → get_elem? workers h ≡ some w → given_size w ≡ size) → length sent ≡ length workers
     → EachKeeps (λ (w : Producer L) (back : Sent L). Sending begun (given_size w) (given_task w) back) workers sent → AreSent begun size tasks sent
 are_sent {L} begun size workers tasks sent given sizes many each = record {
@@ -44,7 +45,8 @@ are_sent {L} begun size workers tasks sent given sizes many each = record {
 }
 
 -- and all jobs
-pub are_served : {L A : Type 0} (begun : History Event) (goes : Relation Event A) (workers : List (Worker L A)) (jobs : List (Job L A)) (served : List (Served L A)) → map given_job workers ≡ jobs
+pub are_served : {L A : Type 0} (begun : History Event) (goes : Relation Event A) (workers : List (Worker L A)) (jobs : List (Job L A))
+    (served : List (Served L A)) → map given_job workers ≡ jobs
     → AreKept begun goes workers served → AreServed begun goes jobs served
 are_served {L} {A} begun goes workers jobs served given kept = record {
   many = kept.many ∙ sym (length-map workers given_job) ∙ ap length given;
@@ -56,8 +58,9 @@ are_served {L} {A} begun goes workers jobs served given kept = record {
       );
 }
 
-pub are_joined : {L A E : Type 0} (begun : History Event) (size : ℕ) (goes : Relation Event A) (halter : EndView Event) (workers : List (Worker L A)) (jobs : List (Job L A)) (tasks : List (Task L))
-    (r : Result (Joined L A) E) → map given_job workers ≡ jobs → IfOk r (λ joined. HasHalted halter joined.halter) → IfOk r (λ joined. AreSent begun size tasks joined.sent.items)
+pub are_joined : {L A E : Type 0} (begun : History Event) (size : ℕ) (goes : Relation Event A) (halter : EndView Event) (workers : List (Worker L A))
+    (jobs : List (Job L A)) (tasks : List (Task L)) (r : Result (Joined L A) E) → map given_job workers ≡ jobs
+    → IfOk r (λ joined. HasHalted halter joined.halter) → IfOk r (λ joined. AreSent begun size tasks joined.sent.items)
     → IfOk r (λ joined. AreKept begun goes workers joined.served.items) → IfOk r (λ joined. IsJoined begun size goes halter jobs tasks joined)
 are_joined begun size goes halter workers jobs tasks (Ok joined) given halted sent kept =
     record { halted = halted; served = are_served begun goes workers jobs joined.served.items given kept; sent = sent }

@@ -53,7 +53,8 @@ amiss_as t c d sent other U V (Shown h) same are then_is is = (
 -- Of one worker.
 
 -- a handler's worker that was given the job of its number
-has_served : {L A : Type 0} (begun : History Event) (goes : Relation Event A) (h : ℕ) (start : A) (job : Job L A) (back : Served L A) → Serving begun goes job back → IsJobOf h job
+has_served : {L A : Type 0} (begun : History Event) (goes : Relation Event A) (h : ℕ) (start : A) (job : Job L A) (back : Served L A)
+    → Serving begun goes job back → IsJobOf h job
     → job.watching.handler ≡ start → HasServed begun h goes start back.watching.handler back.end back.fault
 has_served {A = A} begun goes h start job back serving is same =
     let s = serving.calls.holds in
@@ -65,7 +66,8 @@ has_served {A = A} begun goes h start job back serving is same =
             (subst (λ (e : EndView Event). CallsLead (OutletAsks begun job.who) e calls back.end) is.1 serving.calls.lead);
         holds = record {
           works = record {
-            through = subst (λ (a : A). GoesThrough goes a (shown_of (batches_in calls)) back.watching.handler) same (inside goes job.watching back.watching (shown_of (batches_in calls)) s.works.through);
+            through = subst (λ (a : A). GoesThrough goes a (shown_of (batches_in calls)) back.watching.handler) same
+                (inside goes job.watching back.watching (shown_of (batches_in calls)) s.works.through);
             handed = s.works.handed;
           };
           gate = s.gate;
@@ -97,7 +99,8 @@ has_sent begun size p script task back sending is same =
     subst (λ (l : List Event). HasSent begun p size l back.end back.produced) same sent
 
 -- a handler that listed just these events went through them
-went_through : {L A : Type 0} (begun : History Event) (goes : Relation Event A) (start : A) (job : Job L A) (back : Served L A) (events : List Event) → Serving begun goes job back
+went_through : {L A : Type 0} (begun : History Event) (goes : Relation Event A) (start : A) (job : Job L A) (back : Served L A) (events : List Event)
+    → Serving begun goes job back
     → IsNew start job.watching → HasListed events back.watching → WentThrough goes start back.watching.handler events
 went_through begun goes start job back events serving new has =
     let calls = serving.calls.calls in
@@ -244,7 +247,8 @@ module _ {L A : Type 0} (begun : History Event) (size : ℕ) (goes : Relation Ev
       length-map sent (λ (s : Sent L). s.end) ∙ many_sent,
       length-map sent (λ (s : Sent L). s.produced) ∙ many_sent,
     );
-    history = subst (λ (n : ℕ). IsHistoryOf begun n (joined.halter ∷ map (λ (s : Served L A). s.end) served ++ map (λ (s : Sent L). s.end) sent) ran.recorded.history) same came.history;
+    history = subst (λ (n : ℕ). IsHistoryOf begun n (joined.halter ∷ map (λ (s : Served L A). s.end) served ++ map (λ (s : Sent L). s.end) sent) ran.recorded.history)
+        same came.history;
     serving = λ h start at.
         let x = of_handler h start at in (
           x.back.watching.handler,
@@ -265,14 +269,19 @@ module _ {L A : Type 0} (begun : History Event) (size : ℕ) (goes : Relation Ev
           has_sent begun size p script x.task x.back x.sending x.of x.items,
         );
     ended = ap length came.endings ∙ length-append (endings_from 0 faults) (endings_from 16 sent_faults) ∙ many_ended;
-    audited = where_ok _ (λ list. IsAudited (transcript ran.recorded.history) (handlers begun.core.setup) (fronts scripts (map (λ (s : Sent L). s.produced) sent)) list.items) ran.list
+    audited = where_ok _
+        (λ list. IsAudited (transcript ran.recorded.history) (handlers begun.core.setup) (fronts scripts (map (λ (s : Sent L). s.produced) sent)) list.items)
+        ran.list
         (λ list found.
-        subst (λ (c : Setup). IsAudited (transcript ran.recorded.history) (handlers c) (fronts scripts (map (λ (s : Sent L). s.produced) sent)) list.items) came.history.goes_on.setup
+        subst (λ (c : Setup). IsAudited (transcript ran.recorded.history) (handlers c) (fronts scripts (map (λ (s : Sent L). s.produced) sent)) list.items)
+        came.history.goes_on.setup
         (subst (λ (l : List (List Event)). IsAudited (transcript ran.recorded.history) (handlers ran.recorded.history.core.setup) l list.items) were_sent found))
         came.audited;
-    amiss = where_err _ (IsAmiss (transcript ran.recorded.history) (handlers begun.core.setup) (fronts scripts (map (λ (s : Sent L). s.produced) sent)) (λ list h. h < length starts)) ran.list
+    amiss = where_err _ (IsAmiss (transcript ran.recorded.history) (handlers begun.core.setup) (fronts scripts (map (λ (s : Sent L). s.produced) sent))
+        (λ list h. h < length starts)) ran.list
         (λ f found.
-        amiss_as (transcript ran.recorded.history) ran.recorded.history.core.setup begun.core.setup (map (λ (s : Sent L). s.script.items) sent) (fronts scripts (map (λ (s : Sent L). s.produced) sent))
+        amiss_as (transcript ran.recorded.history) ran.recorded.history.core.setup begun.core.setup (map (λ (s : Sent L). s.script.items) sent)
+        (fronts scripts (map (λ (s : Sent L). s.produced) sent))
         (IsUnlike (map (λ (s : Served L A). s.watching) served)) (λ list h. h < length starts) f came.history.goes_on.setup were_sent
         (λ list h unlike. let below = unlike.0 in let many = length-map served (λ (s : Served L A). s.watching) ∙ many_served in omega arith) found)
         came.amiss;

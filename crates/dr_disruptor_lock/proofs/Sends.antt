@@ -11,9 +11,12 @@ use Rattle.dr_disruptor_lock.specs.declared.jobs.Task.{Task}
 use Rattle.dr_disruptor_lock.specs.declared.sending.Sent.{Sent}
 use Rattle.dr_disruptor_lock.specs.Serving.{Sending}
 
-module _ {L : Type 0} (begun : History Event) (size cut : ℕ) (task : Task L) (events : List Event) (back : Sent L) (same : events ≡ task.script.items) (is : cut ≡ max (size / 4) 1) where
-  pub sends : SomeCalls (InletAsks begun task.p) task.end back.end (worker.Sends cut events (λ passage. ⊥) (λ passage. ⊥) back.produced) → back.produced.sent ≤ length events
-      → IfNone back.produced.fault (back.produced.sent ≡ length events) → back.produced.fault ≢ Some Stopped → back.script.items ≡ take back.produced.sent task.script.items
+module _ {L : Type 0} (begun : History Event) (size cut : ℕ) (task : Task L) (events : List Event) (back : Sent L) (same : events ≡ task.script.items)
+    (is : cut ≡ max (size / 4) 1) where
+  pub sends : SomeCalls (InletAsks begun task.p) task.end back.end (worker.Sends cut events (λ passage. ⊥) (λ passage. ⊥) back.produced)
+      → back.produced.sent ≤ length events
+      → IfNone back.produced.fault (back.produced.sent ≡ length events) → back.produced.fault ≢ Some Stopped
+      → back.script.items ≡ take back.produced.sent task.script.items
       → Sending begun size task back
   sends calls within all stopped script = record {
     calls = subst (λ (n : ℕ). SomeCalls (InletAsks begun task.p) task.end back.end (worker.Sends n task.script.items (λ passage. ⊥) (λ passage. ⊥) back.produced)) is

@@ -50,7 +50,8 @@ showings_events [] first end = refl
 showings_events (e ∷ []) first end = refl
 showings_events (e ∷ f ∷ events) first end = ap (λ (l : List Event). e ∷ l) (showings_events (f ∷ events) (first + 1) end)
 
-showings_first : (n : ℕ) (events : List Event) (first : ℕ) (end : Bool) (ys : List (Showing Event)) → 0 < length events → Numbered n (showings events first end ++ ys) → first ≡ n
+showings_first : (n : ℕ) (events : List Event) (first : ℕ) (end : Bool) (ys : List (Showing Event)) → 0 < length events
+    → Numbered n (showings events first end ++ ys) → first ≡ n
 showings_first n [] first end ys some is = absurd (omega arith)
 showings_first n (e ∷ []) first end ys some is = is.0
 showings_first n (e ∷ f ∷ events) first end ys some is = is.0
@@ -97,7 +98,8 @@ last_ends room end (b ∷ []) full is = let one : IsFull room b = full.0 in show
 last_ends room end (b ∷ c ∷ bs) full is =
     last_ends room end (c ∷ bs) full.1 (ends_behind end (showings b.events b.first b.end) (shown_of (c ∷ bs)) is)
 
-polled : (room n total : ℕ) (bs : List (Dealt Event)) → AreFull room bs → FollowFrom n bs → LastEnds true bs → n + length (dealt_events bs) ≡ total → All (IsPolled room total) bs
+polled : (room n total : ℕ) (bs : List (Dealt Event)) → AreFull room bs → FollowFrom n bs → LastEnds true bs → n + length (dealt_events bs) ≡ total
+    → All (IsPolled room total) bs
 polled room n total [] full follow last all = All-nil (IsPolled room total)
 polled room n total (b ∷ []) full follow last all =
     let one : IsFull room b = full.0 in All-cons (IsPolled room total) b [] (one.1, inl last) (All-nil (IsPolled room total))
@@ -121,7 +123,8 @@ polled room n total (b ∷ c ∷ bs) full follow last all =
 -- Of the handler that lists them.
 
 -- the handler inside went through the same
-pub inside : {A : Type 0} (goes : Relation Event A) (a b : Watching A) (xs : List (Showing Event)) → GoesThrough (Watches goes) a xs b → GoesThrough goes a.handler xs b.handler
+pub inside : {A : Type 0} (goes : Relation Event A) (a b : Watching A) (xs : List (Showing Event)) → GoesThrough (Watches goes) a xs b
+    → GoesThrough goes a.handler xs b.handler
 inside goes a b [] is = ap (λ (w : Watching _). w.handler) is
 inside goes a b (x ∷ xs) is = (is.0.handler, is.1.shown, inside goes is.0 b xs is.2)
 
@@ -153,7 +156,8 @@ ends goes a b (x ∷ []) is = sym is.1.ended ∙ ap (λ (w : Watching _). w.is_e
 ends goes a b (x ∷ y ∷ xs) is = ends goes is.0 b (y ∷ xs) is.2
 
 -- a handler that listed just these events went through them
-pub went : {A : Type 0} (goes : Relation Event A) (start : A) (given back : Watching A) (events : List Event) (bs : List (Dealt Event)) → IsNew start given → HasListed events back
+pub went : {A : Type 0} (goes : Relation Event A) (start : A) (given back : Watching A) (events : List Event) (bs : List (Dealt Event)) → IsNew start given
+    → HasListed events back
     → AreFull 256 bs → GoesThrough (Watches goes) given (shown_of bs) back → WentThrough goes start back.handler events
 went {A} goes start given back events bs new has full through =
     let fresh : HasListed [] given = new.1 in

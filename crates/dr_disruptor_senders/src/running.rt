@@ -106,6 +106,10 @@ pub fn run_scripts<
 /// own, and claims, writes and publishes what it likes, and answers its fault, if it has one. It leaves no claim open,
 /// or the handlers wait for ever. Once all closures are back the ring is halted.
 ///
+/// A closure may halt the ring before that, for all of them, by `sender.call(|end| end.halt())`. From then on no claim
+/// succeeds, the other closures' neither: they are refused with `Halted`, and `produce` ends with that fault. What is
+/// claimed may still be written and published, and each handler goes through all of it.
+///
 /// It is refused with `Senders` where there are no closures or more than 16.
 pub fn run_feeds<
     R: Threads + Wait + Copy + Send + 'static,

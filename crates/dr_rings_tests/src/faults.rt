@@ -50,7 +50,7 @@ fn why_there_was_no_run(rt: HostRuntime) {
     let ring = RunFault::Ring(dr_ring::RingFault::BadLimit);
     check_text(&rt, rt.alloc(), ring, "the ring: bad-limit");
     let senders = RunFault::Senders { given: 17 };
-    let text = "a ring has 1 to 16 senders, and 17 scripts were given";
+    let text = "a run has 1 to 16 senders, and 17 were asked for";
     check_text(&rt, rt.alloc(), senders, text);
     let memory = RunFault::Memory;
     check_text(&rt, rt.alloc(), memory, "no memory, or no thread");

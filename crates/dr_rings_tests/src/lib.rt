@@ -1,6 +1,6 @@
-//! Tests of `dr_ring`, `dr_plain`, `dr_senders`, `dr_disruptor` and `dr_disruptor_senders` by their public calls, of what
-//! no clause says: that the calls succeed with ample memory and threads, worked runs by their answers, printed texts, and
-//! that threads hand all events over.
+//! Tests of `dr_ring`, `dr_plain`, `dr_plain_senders`, `dr_senders`, `dr_disruptor` and `dr_disruptor_senders` by their
+//! public calls, of what no clause says: that the calls succeed with ample memory and threads, worked runs by their answers,
+//! printed texts, which events lie where, and that threads hand all events over.
 #![tactic(auto)]
 
 #[cfg(test)]
@@ -10,6 +10,8 @@ mod calls;
 #[cfg(test)]
 mod checks;
 #[cfg(test)]
+mod counted;
+#[cfg(test)]
 mod faults;
 #[cfg(test)]
 mod graphs;
@@ -18,9 +20,15 @@ mod in_one_call;
 #[cfg(test)]
 mod plain;
 #[cfg(test)]
+mod plain_senders;
+#[cfg(test)]
 mod rows;
 #[cfg(test)]
+mod rows_of_several;
+#[cfg(test)]
 mod senders;
+#[cfg(test)]
+mod texts;
 #[cfg(test)]
 mod threads;
 #[cfg(test)]

@@ -2,12 +2,8 @@
 
 mod opening;
 mod play;
-mod rows;
 
 use dr_senders::{Halter, Receiver, Sender};
-
-/// How many sequences a ring has.
-pub const LIMIT: u64 = 6;
 
 #[derive(Drop)]
 pub struct Ends {

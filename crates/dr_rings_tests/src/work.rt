@@ -26,6 +26,24 @@ impl Handler<Event> for Work {
     }
 }
 
+/// Adds up the first words of what it is shown, and counts it.
+#[derive(Drop)]
+pub struct Adder {
+    pub total: u64,
+    pub count: u64,
+}
+
+impl Handler<Event> for Adder {
+    ghost use Rattle.std.specs.Prelude.{⊤};
+
+    ghost goes = { λ old event s end new. ⊤ };
+
+    fn on_event(&mut self, event: Event, _s: u64, _end: bool) {
+        self.total = self.total.wrapping_add(event.first);
+        self.count = self.count.wrapping_add(1);
+    }
+}
+
 /// How many events came.
 #[derive(Clone, Copy, Debug, PartialEq, Eq)]
 pub struct Count(pub u64);

@@ -25,8 +25,8 @@ pub enum RunFault {
     /// There are more or fewer handlers than the graph has.
     #[error("the graph has {graph} handlers, and {given} were given")]
     Handlers { graph: usize, given: usize },
-    /// Of a run with several senders: there are no scripts, or more than a ring has senders.
-    #[error("a ring has 1 to 16 senders, and {given} scripts were given")]
+    /// Of a run with several senders: there are no scripts or closures to send, or more than 16.
+    #[error("a run has 1 to 16 senders, and {given} were asked for")]
     Senders { given: usize },
     /// An allocation failed, or a thread could not be started.
     #[error("no memory, or no thread")]

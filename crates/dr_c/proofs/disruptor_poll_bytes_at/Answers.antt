@@ -2,4 +2,5 @@ use Rattle.dr_c.proofs.Placed.{at_places}
 use Rattle.dr_c.proofs.disruptor_poll_bytes_at.Goals as goal
 
 pub returns : goal.returns
-returns c = at_places _ _ c.args.receiver.now c.args.offer.now c.poll_bytes.new.receiver c.index-receiver-0.result c.poll_bytes.new.offer _ c.if-receiver-ne1.false c.if-offer-ne1.false c.poll_bytes.ensures
+returns c = at_places _ _ c.args.receiver.now c.args.offer.now c.poll_bytes.new.receiver c.index-receiver-0.result c.poll_bytes.new.offer _
+    c.if-receiver-ne1.false c.if-offer-ne1.false c.poll_bytes.ensures

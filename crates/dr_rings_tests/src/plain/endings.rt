@@ -6,6 +6,7 @@ ghost use Rattle.dr_plain.specs.Calls.Settling.{AreAllEnds, IsHalterOf};
 
 use super::{Ends, open};
 use crate::checks::{check, check_at};
+use crate::counted::{Counted, event, four, use_some};
 use crate::graphs::Shape;
 use dr_meaning::{Claimed, MAX_LIMIT};
 use dr_plain::{Sender, Settled, Values, finish};
@@ -13,20 +14,6 @@ use dr_seq::Size;
 use std::alloc::Global;
 use std::process::Abort;
 use std::sync::Arc;
-
-// An event, and a share of what tells how many events there are.
-#[derive(Drop)]
-struct Counted {
-    number: u64,
-    _alive: Arc<u64>,
-}
-
-fn event(rt: &impl Abort, alive: &Arc<u64>, number: u64) -> Counted {
-    Counted {
-        number,
-        _alive: Arc::try_clone(alive).expect(rt, "memory"),
-    }
-}
 
 // How far the ends came in a ring of four cells with two handlers: the sender, and how many events each handler took and
 // completed.
@@ -98,14 +85,6 @@ const MOMENTS: [Moment; 6] = [
     },
 ];
 
-fn four(rt: &impl Abort, alloc: Global, alive: &Arc<u64>) -> Vec<Counted> {
-    let mut events = Vec::new(alloc);
-    for _ in 0..4 {
-        events.push(event(rt, alive, 0)).expect(rt, "memory");
-    }
-    events
-}
-
 fn begin(rt: &impl Abort, alloc: Global, alive: &Arc<u64>) -> Ends<Counted>
     ensures { AreAllEnds result.sender result.receivers.items × IsHalterOf result.sender result.halter }
 {
@@ -170,30 +149,6 @@ fn come_to(rt: &impl Abort, alive: &Arc<u64>, ends: &mut Ends<Counted>, moment: 
     }
 }
 
-fn next_number(events: &mut Values<Counted>) -> u64 {
-    match events.next() {
-        Some(one) => one.number,
-        None => u64::MAX,
-    }
-}
-
-// So many of the events are used, in the cells' order, and the others are dropped with the rest.
-fn use_some(
-    rt: &impl Abort,
-    alive: &Arc<u64>,
-    mut events: Values<Counted>,
-    moment: &Moment,
-    count: usize,
-) {
-    let name = moment.name;
-    check_at(rt, Arc::strong_count(alive) as u64, 5, name);
-    for number in moment.lying.iter().take(count) {
-        check_at(rt, next_number(&mut events), *number, name);
-    }
-    let left = 5usize.wrapping_sub(count);
-    check_at(rt, Arc::strong_count(alive) as u64, left as u64, name);
-}
-
 fn check_settled(rt: &impl Abort, settled: &Settled, moment: &Moment) {
     check_at(rt, settled.published(), moment.published, moment.name);
     assert!(rt; settled.handlers() == 2);
@@ -212,7 +167,7 @@ fn end(rt: &impl Abort, alloc: Global, alive: &Arc<u64>, moment: &Moment) -> Val
 // Ends in a moment, and uses so many of the events: none is there after that.
 fn check_moment(rt: &impl Abort, alloc: Global, alive: &Arc<u64>, moment: &Moment, count: usize) {
     let events = end(rt, alloc, alive, moment);
-    use_some(rt, alive, events, moment, count);
+    use_some(rt, alive, events, &moment.lying, count, moment.name);
     check_at(rt, Arc::strong_count(alive) as u64, 1, moment.name);
 }
 

@@ -3,6 +3,7 @@
 use super::{Ends, open};
 use crate::checks::{check, check_at};
 use crate::graphs::Shape;
+use crate::texts::{empty_texts, text_of};
 use dr_meaning::Polled::{Batch, Drained};
 use dr_meaning::{Claimed, MAX_LIMIT, Refusal};
 use dr_plain::{Receiver, Sender};
@@ -11,25 +12,12 @@ use std::alloc::Global;
 use std::process::Abort;
 use std::sync::Arc;
 
-fn empty_texts(rt: &impl Abort, alloc: Global, count: u64) -> Vec<String> {
-    let mut texts = Vec::new(alloc);
-    for _ in 0..count {
-        texts.push(String::new(alloc)).expect(rt, "memory");
-    }
-    texts
-}
-
 // A ring of so many texts, which are empty at first.
 pub fn open_texts(rt: &impl Abort, alloc: Global, shape: Shape, slots: u64) -> Ends<String> {
     let size = Size::new(slots).expect(rt, "a size");
     let texts = empty_texts(rt, alloc, slots);
     assert!(rt; texts.len() as u64 == size.get());
     open(rt, alloc, shape, size, MAX_LIMIT, texts)
-}
-
-// The text of a sequence.
-fn text_of(rt: &impl Abort, alloc: Global, s: u64) -> String {
-    format!(in alloc; "event {s}").expect(rt, "memory")
 }
 
 // Three texts go to a sender.

@@ -4,28 +4,13 @@ use super::open_words;
 use crate::checks::check;
 use crate::graphs::Shape;
 use crate::threads::{Receive, check_received, start};
-use dr_meaning::{Handler, MAX_LIMIT};
+use crate::work::Adder;
+use dr_meaning::MAX_LIMIT;
 use dr_plain::{Receiver, Sender};
 use dr_seq::Event;
 use dr_workers::{OpenGate, Produced, consume, produce};
 use std::alloc::Global;
 use std::sync::Wait;
-
-/// Adds up the first words of what it is shown, and counts it.
-#[derive(Drop)]
-struct Adder {
-    total: u64,
-    count: u64,
-}
-
-impl Handler<Event> for Adder {
-    ghost goes = { λ old event s end new. Unit {0} };
-
-    fn on_event(&mut self, event: Event, _s: u64, _end: bool) {
-        self.total = self.total.wrapping_add(event.first);
-        self.count = self.count.wrapping_add(1);
-    }
-}
 
 impl Receive for Receiver<Event> {
     /// How many events came, where each had a three.

@@ -1,8 +1,8 @@
 //! Which rings are refused.
 
-use super::LIMIT;
 use crate::checks::check;
 use crate::graphs::{Shape, graph};
+use crate::rows_of_several::LIMIT;
 use dr_graph::Graph;
 use dr_meaning::OpenFault;
 use dr_senders::senders_ring;

@@ -4,11 +4,11 @@ ghost use Rattle.std.specs.Prelude.{◌≡◌};
 ghost use Rattle.dr_senders.specs.Calls.Ends.{Stays};
 ghost use Rattle.dr_senders.specs.Calls.Settling.{AreAllEnds};
 
-use super::rows::{Call, RUNS, Run};
-use super::{Ends, LIMIT};
+use super::Ends;
 use crate::calls::{done, polled};
 use crate::checks::check_at;
 use crate::graphs::graph;
+use crate::rows_of_several::{Call, LIMIT, RUNS, Run};
 use dr_meaning::{Claimed, Refusal, Reply};
 use dr_senders::{ClaimFault, Receiver, Sender, Settled, senders_ring, settle};
 use dr_seq::{Event, Size};

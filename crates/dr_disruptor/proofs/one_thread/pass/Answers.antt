@@ -26,7 +26,8 @@ returns-in_err-turns g c =
     let round : c.loop-at.at % c.args.core.now.setup.size ≡ 0 = ⊎_elim (λ r. r) (λ all. absurd (omega arith)) is.round in
     let full : sent ≡ min (c.loop-at.at + c.args.core.now.setup.size) (length c.args.script.now) = omega arith in
     absurd (c.in_err-turns.ensures c.args.script.now c.args.handlers.now c.loop-at.at sent
-    (offered g.H.Handler.goes _ c.args.script.now _ _ c.args.handlers.now c.loop-at.handlers c.loop-at.at sent c.send.new.core c.in_ok-send.ensures same is.along (omega arith) round full))
+    (offered g.H.Handler.goes _ c.args.script.now _ _ c.args.handlers.now c.loop-at.handlers c.loop-at.at sent c.send.new.core c.in_ok-send.ensures same
+    is.along (omega arith) round full))
 
 pub loop-at-preserved : goal.loop-at-preserved
 loop-at-preserved g c =
@@ -39,7 +40,8 @@ loop-at-preserved g c =
     let round : c.loop-at.at % c.args.core.now.setup.size ≡ 0 = ⊎_elim (λ r. r) (λ all. absurd (omega arith)) is.round in
     let full : sent ≡ min (c.loop-at.at + c.args.core.now.setup.size) (length c.args.script.now) = omega arith in
     let turned = c.in_ok-turns.ensures c.args.script.now c.args.handlers.now c.loop-at.at sent
-    (offered g.H.Handler.goes _ c.args.script.now _ _ c.args.handlers.now c.loop-at.handlers c.loop-at.at sent c.send.new.core c.in_ok-send.ensures same is.along (omega arith) round full) in
+    (offered g.H.Handler.goes _ c.args.script.now _ _ c.args.handlers.now c.loop-at.handlers c.loop-at.at sent c.send.new.core c.in_ok-send.ensures same
+    is.along (omega arith) round full) in
     record {
       within = omega arith;
       rests = subst (λ (s : Setup). Rests s.upstreams s.size c.args.script.now 0 sent sent c.turns.new.core) setup turned.rests;

@@ -10,7 +10,8 @@ pass-requires-clause-rests g c =
     let script = c.args.script.now in
     let core = c.in_ok-core.core in
     let setup = c.in_ok-core.ensures.setup in
-    subst (λ (s : Setup). Rests s.upstreams s.size script 0 0 0 core) (sym setup) (rests_first c.args.graph.upstreams c.args.size script core setup c.in_ok-core.ensures.shows)
+    subst (λ (s : Setup). Rests s.upstreams s.size script 0 0 0 core) (sym setup)
+    (rests_first c.args.graph.upstreams c.args.size script core setup c.in_ok-core.ensures.shows)
 
 pub returns-clause-whole : goal.returns-clause-whole
 returns-clause-whole g c =
@@ -21,6 +22,7 @@ returns-clause-whole g c =
     let many = went.many in
     let len : length c.pass.new.handlers ≡ c.args.handlers.len = omega arith in
     let ring : c.in_ok-core.core.setup.size ≡ c.args.size = ap (λ (s : Setup). s.size) c.in_ok-core.ensures.setup in
-    subst (λ (l : List g.row.H.Denot). AllAreShown g.H.Handler.goes (shown_here c.args.size c.args.script.now) c.args.handlers.items l) (sym (with_items_is c.args.handlers c.pass.new.handlers len))
+    subst (λ (l : List g.row.H.Denot). AllAreShown g.H.Handler.goes (shown_here c.args.size c.args.script.now) c.args.handlers.items l)
+    (sym (with_items_is c.args.handlers c.pass.new.handlers len))
     (subst (λ (n : ℕ). AllAreShown g.H.Handler.goes (shown_here n c.args.script.now) c.args.handlers.items c.pass.new.handlers) ring
     (subst (λ (l : List g.row.H.Denot). AllAreShown g.H.Handler.goes (shown_here c.in_ok-core.core.setup.size c.args.script.now) l c.pass.new.handlers) same went))

@@ -16,7 +16,8 @@ claimed : (c : In_ok-lo) → (c.in_ok-lo.field-0.lo ≡ c.args.at) × (c.in_ok-l
 claimed c =
     let r = c.requires in
     let graph = subst IsGraph c.graph.ensures.upstreams c.len-handlers.ensures.lawful in
-    claim_ok c.args.core.now c.claim.new.self c.args.core.now.setup.upstreams c.args.core.now.setup.size c.args.script.now c.args.at c.args.n c.in_ok-lo.field-0.lo c.in_ok-lo.field-0.hi graph r.rests r.some r.fits r.limit c.in_ok-lo.ensures.step
+    claim_ok c.args.core.now c.claim.new.self c.args.core.now.setup.upstreams c.args.core.now.setup.size c.args.script.now c.args.at c.args.n
+    c.in_ok-lo.field-0.lo c.in_ok-lo.field-0.hi graph r.rests r.some r.fits r.limit c.in_ok-lo.ensures.step
 
 -- the sequence that is written is claimed, and an event has its place
 in_reach : (c : After-write) → (c.args.at ≤ c.loop-s.s) × (c.loop-s.s < c.args.at + c.args.n) × (c.loop-s.s < length c.args.script.now)
@@ -28,7 +29,8 @@ pub returns-in_err-lo : goal.returns-in_err-lo
 returns-in_err-lo c =
     let r = c.requires in
     let graph = subst IsGraph c.graph.ensures.upstreams c.len-handlers.ensures.lawful in
-    absurd (claim_err c.args.core.now c.claim.new.self c.args.core.now.setup.upstreams c.args.core.now.setup.size c.args.script.now c.args.at c.args.n c.in_err-lo.field-0.0 graph r.rests r.some r.fits r.limit c.in_err-lo.ensures.step)
+    absurd (claim_err c.args.core.now c.claim.new.self c.args.core.now.setup.upstreams c.args.core.now.setup.size c.args.script.now c.args.at c.args.n
+    c.in_err-lo.field-0.0 graph r.rests r.some r.fits r.limit c.in_err-lo.ensures.step)
 
 pub loop-s-init : goal.loop-s-init
 loop-s-init c = (claimed (goal.at.loop-s-init c).In_ok-lo).2
@@ -36,12 +38,14 @@ loop-s-init c = (claimed (goal.at.loop-s-init c).In_ok-lo).2
 pub returns-in_err-write : goal.returns-in_err-write
 returns-in_err-write c =
     let (low, high, inside) = in_reach (goal.at.returns-in_err-write c).After-write in
-    absurd (write_err c.loop-s.core c.write.new.self c.args.core.now.setup.upstreams c.args.core.now.setup.size c.args.script.now c.args.at c.args.n c.loop-s.s _ c.in_err-write.field-0.0 c.loop-s.invariant low high (get_or_default c.args.script.now c.loop-s.s _ no_event inside) c.in_err-write.ensures.step)
+    absurd (write_err c.loop-s.core c.write.new.self c.args.core.now.setup.upstreams c.args.core.now.setup.size c.args.script.now c.args.at c.args.n c.loop-s.s
+    _ c.in_err-write.field-0.0 c.loop-s.invariant low high (get_or_default c.args.script.now c.loop-s.s _ no_event inside) c.in_err-write.ensures.step)
 
 pub loop-s-preserved : goal.loop-s-preserved
 loop-s-preserved c =
     let (low, high, inside) = in_reach (goal.at.loop-s-preserved c).After-write in
-    write_ok c.loop-s.core c.write.new.self c.args.core.now.setup.upstreams c.args.core.now.setup.size c.args.script.now c.args.at c.args.n c.loop-s.s _ c.loop-s.invariant low high (get_or_default c.args.script.now c.loop-s.s _ no_event inside) c.in_ok-write.ensures.step
+    write_ok c.loop-s.core c.write.new.self c.args.core.now.setup.upstreams c.args.core.now.setup.size c.args.script.now c.args.at c.args.n c.loop-s.s _
+    c.loop-s.invariant low high (get_or_default c.args.script.now c.loop-s.s _ no_event inside) c.in_ok-write.ensures.step
 
 pub returns : goal.returns
 returns c =
@@ -53,5 +57,6 @@ returns c =
     let (low, high, first) = claimed (goal.at.returns c).In_ok-lo in
     let all : c.loop-s.s ≡ at + n = omega arith in
     let hand = subst (λ w. InHand graph size events (at + n) w at c.loop-s.core) all c.loop-s.invariant in
-    let step = subst (λ lo. IsStep c.loop-s.core (Publish 0 lo c.in_ok-lo.field-0.hi) (unit_reply Published c.publish.result) [] c.publish.new.self) low c.publish.ensures.step in
+    let step = subst (λ lo. IsStep c.loop-s.core (Publish 0 lo c.in_ok-lo.field-0.hi) (unit_reply Published c.publish.result) [] c.publish.new.self) low
+    c.publish.ensures.step in
     publish_any c.loop-s.core c.publish.new.self graph size events at n c.publish.result c.in_ok-lo.field-0.hi high hand c.requires.some step

@@ -33,7 +33,8 @@ returns-clause-ran g c =
     let back = c.in-Ok-gathered.back in
     let receivers = map (λ b. b.outlet) served in
     let plan : sender.knows.plan ≡ c.args.sender.knows.plan = ap (λ (p : SenderPlace). p.1) c.joined.ensures.closes.place in
-    let all : AreAllEnds sender (map given_end workers) c.args.halter = all_moved c.args.sender sender (map given_end workers) c.args.halter c.joined.ensures.closes.place c.requires.ends in
+    let all : AreAllEnds sender (map given_end workers) c.args.halter =
+    all_moved c.args.sender sender (map given_end workers) c.args.halter c.joined.ensures.closes.place c.requires.ends in
     let k = c.args.sender.knows.plan in
     let ring : c.args.sender.ring ≡ sender.ring = ap (λ (p : SenderPlace). p.0) (sym c.joined.ensures.closes.place) in
     let fresh : map given_end workers ≡ map (at_ring sender.ring) (fresh_receivers k 0 (handlers_of k)) =
@@ -41,7 +42,8 @@ returns-clause-ran g c =
     in
     let settles : Settles sender.knows (map (λ (e : ReceiverEnd). e.knows) receivers) =
     subst (λ (l : List ReceiverEnd). Settles sender.knows (map (λ (e : ReceiverEnd). e.knows) l)) c.in-Ok-gathered.ensures.outlets
-    (subst (λ (e : SenderEnd). Settles e.knows (map (λ (r : ReceiverEnd). r.knows) c.in-Ok-gathered.back.outlets.items)) c.into_end.ensures c.settle-settled.ensures.lists)
+    (subst (λ (e : SenderEnd). Settles e.knows (map (λ (r : ReceiverEnd). r.knows) c.in-Ok-gathered.back.outlets.items)) c.into_end.ensures
+    c.settle-settled.ensures.lists)
     in
     let counts : c.settle-settled.result.handlers.items ≡ map (λ (e : ReceiverEnd). handler_counts e.knows) receivers =
     c.settle-settled.ensures.handlers ∙ ap (map (λ (e : ReceiverEnd). handler_counts e.knows)) c.in-Ok-gathered.ensures.outlets
@@ -50,9 +52,12 @@ returns-clause-ran g c =
     let ends = c.settle-settled.ensures.ends in
     let here : ran.settled.sender.value ≡ sender = ends.0 ∙ c.into_end.ensures in
     let theirs : ran.settled.receivers.value.items ≡ receivers = ends.1 ∙ c.in-Ok-gathered.ensures.outlets in
-    let run = same_run c.into_end.result ran.settled.sender.value back.outlets.items ran.settled.receivers.value.items c.args.halter ran.settled.halter.value ends.0 ends.1 ends.2 c.settle-settled.ensures.run in
+    let run = same_run c.into_end.result ran.settled.sender.value back.outlets.items ran.settled.receivers.value.items c.args.halter ran.settled.halter.value
+    ends.0 ends.1 ends.2 c.settle-settled.ensures.run in
     let unhalted = ap (λ (e : HalterEnd). e.knows.halted) ends.2 ∙ c.requires.unhalted in
-    let is = is_ran g.H.Handler.goes sender workers served c.in-Ok.ensures.kept k ran c.args.halter all plan fresh settles counts c.args.fault here theirs run unhalted (c.settle-settled.ensures.published ∙ ap (λ (e : SenderEnd). length e.knows.sent.published) c.into_end.ensures) c.in-Ok-gathered.ensures.handlers c.in-Ok-gathered.ensures.endings in
+    let is = is_ran g.H.Handler.goes sender workers served c.in-Ok.ensures.kept k ran c.args.halter all plan fresh settles counts c.args.fault here theirs run
+    unhalted (c.settle-settled.ensures.published ∙ ap (λ (e : SenderEnd). length e.knows.sent.published) c.into_end.ensures)
+    c.in-Ok-gathered.ensures.handlers c.in-Ok-gathered.ensures.endings in
     subst (λ (l : List Event). IsRan g.H.Handler.goes k (map given_handler workers) l c.args.fault ran) c.joined.ensures.closes.published is
 
 pub returns-clause-closes : goal.returns-clause-closes

@@ -21,7 +21,8 @@ finish-requires-clause-fresh g c =
     let k = shape_of c.args.graph.now.upstreams c.args.size in
     let made = c.in_ok-fresh in
     let begun = c.in_ok-sender in
-    let ready = are_ready k made.fresh begun.sender made.receivers.items made.halter c.args.handlers.items begun.workers.items made.ensures.fresh made.ensures.ends begun.ensures.sender begun.ensures.ends begun.ensures.starts in
+    let ready = are_ready k made.fresh begun.sender made.receivers.items made.halter c.args.handlers.items begun.workers.items made.ensures.fresh
+    made.ensures.ends begun.ensures.sender begun.ensures.ends begun.ensures.starts in
     let produced = c.produce_with-produced in
     same_ends k begun.sender produced.new.inlet (map given_end begun.workers.items) made.halter ready.fresh produced.ensures.kept
 
@@ -30,7 +31,8 @@ finish-requires-clause-ends g c =
     let k = shape_of c.args.graph.now.upstreams c.args.size in
     let made = c.in_ok-fresh in
     let begun = c.in_ok-sender in
-    let ready = are_ready k made.fresh begun.sender made.receivers.items made.halter c.args.handlers.items begun.workers.items made.ensures.fresh made.ensures.ends begun.ensures.sender begun.ensures.ends begun.ensures.starts in
+    let ready = are_ready k made.fresh begun.sender made.receivers.items made.halter c.args.handlers.items begun.workers.items made.ensures.fresh
+    made.ensures.ends begun.ensures.sender begun.ensures.ends begun.ensures.starts in
     let produced = c.produce_with-produced in
     all_moved begun.sender produced.new.inlet (map given_end begun.workers.items) made.halter produced.ensures.kept ready.ends
 
@@ -39,7 +41,8 @@ returns-clause-run g c =
     let k = shape_of c.args.graph.now.upstreams c.args.size in
     let made = c.in_ok-fresh in
     let begun = c.in_ok-sender in
-    let ready = are_ready k made.fresh begun.sender made.receivers.items made.halter c.args.handlers.items begun.workers.items made.ensures.fresh made.ensures.ends begun.ensures.sender begun.ensures.ends begun.ensures.starts in
+    let ready = are_ready k made.fresh begun.sender made.receivers.items made.halter c.args.handlers.items begun.workers.items made.ensures.fresh
+    made.ensures.ends begun.ensures.sender begun.ensures.ends begun.ensures.starts in
     let produced = c.produce_with-produced in
     let script = c.args.script.now in
     let ends = map given_end begun.workers.items in
@@ -50,7 +53,8 @@ returns-clause-run g c =
       given = begun.sender;
       back = produced.new.inlet;
       fresh = made_so k begun.sender produced.new.inlet ends made.halter ready.fresh produced.ensures.kept;
-      calls = subst (λ (n : ℕ). SomeCalls sender_does begun.sender produced.new.inlet (worker.Sends {E = Event} n script (λ passage. ⊥) (λ passage. ⊥) produced.result)) cut produced.ensures.sends;
+      calls = subst (λ (n : ℕ). SomeCalls sender_does begun.sender produced.new.inlet
+          (worker.Sends {E = Event} n script (λ passage. ⊥) (λ passage. ⊥) produced.result)) cut produced.ensures.sends;
       complete = produced.ensures.open (ap (λ (r : SenderRecord). r.sent.pending) ready.fresh.sender);
       published = produced.ensures.sent ∙ ap (λ (l : List Event). l ++ take produced.result.sent script) none;
     }
@@ -58,9 +62,11 @@ returns-clause-run g c =
     let all : produced.result.fault ≡ None → produced.result.sent ≡ length script = λ fine. rw fine at produced.ensures.all in
     run_of g.H.Handler.goes k c.args.handlers.items script produced.result (map given_handler begun.workers.items)
     c.in_ok-ran.ran ready.handlers sending produced.ensures.within all
-    (came g.H.Handler.goes k c.args.handlers.items produced.new.inlet (map given_handler begun.workers.items) produced.result.fault c.in_ok-ran.ran plan c.in_ok-ran.ensures.ran c.in_ok-ran.ensures.closes c.in_ok-ran.ensures.claimed c.in_ok-ran.ensures.unhalted)
+    (came g.H.Handler.goes k c.args.handlers.items produced.new.inlet (map given_handler begun.workers.items) produced.result.fault c.in_ok-ran.ran plan
+    c.in_ok-ran.ensures.ran c.in_ok-ran.ensures.closes c.in_ok-ran.ensures.claimed c.in_ok-ran.ensures.unhalted)
 
 pub returns-clause-whole : goal.returns-clause-whole
 returns-clause-whole g c =
     let short : length c.args.script.now < 2 ^ 62 = search rules in
-    went_whole g.H.Handler.goes (shape_of c.args.graph.now.upstreams c.args.size) c.args.handlers.items c.args.script.now c.in_ok-ran.ran refl (returns-clause-run g c) (omega arith)
+    went_whole g.H.Handler.goes (shape_of c.args.graph.now.upstreams c.args.size) c.args.handlers.items c.args.script.now c.in_ok-ran.ran refl
+    (returns-clause-run g c) (omega arith)

@@ -22,7 +22,8 @@ returns g c =
     let begins : c.new-inlet.result.end ≡ task.end = ap (λ (inlet : LockedInlet _ _ _). inlet.end) c.new-inlet.ensures ∙ c.new-locked.ensures.end in
     let ends : c.into_end-end.result ≡ run.new.inlet.end = c.into_end-end.ensures ∙ ap (λ (inlet : LockedInlet _ _ _). inlet.end) c.into_end-back.ensures in
     sends begun size c.max-cut.result task events back script cut
-    (asked (λ (old : LockedInlet _ _ _) call (new : LockedInlet _ _ _). (new.p ≡ old.p) × InletAsks begun old.p old.end call new.end) (InletAsks begun task.p) (λ inlet. inlet.end) (λ inlet. inlet.p ≡ task.p)
+    (asked (λ (old : LockedInlet _ _ _) call (new : LockedInlet _ _ _). (new.p ≡ old.p) × InletAsks begun old.p old.end call new.end) (InletAsks begun task.p)
+    (λ inlet. inlet.end) (λ inlet. inlet.p ≡ task.p)
     (λ old new call here is. (is.0 ∙ here, subst (λ n. InletAsks begun n old.end call new.end) here is.1))
     {Holds = Sends {E = Event} c.max-cut.result events (λ passage. ⊥) (λ passage. ⊥) run.result}
     c.new-inlet.result run.new.inlet task.end c.into_end-end.result number begins ends run.ensures.sends)

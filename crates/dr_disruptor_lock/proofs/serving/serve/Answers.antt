@@ -15,7 +15,8 @@ returns g c =
     let begins : c.new-outlet.result.end ≡ job.end = ap (λ (outlet : LockedOutlet _ _ _). outlet.end) c.new-outlet.ensures ∙ c.new-locked.ensures.end in
     let ends : c.into_end-end.result ≡ run.new.outlet.end = c.into_end-end.ensures ∙ ap (λ (outlet : LockedOutlet _ _ _). outlet.end) c.into_end-back.ensures in
     record {
-      calls = asked (λ (old : LockedOutlet _ _ _) call (new : LockedOutlet _ _ _). (new.h ≡ old.h) × OutletAsks begun old.h old.end call new.end) (OutletAsks begun job.who) (λ outlet. outlet.end) (λ outlet. outlet.h ≡ job.who)
+      calls = asked (λ (old : LockedOutlet _ _ _) call (new : LockedOutlet _ _ _). (new.h ≡ old.h) × OutletAsks begun old.h old.end call new.end)
+          (OutletAsks begun job.who) (λ outlet. outlet.end) (λ outlet. outlet.h ≡ job.who)
           (λ old new call here is. (is.0 ∙ here, subst (λ n. OutletAsks begun n old.end call new.end) here is.1))
           {Holds = Serves 256 (Watches g.H.Handler.goes) job.watching run.new.handler None None (λ passage. ⊥) (λ passage. ⊥) run.result}
           c.new-outlet.result run.new.outlet job.end c.into_end-end.result number begins ends run.ensures.serves;

@@ -27,19 +27,26 @@ returns g c =
     let sender_ends : List (EndView Event) = map (λ (s : Sent g.row.L.Denot). s.end) sent in
     let begins : c.push.new.self.items ≡ halter ∷ [] = c.in_ok-push.ensures.items ∙ ap (λ (l : List (EndView Event)). l ++ halter ∷ []) c.new-ends.ensures.items in
     let first : c.handlers_apart.new.ends.items ≡ halter ∷ handler_ends = c.in_ok-watchings.ensures.ends ∙ ap (λ (l : List (EndView Event)). l ++ handler_ends) begins in
-    let ends : c.senders_apart.new.ends.items ≡ halter ∷ handler_ends ++ sender_ends = c.in_ok-scripts.ensures.ends ∙ ap (λ (l : List (EndView Event)). l ++ sender_ends) first in
+    let ends : c.senders_apart.new.ends.items ≡ halter ∷ handler_ends ++ sender_ends =
+    c.in_ok-scripts.ensures.ends ∙ ap (λ (l : List (EndView Event)). l ++ sender_ends) first in
     let scripts : map (λ (v : Vec Event). v.items) c.as_slice.result.now ≡ map (λ (s : Sent g.row.L.Denot). s.script.items) sent =
-    ap (map (λ (v : Vec Event). v.items)) (c.as_slice.ensures.value ∙ c.in_ok-scripts.ensures.scripts) ∙ map_map (λ (v : Vec Event). v.items) (λ (s : Sent g.row.L.Denot). s.script) sent
+    ap (map (λ (v : Vec Event). v.items)) (c.as_slice.ensures.value ∙ c.in_ok-scripts.ensures.scripts)
+    ∙ map_map (λ (v : Vec Event). v.items) (λ (s : Sent g.row.L.Denot). s.script) sent
     in
-    let watchings : c.as_slice-2.result.now ≡ map (λ (s : Served g.row.L.Denot g.row.H.Denot). s.watching) served = c.as_slice-2.ensures.value ∙ c.in_ok-watchings.ensures.watchings in
+    let watchings : c.as_slice-2.result.now ≡ map (λ (s : Served g.row.L.Denot g.row.H.Denot). s.watching) served =
+    c.as_slice-2.ensures.value ∙ c.in_ok-watchings.ensures.watchings in
     record {
       history = subst (λ (l : List (EndView Event)). IsHistoryOf g.L.Exchange.begun c.args.shared.begun l history) ends c.taken_out-recorded.ensures;
       afters = c.in_ok-handlers.ensures ∙ ap (map (λ (w : Watching g.row.H.Denot). w.handler)) c.in_ok-watchings.ensures.watchings
           ∙ map_map (λ (w : Watching g.row.H.Denot). w.handler) (λ (s : Served g.row.L.Denot g.row.H.Denot). s.watching) served;
       endings = c.in_ok-scripts.ensures.endings
           ∙ ap (λ (l : List Ended). l ++ endings_from 16 (map (λ (s : Sent g.row.L.Denot). s.produced.fault) sent)) c.in_ok-watchings.ensures.endings;
-      audited = subst (λ (l : List (List Event)). IfOk list (λ v. IsAudited (transcript history) (handlers history.core.setup) l v.items)) scripts c.compared-list.ensures.audited;
-      amiss = subst (λ (ws : List (Watching g.row.H.Denot)). IfErr list (IsAmiss (transcript history) (handlers history.core.setup) (map (λ (s : Sent g.row.L.Denot). s.script.items) sent) (IsUnlike ws))) watchings
-          (subst (λ (l : List (List Event)). IfErr list (IsAmiss (transcript history) (handlers history.core.setup) l (IsUnlike c.as_slice-2.result.now))) scripts c.compared-list.ensures.amiss);
+      audited = subst (λ (l : List (List Event)). IfOk list (λ v. IsAudited (transcript history) (handlers history.core.setup) l v.items)) scripts
+          c.compared-list.ensures.audited;
+      amiss = subst (λ (ws : List (Watching g.row.H.Denot)).
+          IfErr list (IsAmiss (transcript history) (handlers history.core.setup) (map (λ (s : Sent g.row.L.Denot). s.script.items) sent) (IsUnlike ws)))
+          watchings
+          (subst (λ (l : List (List Event)). IfErr list (IsAmiss (transcript history) (handlers history.core.setup) l (IsUnlike c.as_slice-2.result.now)))
+          scripts c.compared-list.ensures.amiss);
       shown = subst (λ (ws : List (Watching g.row.H.Denot)). IfOk list (λ v. All (HasListed v.items) ws)) watchings c.compared-list.ensures.shown;
     }

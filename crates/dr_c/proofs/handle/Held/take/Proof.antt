@@ -53,14 +53,16 @@ take_spec 𝓤 𝓛 𝓜 𝓡 wired =
     (λ κs. (mut_vals, ((λ d. zl.lowers.lowered d ∷ []), tt))) (λ κs. (mut_Tells (named 0) κs.0 R, (zl.lowers.val_is, tt))) (λ κs qs bounds a g are.
     let b = a.0.ref_ptr.0 in let o = a.0.ref_ptr.1 in let h = a.0.now in let vs = mut_vals a.0 in let d = a.1.0 in let w = zl.lowers.lowered d in
     let y : W.Ghost = ((κs, qs, bounds, a, (vs, (w ∷ [], tt))), g) in
-    qed 𝓛 (((‵ (flft κs.0 qs.0) ⊛ ‵ ftrue) ⊛ ‵ ((MutRef (named 0) κs.0 R).own_val a.0 vs) ⊛ ‵ (Z.own_val d (w ∷ [])) ⊛ ‵ ftrue) ∷ raw (fact 𝓤 (IsSome h.value)) ∷ []) ∵
+    qed 𝓛 (((‵ (flft κs.0 qs.0) ⊛ ‵ ftrue) ⊛ ‵ ((MutRef (named 0) κs.0 R).own_val a.0 vs) ⊛ ‵ (Z.own_val d (w ∷ [])) ⊛ ‵ ftrue)
+    ∷ raw (fact 𝓤 (IsSome h.value)) ∷ []) ∵
     move ! (1 ∷ []) $ heard ! _ (λ has. let it = some_of h.value has in let x = it.0 in
     split ! $ split ! $ move ! (2 ∷ []) $ split ! $ move ! (1 ∷ []) $ split ! $ keep ! (2 ∷ 3 ∷ 0 ∷ []) $
     enter ! _ _ _ _ _ $ alloc_all ! (λ l. pass_all ! refl ((tt, tt), ((tt, ((tt, tt), tt)), tt)) $
     fsplit3 ! $ move ! (1 ∷ 2 ∷ 3 ∷ []) $ opens ! tt R b o (λ us.
     move ! (1 ∷ []) $ peeks ! R _ (shows 𝓛 R) h us (λ is. fsplit ! $ move ! (1 ∷ []) $
     rewrite ! 0 (λ (v : Option I.Denot). ‵ (held (ghosts.dealloc_token h.heap) I h.at v)) it.1 refl $
-    in_a_block ! h.at (λ p. box_owns (ghosts.dealloc_token h.heap) I p x) (fst∗ 𝓤 (never 𝓤) (sem 𝓛 (ghosts.dealloc_token h.heap (bare (lone I.mir)) null_ptr))) (λ b' o' e.
+    in_a_block ! h.at (λ p. box_owns (ghosts.dealloc_token h.heap) I p x)
+    (fst∗ 𝓤 (never 𝓤) (sem 𝓛 (ghosts.dealloc_token h.heap (bare (lone I.mir)) null_ptr))) (λ b' o' e.
     let word = lowers.val_is h us is ∙ ap (λ (p : Ptr). lowers.lowered (record h { at = p }) ∷ []) e in
     let Cell = λ (ws : List Val). ‵ (cell_at full_share R.mir ws b o) in
     rewrite ! 2 Cell word refl $
@@ -73,5 +75,6 @@ take_spec 𝓤 𝓛 𝓜 𝓡 wired =
     move ! (2 ∷ 0 ∷ 3 ∷ 4 ∷ 5 ∷ []) $ closes ! tt R (record h { value = None }) us b o $
     -- [two parts of self; the token; the result; self's first part]
     returns ! (look_at ! 0 refl) $ free_all ! refl $ move ! (4 ∷ []) $
-    suffices ! _ (ends_at 𝓛 f.ended stayed c y (both (vptr b' o') w) (record { at = block_ptr b' o'; alloc = d; value = x }) (record h { value = None }, (tt, tt)) (tt, (tt, tt))) $ says_two ! (it.1, refl) $
+    suffices ! _ (ends_at 𝓛 f.ended stayed c y (both (vptr b' o') w)
+    (record { at = block_ptr b' o'; alloc = d; value = x }) (record h { value = None }, (tt, tt)) (tt, (tt, tt))) $ says_two ! (it.1, refl) $
     group ! 3 $ nothing ! $ nothing ! $ join ! $ move ! (1 ∷ 0 ∷ []) $ join ! $ nothing ! $ move ! (2 ∷ 0 ∷ []) $ join ! $ frame ! $ frame ! $ done !))))))

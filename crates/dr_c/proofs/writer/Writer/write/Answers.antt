@@ -11,6 +11,7 @@ invariant_of-self c = record {
 pub returns : goal.returns
 returns c = record {
   bytes = refl;
-  call = update_writes c.args.self.now.bytes c.args.bytes.now _ (λ was now k many. search rules) c.requires c.args.self.now.sender c.args.sequence c.update.new.self
+  call = update_writes c.args.self.now.bytes c.args.bytes.now _ (λ was now k many. search rules) c.requires c.args.self.now.sender c.args.sequence
+      c.update.new.self
       c.update.result c.args.self.now.fit c.update.ensures;
 }

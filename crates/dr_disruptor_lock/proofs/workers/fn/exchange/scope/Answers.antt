@@ -35,6 +35,7 @@ returns g c =
     let rest = c.loop-job.job-iterator.rest in
     let left = rest.ok in
     let none : length rest.items ≡ 0 = omega arith in
-    let given : map given_job workers ≡ c.captures.jobs.items = all_moved given_job workers rest.items c.captures.jobs.items (c.loop-job.invariant ∙ c.into_iter-job-iterator.ensures.into_iter_gives.0) none in
+    let given : map given_job workers ≡ c.captures.jobs.items =
+    all_moved given_job workers rest.items c.captures.jobs.items (c.loop-job.invariant ∙ c.into_iter-job-iterator.ensures.into_iter_gives.0) none in
     are_joined g.L.Exchange.begun c.captures.around.now.size g.H.Handler.goes c.captures.halter workers c.captures.jobs.items c.captures.tasks.items c.served.result given
     c.served.ensures.halted c.served.ensures.sent c.served.ensures.kept

@@ -43,7 +43,8 @@ returns g c =
     let rest = c.loop-task.task-iterator.rest in
     let left = rest.ok in
     let none : length rest.items ≡ 0 = omega arith in
-    let given : map given_task workers ≡ c.captures.tasks.items = all_moved given_task workers rest.items c.captures.tasks.items (was.0 ∙ c.into_iter-task-iterator.ensures.into_iter_gives.0) none in
+    let given : map given_task workers ≡ c.captures.tasks.items =
+    all_moved given_task workers rest.items c.captures.tasks.items (was.0 ∙ c.into_iter-task-iterator.ensures.into_iter_gives.0) none in
     are_sent g.L.Exchange.begun c.captures.around.now.size workers c.captures.tasks.items sent given
     (λ p w at. ap given_size (sym (value_at workers p w w at)) ∙ was.1 p w (at_below workers p w at)) many
     (λ p back below. let k = (c.in_ok-join_promised.ensures.each p back (omega arith)).1 in (k.handle, k.handle_is, k.kept))

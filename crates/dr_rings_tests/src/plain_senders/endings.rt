@@ -4,10 +4,10 @@ ghost use Rattle.std.specs.Prelude.{◌≡◌};
 ghost use Rattle.dr_plain_senders.specs.Calls.Ends.{sender_place, receiver_place};
 ghost use Rattle.dr_plain_senders.specs.Calls.Settling.{AreAllEnds};
 
+use super::{Ends, open};
 use crate::checks::{check, check_at};
 use crate::counted::{Counted, event, four, use_some};
 use crate::graphs::Shape;
-use crate::ring::{Ends, open};
 use dr_meaning::{Claimed, MAX_LIMIT};
 use dr_plain_senders::{Receiver, Sender, Settled, Values, finish};
 use std::alloc::Global;

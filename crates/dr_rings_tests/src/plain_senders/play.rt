@@ -4,11 +4,11 @@ ghost use Rattle.std.specs.Prelude.{◌≡◌};
 ghost use Rattle.dr_plain_senders.specs.Calls.Ends.{sender_place, receiver_place};
 ghost use Rattle.dr_plain_senders.specs.Calls.Settling.{AreAllEnds};
 
+use super::{Ends, open};
+use crate::calls::{done, polled};
 use crate::checks::{check, check_at};
 use crate::counted::{Counted, event, four, use_some};
-use crate::replies::{done, polled};
-use crate::ring::{Ends, open};
-use crate::rows::{Call, LIMIT, RUNS, Run};
+use crate::rows_of_several::{Call, LIMIT, RUNS, Run};
 use dr_meaning::{Claimed, Refusal, Reply};
 use dr_plain_senders::{ClaimFault, Receiver, Sender, Settled, finish};
 use std::alloc::Global;

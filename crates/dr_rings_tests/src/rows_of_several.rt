@@ -1,4 +1,5 @@
-//! Worked runs: calls of senders, handlers and the halter, each with its answer.
+//! Worked runs over a ring with several senders, of words or of plain memory: calls of senders, handlers and the halter,
+//! each with its answer.
 
 use crate::graphs::Shape;
 use dr_meaning::Refusal::{

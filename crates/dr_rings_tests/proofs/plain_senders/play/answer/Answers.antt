@@ -1,5 +1,5 @@
 use Rattle.dr_plain_senders.proofs.Together.{all_receiver, all_sender}
-use Rattle.dr_plain_senders_tests.proofs.play.answer.Goals as goal
+use Rattle.dr_rings_tests.proofs.plain_senders.play.answer.Goals as goal
 
 pub returns-in-Poll : goal.returns-in-Poll
 returns-in-Poll g c =

@@ -3,7 +3,7 @@
 use crate::checks::check;
 use crate::counted::four;
 use crate::graphs::{Shape, graph};
-use crate::rows::LIMIT;
+use crate::rows_of_several::LIMIT;
 use dr_meaning::OpenFault;
 use dr_plain_senders::senders_ring;
 use dr_seq::Size;

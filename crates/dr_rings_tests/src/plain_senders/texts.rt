@@ -1,31 +1,19 @@
 //! Texts go from two senders in turn through a diamond: none is lost, and none is there twice.
 
+use super::{Ends, open};
 use crate::checks::{check, check_at};
 use crate::graphs::Shape;
-use crate::ring::{Ends, open};
+use crate::texts::{empty_texts, text_of};
 use dr_meaning::Polled::{Batch, Drained};
 use dr_meaning::{Claimed, MAX_LIMIT, Refusal};
 use dr_plain_senders::{ClaimFault, Receiver, Sender};
 use std::alloc::Global;
 use std::process::Abort;
 
-fn empty_texts(rt: &impl Abort, alloc: Global, count: u64) -> Vec<String> {
-    let mut texts = Vec::new(alloc);
-    for _ in 0..count {
-        texts.push(String::new(alloc)).expect(rt, "memory");
-    }
-    texts
-}
-
 /// A ring of so many texts, which are empty at first, with two senders and three handlers.
 pub fn open_texts(rt: &impl Abort, alloc: Global, slots: u64) -> Ends<String> {
     let texts = empty_texts(rt, alloc, slots);
     open(rt, alloc, Shape::Diamond, MAX_LIMIT, 2, texts)
-}
-
-// The text of a sequence.
-fn text_of(rt: &impl Abort, alloc: Global, s: u64) -> String {
-    format!(in alloc; "event {s}").expect(rt, "memory")
 }
 
 // A text is moved into the cell of its sequence, or put in place of what lies there.

@@ -1,6 +1,13 @@
-//! A ring with all its ends.
+//! The ring over plain memory, with several senders.
 
 ghost use Rattle.dr_plain_senders.specs.Calls.Settling.{AreAllEnds};
+
+mod endings;
+mod opening;
+mod play;
+mod texts;
+mod threads;
+mod workers;
 
 use crate::graphs::{Shape, graph};
 use dr_plain_senders::{Halter, Receiver, Sender, senders_ring};

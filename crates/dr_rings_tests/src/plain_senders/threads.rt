@@ -1,8 +1,8 @@
 //! Threads hand all texts over, each in order, and end by themselves.
 
+use super::texts::open_texts;
 use crate::checks::check;
-use crate::receiving::{Receive, check_received, start};
-use crate::texts::open_texts;
+use crate::threads::{Receive, check_received, start};
 use dr_meaning::Polled::{Batch, Drained};
 use dr_meaning::{Claimed, Refusal};
 use dr_plain_senders::{ClaimFault, Receiver, Sender};
