@@ -98,7 +98,7 @@ fn tell_open<R: Print>(rt: &R, ends: &mut Ends<Event>) -> Result<(), Fault> {
 fn tell_settled<R: Print>(
     rt: &R,
     alloc: Global,
-    settled: &Settled,
+    settled: &Settled<Event>,
     events: &mut Values<Event>,
 ) -> Result<(), Fault> {
     tell_both(rt, settled.claimed(), settled.handlers())?;

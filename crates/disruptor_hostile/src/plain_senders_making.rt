@@ -107,7 +107,7 @@ fn tell_event<R: Print>(rt: &R, event: Option<Counted>) -> Result<(), Fault> {
 /// Uses two of the events that came back.
 fn tell_two<R: Print>(
     rt: &R,
-    settled: &Settled,
+    settled: &Settled<Counted>,
     events: &mut Values<Counted>,
 ) -> Result<(), Fault> {
     tell_both(rt, settled.claimed(), settled.handlers())?;

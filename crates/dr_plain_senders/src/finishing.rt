@@ -17,6 +17,7 @@ ghost use Rattle.dr_plain_senders.specs.Inside.Bringing.{AreTaken, AreBrought, A
 
 use crate::answers::claimed_in;
 use crate::dealt::{put_at, whole_row};
+use crate::gathered::Gathered;
 use crate::laws::{Halter, RingBody, RingSeat, moments, settling};
 use crate::owned::Owned;
 use crate::plan::{HALT_BIT, Plan};
@@ -28,6 +29,7 @@ use dr_cells::{Token, Values};
 use dr_runs::HandlerCounts;
 use std::alloc::Global;
 use std::marker::Brand;
+use std::snapshot::Snapshot;
 use std::sync::Arc;
 
 // Puts the cell of an open sequence in its place.
@@ -137,20 +139,27 @@ pub fn finish<T>(
     senders: Vec<Sender<T>>,
     receivers: Vec<Receiver<T>>,
     halter: Halter<T>,
-) -> (Settled, Values<T>)
+) -> (Settled<T>, Values<T>)
     requires { AreAllEnds senders.items receivers.items halter }
+    ensures ends { (result.0.senders.value.items ≡ senders.items) × (result.0.receivers.value.items ≡ receivers.items) × (result.0.halter.value ≡ halter) }
     ensures handlers { result.0.handlers.items ≡ map (λ e. handler_counts e.knows) receivers.items }
     ensures run { HasRun senders.items receivers.items halter result.0.claimed result.0.is_halted }
     ensures events { GivesBack halter.plan result.0.claimed senders.items result.1 }
 {
+    let ends = (
+        Snapshot::of(&senders),
+        Snapshot::of(&receivers),
+        Snapshot::of(&halter),
+    );
     let ring = halter.ring;
     let mut seat = halter.seat;
     let strip = halter.strip;
-    let gathered = halter.gathered;
-    let mut counts = gathered.counts;
-    let mut hands = gathered.hands;
-    let mut tokens = gathered.tokens;
-    let mut brought = gathered.brought;
+    let Gathered {
+        mut counts,
+        mut hands,
+        mut tokens,
+        mut brought,
+    } = halter.gathered;
     gather_senders(&ring, &mut seat, senders, &mut tokens, &mut brought);
     gather_receivers(&ring, &mut seat, receivers, &mut counts, &mut hands);
     let words = &ring.table.shared;
@@ -165,6 +174,9 @@ pub fn finish<T>(
         claimed,
         is_halted: found >= HALT_BIT,
         handlers: counts,
+        senders: ends.0,
+        receivers: ends.1,
+        halter: ends.2,
     };
     (settled, strip.close(row))
 }

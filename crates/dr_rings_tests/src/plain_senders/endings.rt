@@ -202,7 +202,7 @@ fn come_to(rt: &impl Abort, alive: &Arc<u64>, ends: &mut Ends<Counted>, moment: 
     }
 }
 
-fn check_settled(rt: &impl Abort, settled: &Settled, moment: &Moment) {
+fn check_settled(rt: &impl Abort, settled: &Settled<Counted>, moment: &Moment) {
     let name = moment.name;
     let before = moment.rounds.wrapping_mul(4);
     let [(first, _, _), (second, _, _)] = moment.sent;

@@ -126,7 +126,7 @@ fn play(rt: &impl Abort, alive: &Arc<u64>, ends: &mut Ends<Counted>, run: &Run)
     }
 }
 
-fn check_settled(rt: &impl Abort, settled: &Settled, run: &Run) {
+fn check_settled(rt: &impl Abort, settled: &Settled<Counted>, run: &Run) {
     let name = run.name;
     check_at(rt, settled.claimed(), run.claimed, name);
     check_at(rt, settled.is_halted(), run.halted, name);
