@@ -3,9 +3,10 @@
 ghost use Rattle.std.specs.Prelude.{◌≡◌, ◌≤◌, All, false, IfErr, IfOk, List, length, map};
 ghost use Rattle.std.specs.Fn.{FnOnceReturnsAtMut};
 ghost use Rattle.dr_seq.specs.declared.event.Event.{Event};
+ghost use denote.RawPtr.{Ptr};
 ghost use Rattle.dr_meaning.specs.declared.mode.Mode.TheVariants.{Multi};
 ghost use Rattle.dr_meaning.specs.Calls.OpenFault.{has_bad_producers};
-ghost use Rattle.dr_senders.specs.Calls.Settling.{AreAllEnds};
+ghost use Rattle.dr_plain_senders.specs.Calls.Settling.{AreAllEnds};
 ghost use Rattle.dr_threads.specs.Endings.{AreFine};
 ghost use Rattle.dr_threads.specs.Handlers.{AllWentThroughMerge};
 ghost use Rattle.dr_threads.specs.Serving.{given_end};
@@ -16,7 +17,7 @@ use crate::sending::{LiveSender, Sent};
 use crate::workers::{LiveHalter, Worker, begin, feed_all, joined, open, send_all, senders_apart};
 use dr_graph::Graph;
 use dr_meaning::Handler;
-use dr_senders::{Settled, settle};
+use dr_plain_senders::{Settled, finish};
 use dr_seq::{Event, Size};
 use dr_threads::{Back, RunFault, WaitStrategy, apart};
 use dr_workers::WorkFault;
@@ -28,9 +29,9 @@ use std::thread::Threads;
 /// handler came, and how each worker ended, the senders' last, in the order of their scripts or closures.
 pub type Ran<H> = dr_threads::Ran<H, Settled>;
 
-// Halts the ring, joins the handlers' threads, and brings all ends together. It halts and joins also where memory
-// ran out.
-fn finish<R: Threads, H: Handler<Event> + Drop>(
+// Halts the ring, joins the handlers' threads, and brings all ends together; the events that come back are dropped. It
+// halts and joins also where memory ran out.
+fn wind_up<R: Threads, H: Handler<Event> + Drop>(
     rt: &R,
     alloc: Global,
     mut halter: LiveHalter,
@@ -49,7 +50,8 @@ fn finish<R: Threads, H: Handler<Event> + Drop>(
         mut endings,
     } = apart(alloc, served)?;
     let senders = senders_apart(alloc, sent, &mut endings)?;
-    let settled = settle(senders, outlets, halter.into_end());
+    let (settled, events) = finish(senders, outlets, halter.into_end());
+    drop(events);
     Ok(dr_threads::Ran {
         handlers,
         settled,
@@ -64,7 +66,8 @@ fn finish<R: Threads, H: Handler<Event> + Drop>(
 ///
 /// It is refused with `Handlers` where there are not as many handlers as the graph has, with `Senders` where there
 /// are no scripts or more than 16, and with `Memory` where a thread could not be started. Where memory runs out, or
-/// a sender's thread cannot be started, what was done is lost.
+/// a sender's thread cannot be started, what was done is lost. Where a thread cannot be started, the ring keeps its
+/// memory.
 pub fn run_scripts<
     R: Threads + Wait + Copy + Send + 'static,
     H: Handler<Event> + Drop + Send + 'static,
@@ -80,7 +83,7 @@ pub fn run_scripts<
     // Where no worker has a fault, all handlers went through one list of events, a merge of the scripts.
     ensures whole { IfOk result (λ ran. AreFine ran.endings.items → (events : List Event) × AllWentThroughMerge H.goes (map (λ s. s.items) scripts.items) handlers.items ran.handlers.items events) }
     // It went over a new ring of this graph and size, and so it is of what was sent of the scripts, whatever the faults.
-    ensures run { IfOk result (IsRan H.goes (shape_of graph.now.upstreams size (length scripts.items)) (map (λ s. s.items) scripts.items) handlers.items) }
+    ensures run { IfOk result (λ ran. (strip : Ptr) × IsRan H.goes (shape_of graph.now.upstreams size (length scripts.items) strip) (map (λ s. s.items) scripts.items) handlers.items ran) }
     ensures many { IfOk result (λ _. length handlers.items ≡ length graph.now.upstreams) }
     ensures few { IfOk result (λ _. has_bad_producers (Multi (length scripts.items)) ≡ false) }
     ensures refused { IfErr result (λ e. e ≡ refusal_of (length graph.now.upstreams) (length handlers.items) (length scripts.items)) }
@@ -98,7 +101,7 @@ pub fn run_scripts<
         size,
         strategy,
     );
-    let ran = finish(&rt, alloc, halter, sent, workers)?;
+    let ran = wind_up(&rt, alloc, halter, sent, workers)?;
     Ok(ran)
 }
 
@@ -124,7 +127,7 @@ pub fn run_feeds<
     // No closure puts another ring's sender, or another sender, in the place of the one that it is given.
     requires place { All (λ f. LeavesSender (FnOnceReturnsAtMut F.FnOnce f)) feeds.items }
     // It went over a new ring of this graph and size, and so it is of what each closure sent by the sender at its place.
-    ensures run { IfOk result (IsRanBy (SendsFeed (FnOnceReturnsAtMut F.FnOnce) feeds.items) H.goes (shape_of graph.now.upstreams size (length feeds.items)) handlers.items) }
+    ensures run { IfOk result (λ ran. (strip : Ptr) × IsRanBy (SendsFeed (FnOnceReturnsAtMut F.FnOnce) feeds.items) H.goes (shape_of graph.now.upstreams size (length feeds.items) strip) handlers.items ran) }
     ensures many { IfOk result (λ _. length handlers.items ≡ length graph.now.upstreams) }
     ensures few { IfOk result (λ _. has_bad_producers (Multi (length feeds.items)) ≡ false) }
     ensures refused { IfErr result (λ e. e ≡ refusal_of (length graph.now.upstreams) (length handlers.items) (length feeds.items)) }
@@ -133,6 +136,6 @@ pub fn run_feeds<
     let (senders, receivers, mut halter, bell) = open(alloc, graph, size, handlers.len(), many)?;
     let workers = begin(rt, alloc, &mut halter, receivers, handlers, &bell, strategy)?;
     let sent = feed_all(&rt, alloc, &mut halter, senders, feeds, &bell);
-    let ran = finish(&rt, alloc, halter, sent, workers)?;
+    let ran = wind_up(&rt, alloc, halter, sent, workers)?;
     Ok(ran)
 }
