@@ -2,6 +2,7 @@ pub mod Owned
 pub mod Rising
 pub mod Shown
 pub mod Marks
+pub mod Lines
 pub mod Publishing
 pub mod Merged
 pub mod Untroubled
