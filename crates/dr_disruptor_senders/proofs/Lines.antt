@@ -205,7 +205,7 @@ line_published lo upto lents o w many lent = elim (cases_lt o.sequence lo) [
   where
     left : is_between lo upto o.sequence ≡ false → (o.sequence < lo) ⊎ (lo + length lents ≤ o.sequence)
         → line_of (one_published lo lents o) (if is_between lo upto o.sequence then None else w) ≡ line_out lo upto (line_of o w)
-    left no apart = rw no (ap (λ (y : Own Event). line_of y w) (published_else lo lents o apart))
+    left other apart = rw other (ap (λ (y : Own Event). line_of y w) (published_else lo lents o apart))
 
 pub lines_published : (lo upto : ℕ) (lents : List (Lent Event)) (own : List (Own Event)) (ws : List (Option Event)) → lo + length lents ≡ upto → AreLent lo upto lents own ws
     → lines (own_published lo lents own) (written_where (is_between lo upto) None own ws) ≡ map (line_out lo upto) (lines own ws)
@@ -365,12 +365,12 @@ part_sent : (ls : List Line) (stretch : Claimed) (events : List Event) (more : L
     → Rise (numbers (after_calls ls (sending_of (record { stretch = stretch; events = events }) ++ more)))
     → (0 < length events) × (stretch.hi + 1 ≡ stretch.lo + length events)
     → outs (after_calls ls (sending_of (record { stretch = stretch; events = events }))) ≡ outs ls ++ events
-part_sent ls stretch [] more rises some = absurd (let none = some.0 in omega arith)
-part_sent ls stretch (event ∷ events) more rises some =
+part_sent ls stretch [] more rises given = absurd (let many = given.0 in omega arith)
+part_sent ls stretch (event ∷ events) more rises given =
     let all : List Event = event ∷ events in
     let lo = stretch.lo in
     let upto = stretch.hi + 1 in
-    let many = some.1 in
+    let many = given.1 in
     let calls = sending_of (record { stretch = stretch; events = all }) ++ more in
     let below : AreBelow lo (numbers ls) = below_next lo (numbers ls) _ (subst Rise (numbers_after ls calls) rises) in
     let claimed : List Line = ls ++ fresh lo (length all) in
@@ -384,8 +384,8 @@ part_sent ls stretch (event ∷ events) more rises some =
 pub parts_sent : (ls : List Line) (parts : List (Part Event)) (next : List (InletCall Event)) → Rise (numbers (after_calls ls (flat_map sending_of parts ++ next)))
     → AreStretches (flat_map sending_of parts ++ next)
     → outs (after_calls ls (flat_map sending_of parts)) ≡ outs ls ++ flat_map (λ part. part.events) parts
-parts_sent ls [] next rises some = sym (append-nil (outs ls))
-parts_sent ls (part ∷ parts) next rises some =
+parts_sent ls [] next rises given = sym (append-nil (outs ls))
+parts_sent ls (part ∷ parts) next rises given =
     let rest = flat_map sending_of parts in
     let next_lines : List Line = after_calls ls (sending_of part) in
     let whole = append_assoc (sending_of part) rest next in
@@ -393,9 +393,9 @@ parts_sent ls (part ∷ parts) next rises some =
     subst (λ (cs : List (InletCall Event)). Rise (numbers (after_calls ls cs))) whole rises in
     let later : Rise (numbers (after_calls next_lines (rest ++ next))) =
     subst (λ (l : List Line). Rise (numbers l)) (after_both ls (sending_of part) (rest ++ next)) all in
-    let given : AreStretches (sending_of part ++ (rest ++ next)) = subst AreStretches whole some in
-    ap outs (after_both ls (sending_of part) rest) ∙ parts_sent next_lines parts next later (stretches_behind (sending_of part) (rest ++ next) given)
-    ∙ ap (λ (l : List Event). l ++ flat_map (λ part. part.events) parts) (part_sent ls part.stretch part.events (rest ++ next) all given.0)
+    let each : AreStretches (sending_of part ++ (rest ++ next)) = subst AreStretches whole given in
+    ap outs (after_both ls (sending_of part) rest) ∙ parts_sent next_lines parts next later (stretches_behind (sending_of part) (rest ++ next) each)
+    ∙ ap (λ (l : List Event). l ++ flat_map (λ part. part.events) parts) (part_sent ls part.stretch part.events (rest ++ next) all each.0)
     ∙ append_assoc (outs ls) part.events (flat_map (λ part. part.events) parts)
 
 -- What is left open.

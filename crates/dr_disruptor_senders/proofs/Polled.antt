@@ -152,8 +152,8 @@ walked_last k end s (m ∷ ms) upto W less = elim W.1 [
 walk_within : (n : ℕ) (k : Shape) (ups : List ℕ) (old r : ReceiverRecord Event) (end : ℕ) (marks : List ℕ) (upto : ℕ)
     → WalksTo k.size end (length old.received) marks upto → r.marks ≡ old.marks ++ mark_looks k (length old.received) marks
     → length old.received < upto → SawAtMost n k ups r → upto ≤ n
-walk_within n k ups old r end marks upto W is some saw =
-    let last = walked_last k end (length old.received) marks upto W some in
+walk_within n k ups old r end marks upto W is on saw =
+    let last = walked_last k end (length old.received) marks upto W on in
     let x : Look = look (mark_word k (upto - 1)) (entry_of k.size (upto - 1)) in
     let all : r.marks ≡ (old.marks ++ last.0) ++ x ∷ last.1 =
     is ∙ ap (λ (l : List Look). old.marks ++ l) last.2 ∙ sym (append_assoc old.marks last.0 (x ∷ last.1)) in
@@ -180,7 +180,7 @@ by_marks upto (u ∷ ups) counts many none = absurd (let all = ap length none in
 offer_within : (n room : ℕ) (k : Shape) (old r : ReceiverRecord Event) (seen : PollLooks) → LooksInOrder k old room seen
     → r.marks ≡ old.marks ++ mark_looks k (length old.received) seen.marks → r.looks ≡ old.looks ++ look claim_word seen.claims ∷ count_looks (ups_of k old) seen.counts
     → length old.received < offer seen → SawAtMost n k (ups_of k old) r → offer seen ≤ n
-offer_within n room k old r seen order marked grew some saw =
+offer_within n room k old r seen order marked grew further saw =
     offered n k seen.claims seen.upto r old.looks (ups_of k old) seen.counts order.each grew
     (λ none.
     let upto = by_marks seen.upto (ups_of k old) seen.counts order.each none in
@@ -216,11 +216,12 @@ module _ (room n : ℕ) where
       let sees = is.0.1.1 in
       let seen : PollLooks = sees.0 in
       let answers = sees.2 in
-      let on = looked_on a b (PollsInto before after (Ok (Batch first count end))) is in
       let next = answers.0 in
-      let some = answers.1 in
+      let further = answers.1 in
+      let marked = ap (λ (r : ReceiverRecord Event). r.marks) answers.5.2 in
+      let grew = ap (λ (r : ReceiverRecord Event). r.looks) answers.5.2 in
       let within : offer seen ≤ n =
-      offer_within n (length before) a.plan a.knows b.knows seen sees.1 on.marks on.looks (omega arith)
+      offer_within n (length before) a.plan a.knows b.knows seen sees.1 marked grew (omega arith)
       (saw_after a b (PollsInto before after (Ok (Batch first count end))) is saw)
       in
       batch_polled room n first count (offer seen) end before after long longer answers.1 answers.2 answers.3.1 within

@@ -211,7 +211,7 @@ did_all a b (call ∷ calls) (between, is, lead) whole rises =
     )
 
 stretch : (a b : SenderEnd Event) (call : InletCall Event) → sender_does a call b → AreStretches (accepted_of call)
-stretch a b (TriesClaim n (Ok c)) is = let some = is.0.counts.0 in let last = is.0.looks.2 in ((some, omega arith), tt)
+stretch a b (TriesClaim n (Ok c)) is = let any = is.0.counts.0 in let last = is.0.looks.2 in ((any, omega arith), tt)
 stretch a b (TriesClaim n (Err trouble)) is = tt
 stretch a b (WritesOne s event (Ok done)) is = (tt, tt)
 stretch a b (WritesOne s event (Err trouble)) is = tt

@@ -64,6 +64,9 @@ taken_whole (t ∷ ts) out =
     take_while-cons is_published t ts ∙ ap (λ (b : Bool). cond b (t ∷ take_while is_published ts) []) (out 0 t refl)
     ∙ ap (λ (l : List (Stage Event)). t ∷ l) (taken_whole ts (λ s u at. out (suc s) u at))
 
+out_is : (ts : List (Stage Event)) (s : ℕ) (t : Stage Event) (l : Lent Event) → get_elem? ts s ≡ some t → IsOutWith ts s l → is_published t ≡ true
+out_is ts s t l at out = ap is_published (one_value ts s t out.0 at out.1) ∙ ap is_some out.2
+
 -- what a receiver counts of itself
 same_counts : (ends : List (ReceiverEnd Event)) → map (λ (e : ReceiverEnd Event). handler_counts e.knows) ends
     ≡ map (λ (e : ReceiverEnd Event). record { taken = length (received_by e).events; completed = (received_by e).completed }) ends
@@ -205,8 +208,7 @@ module _ {A : Type 0} (goes : Relation Event A) (k : Shape) (sends more : ℕ �
       let long = (drained 0 p).1 in
       let inside : s < length w.stages = at_below w.stages s u at in
       let l = there p.back.outlet.knows.received s (omega arith) in
-      let x = (K.received 0 p.back.outlet.knows (at_world 0 p)).beginning s l.0 l.1 in
-      ap is_published (one_value w.stages s u x.0 at x.1) ∙ ap is_some x.2
+      out_is w.stages s u l.0 at ((K.received 0 p.back.outlet.knows (at_world 0 p)).beginning s l.0 l.1)
 
   -- all that is published, in order
   in_order : records.events_of (published_events w) ≡ events
@@ -247,7 +249,7 @@ module _ {A : Type 0} (goes : Relation Event A) (k : Shape) (sends more : ℕ �
       (λ s u at.
       let owner = settles.claimed s u at in
       let low = at_below w.senders u.owner owner.0 owner.1 in
-      let many = ap length joined.run.senders ∙ length-map (map (λ s. s.sender) sent) (λ (e : SenderEnd). e.knows) ∙ length-map sent (λ s. s.sender) in omega arith)
+      let many = ap length joined.run.senders ∙ length-map (map (λ s. s.sender) sent) (λ (e : SenderEnd Event). e.knows) ∙ length-map sent (λ s. s.sender) in omega arith)
       (λ p inside.
       let x = sender_place p (omega arith) in
       value_at lists p (events_of x.back.sender) [] (map_there (λ (s : Sent). events_of s.sender) sent p x.back x.at_back)

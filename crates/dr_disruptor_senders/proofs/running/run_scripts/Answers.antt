@@ -70,3 +70,12 @@ returns-in_err-ran-clause-refused g c =
     let is = memory_is (length c.args.graph.now.upstreams) (length c.args.handlers.items) (length c.args.scripts.items) (sym given ∙ made.ensures.many.0)
     (subst (λ (n : ℕ). has_bad_producers (Multi n) ≡ false) long made.ensures.fits) in
     subst (λ (f : RunFault). IfErr c.from_residual-in_err-ran.result (λ e. e ≡ f)) (sym is) (search rules)
+
+pub returns-in_err-workers-clause-refused : goal.returns-in_err-workers-clause-refused
+returns-in_err-workers-clause-refused g c =
+    let made = c.in_ok-senders in
+    let given : c.len-given.result ≡ length c.args.handlers.items = search rules in
+    let long : c.len-many.result ≡ length c.args.scripts.items = search rules in
+    let is = memory_is (length c.args.graph.now.upstreams) (length c.args.handlers.items) (length c.args.scripts.items) (sym given ∙ made.ensures.many.0)
+    (subst (λ (n : ℕ). has_bad_producers (Multi n) ≡ false) long made.ensures.fits) in
+    subst (λ (f : RunFault). IfErr c.from_residual-in_err-workers.result (λ e. e ≡ f)) (sym is) (search rules)

@@ -13,8 +13,8 @@ use Rattle.dr_disruptor_senders.specs.Serving.{sender_endings}
 use Rattle.dr_disruptor_senders.proofs.Ready.{halted_back, receivers_back, same_run}
 use Rattle.dr_disruptor_senders.proofs.running.wind_up.Goals as goal
 
-pub finish-requires : goal.finish-requires
-finish-requires g c =
+pub finish-settled-requires : goal.finish-settled-requires
+finish-settled-requires g c =
     let sent = c.in_ok-sent.sent in
     let ss = map (λ b. b.sender) sent.items in
     let workers = c.args.workers.items in
@@ -32,7 +32,7 @@ returns g c =
     let workers = c.args.workers.items in
     let served = c.in_ok-served.served.items in
     let back = c.in_ok-outlets in
-    let settled = c.finish in
+    let settled = c.finish-settled in
     let ran : Ran g.row.H.Denot = record { handlers = back.field-0.handlers; settled = settled.result.0; endings = c.senders_apart.new.endings } in
     let is : IsJoined g.H.Handler.goes workers sent.items c.args.halter ran = record {
       served = served;
