@@ -115,7 +115,8 @@ pub fresh_lines : (p s n : ℕ) → lines (fresh_own p s n) (replicate n None) �
 fresh_lines p s zero = refl
 fresh_lines p s (suc n) = ap (λ (l : List Line). record { sequence = s; written = None; out = None } ∷ l) (fresh_lines p (suc s) n)
 
-pub lines_more : (own more : List (Own Event)) (ws vs : List (Option Event)) → length ws ≡ length own → lines (own ++ more) (ws ++ vs) ≡ lines own ws ++ lines more vs
+pub lines_more : (own more : List (Own Event)) (ws vs : List (Option Event)) → length ws ≡ length own
+    → lines (own ++ more) (ws ++ vs) ≡ lines own ws ++ lines more vs
 lines_more [] more [] vs same = refl
 lines_more [] more (w ∷ ws) vs same = absurd (omega arith)
 lines_more (o ∷ own) more [] vs same = absurd (omega arith)
@@ -177,15 +178,16 @@ published_here : (s : ℕ) (lents : List (Lent Event)) (o : Own Event) (i : ℕ)
     → one_published s lents o ≡ record o { stage = published l o.stage }
 published_here s [] o i l at is = absurd (some-ne-none l (sym at))
 published_here s (x ∷ lents) o zero l at is =
-    ap (one_published (s + 1) lents) (one_here s x o (omega arith)) ∙ published_else (s + 1) lents (record o { stage = published x o.stage }) (inl (omega arith))
+    ap (one_published (s + 1) lents) (one_here s x o (omega arith))
+    ∙ published_else (s + 1) lents (record o { stage = published x o.stage }) (inl (omega arith))
     ∙ ap (λ (y : Lent Event). record o { stage = published y o.stage }) (some-injective x l at)
 published_here s (x ∷ lents) o (suc i) l at is =
     ap (one_published (s + 1) lents) (one_else s x o (λ e. omega arith)) ∙ published_here (s + 1) lents o i l at (omega arith)
 
 -- what is lent of each of the sequences that are published is what was written
 abbrev pub AreLent : ℕ → ℕ → List (Lent Event) → List (Own Event) → List (Option Event) → Type 0
-AreLent lo upto lents own ws = (i : ℕ) (o : Own Event) (w : Option Event) → get_elem? own i ≡ some o → get_elem? ws i ≡ some w → lo ≤ o.sequence → o.sequence < upto
-    → (l : Lent Event) × (get_elem? lents (o.sequence - lo) ≡ some l) × (w ≡ Some l.event)
+AreLent lo upto lents own ws = (i : ℕ) (o : Own Event) (w : Option Event) → get_elem? own i ≡ some o → get_elem? ws i ≡ some w
+    → lo ≤ o.sequence → o.sequence < upto → (l : Lent Event) × (get_elem? lents (o.sequence - lo) ≡ some l) × (w ≡ Some l.event)
 
 line_published : (lo upto : ℕ) (lents : List (Lent Event)) (o : Own Event) (w : Option Event) → lo + length lents ≡ upto
     → (lo ≤ o.sequence → o.sequence < upto → (l : Lent Event) × (get_elem? lents (o.sequence - lo) ≡ some l) × (w ≡ Some l.event))
@@ -207,7 +209,8 @@ line_published lo upto lents o w many lent = elim (cases_lt o.sequence lo) [
         → line_of (one_published lo lents o) (if is_between lo upto o.sequence then None else w) ≡ line_out lo upto (line_of o w)
     left other apart = rw other (ap (λ (y : Own Event). line_of y w) (published_else lo lents o apart))
 
-pub lines_published : (lo upto : ℕ) (lents : List (Lent Event)) (own : List (Own Event)) (ws : List (Option Event)) → lo + length lents ≡ upto → AreLent lo upto lents own ws
+pub lines_published : (lo upto : ℕ) (lents : List (Lent Event)) (own : List (Own Event)) (ws : List (Option Event)) → lo + length lents ≡ upto
+    → AreLent lo upto lents own ws
     → lines (own_published lo lents own) (written_where (is_between lo upto) None own ws) ≡ map (line_out lo upto) (lines own ws)
 lines_published lo upto lents [] ws many lent = ap (λ (own : List (Own Event)). lines own []) (none_published lo lents)
 lines_published lo upto lents (o ∷ own) [] many lent = no_lines (own_published lo lents (o ∷ own))
@@ -381,7 +384,8 @@ part_sent ls stretch (event ∷ events) more rises given =
     ∙ filter_map-append (λ (x : Line). x.out) (map (line_out lo upto) ls) (map (line_out lo upto) (wrote lo all))
     ∙ (λ i. outs (below_hidden lo upto ls below i) ++ out i)
 
-pub parts_sent : (ls : List Line) (parts : List (Part Event)) (next : List (InletCall Event)) → Rise (numbers (after_calls ls (flat_map sending_of parts ++ next)))
+pub parts_sent : (ls : List Line) (parts : List (Part Event)) (next : List (InletCall Event))
+    → Rise (numbers (after_calls ls (flat_map sending_of parts ++ next)))
     → AreStretches (flat_map sending_of parts ++ next)
     → outs (after_calls ls (flat_map sending_of parts)) ≡ outs ls ++ flat_map (λ part. part.events) parts
 parts_sent ls [] next rises given = sym (append-nil (outs ls))
@@ -432,4 +436,3 @@ none_begun ls rest next (inl none) out = none
 none_begun ls rest next (inr (part, zero, is, any, calls)) out = calls
 none_begun ls rest next (inr (part, suc k, is, any, calls)) out =
     absurd (closed _ (begun_open k ls part.stretch part.events any) (subst (λ (cs : List (InletCall Event)). LinesOut (after_calls ls cs)) calls out))
-

@@ -1,5 +1,6 @@
 -- What a receiver found at the marks: that of a sequence is there only once the sequence is claimed.
-use Rattle.std.proofs.Common.{◌≡◌, ℕ, zero, suc, ◌<◌, ◌≤◌, inl, inr, Bool, true, false, ◌==◌, if◌then◌else◌, List, [], ◌∷◌, ◌++◌, length, length-set, set, replicate, refl, sym, ap, ◌∙◌, subst, arith}
+use Rattle.std.proofs.Common.{◌≡◌, ℕ, zero, suc, ◌<◌, ◌≤◌, inl, inr, Bool, true, false, ◌==◌, if◌then◌else◌, List, [], ◌∷◌, ◌++◌}
+use Rattle.std.proofs.Common.{length, length-set, set, replicate, refl, sym, ap, ◌∙◌, subst, arith}
 use Rattle.std.proofs.lemmas.List.{length-append}
 use mathlib.Core.Option.{some, some-injective, some-ne-none}
 use lib.ListN.{get_elem?}
@@ -16,8 +17,9 @@ use Rattle.dr_plain_senders.specs.declared.record.Stage.{Stage}
 use Rattle.dr_plain_senders.specs.declared.record.SenderRecord.{SenderRecord}
 use Rattle.dr_plain_senders.specs.declared.record.ReceiverRecord.{ReceiverRecord}
 use Rattle.dr_plain_senders.specs.declared.record.Step.{Step}
-use Rattle.dr_plain_senders.specs.declared.record.Step.TheVariants.{SenderLooksAtClaims, SenderLooksAtCount, SenderClaims, SenderPublishes, SenderLooksAtMark, SenderHalts}
-use Rattle.dr_plain_senders.specs.declared.record.Step.TheVariants.{ReceiverLooksAtClaims, ReceiverLooksAtMark, ReceiverLooksAtCount, ReceiverCompletes, HalterHalts}
+use Rattle.dr_plain_senders.specs.declared.record.Step.TheVariants.{SenderLooksAtClaims, SenderLooksAtCount, SenderClaims, SenderPublishes}
+use Rattle.dr_plain_senders.specs.declared.record.Step.TheVariants.{SenderLooksAtMark, SenderHalts, ReceiverLooksAtClaims, ReceiverLooksAtMark}
+use Rattle.dr_plain_senders.specs.declared.record.Step.TheVariants.{ReceiverLooksAtCount, ReceiverCompletes, HalterHalts}
 use Rattle.dr_plain_senders.specs.Meaning.Records.{fresh_stage, published, sender_looked, receiver_looked, claims_looked, mark_looked, completed_to}
 use Rattle.dr_plain_senders.specs.Meaning.Rule.{World, KeepsRule}
 use Rattle.dr_plain_senders.specs.Meaning.Steps.{Happens, sender_knows, sender_claims}
@@ -48,14 +50,16 @@ more_claimed k rs n m le all h r at i x there s word value = let low = all h r a
 quiet : (k : Shape) (w : World Event) (h : ℕ) (r r' : ReceiverRecord Event) → get_elem? w.receivers h ≡ some r → r'.marks ≡ r.marks → MarksWithin k w
     → AreWithin k (set w.receivers h r') (length w.stages)
 quiet k w h r r' at same all =
-    each_set (λ j x. AllWithin k (length w.stages) x.marks) w.receivers h r' (subst (AllWithin k (length w.stages)) (sym same) (all h r at)) (λ j x ne there. all j x there)
+    each_set (λ j x. AllWithin k (length w.stages) x.marks) w.receivers h r' (subst (AllWithin k (length w.stages)) (sym same) (all h r at))
+    (λ j x ne there. all j x there)
 
 -- it looks at a mark, which is that of a sequence only where that is published
 found : (k : Shape) (w : World Event) (h t : ℕ) (r r' : ReceiverRecord Event) → get_elem? w.receivers h ≡ some r
     → r'.marks ≡ r.marks ++ look (mark_word k t) (word_at w.words (mark_word k t)) ∷ [] → KeepsRule k w → MarksWithin k w
     → AreWithin k (set w.receivers h r') (length w.stages)
 found k w h t r r' at more K all =
-    each_set (λ j x. AllWithin k (length w.stages) x.marks) w.receivers h r' (subst (AllWithin k (length w.stages)) (sym more) new) (λ j x ne there. all j x there)
+    each_set (λ j x. AllWithin k (length w.stages) x.marks) w.receivers h r' (subst (AllWithin k (length w.stages)) (sym more) new)
+    (λ j x ne there. all j x there)
   where
     here : Look
     here = look (mark_word k t) (word_at w.words (mark_word k t))
@@ -102,11 +106,13 @@ within_step k (ReceiverLooksAtCount h c room) w u H K all =
 within_step k (ReceiverCompletes h n) w u H K all = subst (MarksWithin k) (sym H.2.2) (quiet k w h H.0 (completed_to H.0 n) H.1 refl all)
 within_step k HalterHalts w u H K all = subst (MarksWithin k) (sym H) all
 
-within_runs : (k : Shape) (steps : List (Step Event)) (es : Transcript Event) (w u : World Event) → Runs k steps es w u → KeepsRule k w → MarksWithin k w → MarksWithin k u
+within_runs : (k : Shape) (steps : List (Step Event)) (es : Transcript Event) (w u : World Event) → Runs k steps es w u
+    → KeepsRule k w → MarksWithin k w → MarksWithin k u
 within_runs k [] es w u R K all = subst (MarksWithin k) R.1 all
 within_runs k (s ∷ steps) es w u R K all = within_runs k steps R.1 R.0 u R.4 (keeps_step k s w R.0 R.2 K) (within_step k s w R.0 R.2 K all)
 
-pub marks_within : (k : Shape) (steps : List (Step Event)) (es : Transcript Event) (u : World Event) → IsShape k → Runs k steps es (new_world k) u → MarksWithin k u
+pub marks_within : (k : Shape) (steps : List (Step Event)) (es : Transcript Event) (u : World Event) → IsShape k
+    → Runs k steps es (new_world k) u → MarksWithin k u
 marks_within k steps es u shape R =
     within_runs k steps es (new_world k) u R (kept_new_world Event k shape) (λ h r at i x there.
     absurd (some-ne-none x (sym there ∙ ap (λ (q : ReceiverRecord Event). get_elem? q.marks i) (receiver_fresh 0 (handlers_of k) h r at))))

@@ -34,7 +34,9 @@ picked_from p f q s (t ∷ ts) are =
     let rest : filter_map f (filter q (range_with_len (s + 1) (length ts))) ≡ shown_in (own_from (suc s) p ts) =
     ap (λ (z : ℕ). filter_map f (filter q (range_with_len z (length ts)))) (sym one) ∙ next in
     elim (cases_Bool (t.owner == p)) [
-      | inl y ↦ rw (test, y) (ap (λ (o : Option Event). cons_option o (filter_map f (filter q (range_with_len (s + 1) (length ts))))) value ∙ ap (λ (l : List Event). shown t ∷ l) rest)
+      | inl y ↦ rw (test, y)
+          (ap (λ (o : Option Event). cons_option o (filter_map f (filter q (range_with_len (s + 1) (length ts))))) value
+          ∙ ap (λ (l : List Event). shown t ∷ l) rest)
       | inr n ↦ rw (test, n) rest
     ]
 

@@ -14,8 +14,9 @@ use Rattle.dr_plain_senders.specs.declared.record.Stage.{Stage}
 use Rattle.dr_plain_senders.specs.declared.record.Own.{Own}
 use Rattle.dr_plain_senders.specs.declared.record.SenderRecord.{SenderRecord}
 use Rattle.dr_plain_senders.specs.declared.record.Step.{Step}
-use Rattle.dr_plain_senders.specs.declared.record.Step.TheVariants.{SenderLooksAtClaims, SenderLooksAtCount, SenderClaims, SenderPublishes, SenderLooksAtMark, SenderHalts}
-use Rattle.dr_plain_senders.specs.declared.record.Step.TheVariants.{ReceiverLooksAtClaims, ReceiverLooksAtMark, ReceiverLooksAtCount, ReceiverCompletes, HalterHalts}
+use Rattle.dr_plain_senders.specs.declared.record.Step.TheVariants.{SenderLooksAtClaims, SenderLooksAtCount, SenderClaims, SenderPublishes}
+use Rattle.dr_plain_senders.specs.declared.record.Step.TheVariants.{SenderLooksAtMark, SenderHalts, ReceiverLooksAtClaims, ReceiverLooksAtMark}
+use Rattle.dr_plain_senders.specs.declared.record.Step.TheVariants.{ReceiverLooksAtCount, ReceiverCompletes, HalterHalts}
 use Rattle.dr_plain_senders.specs.Meaning.Records.{fresh_stage, fresh_own, published, own_after, brought, sender_looked, mark_found, claimed_from}
 use Rattle.dr_plain_senders.specs.Meaning.Rule.{World, KeepsRule}
 use Rattle.dr_plain_senders.specs.Meaning.Steps.{Happens, sender_knows, sender_claims}
@@ -76,7 +77,8 @@ brings_first s p ts x further mine still =
     let rest = sym (untouched (suc s) (s + 0) p ts further (omega arith)) in
     rw (eq-eqb (further x).owner p still, eq-eqb x.owner p mine) (λ i. here i ∷ rest i)
 
-own_brings : (s p i : ℕ) (ts : List (Stage Event)) (t : Stage Event) (further : Stage Event → Stage Event) → get_elem? ts i ≡ some t → t.owner ≡ p → (further t).owner ≡ p
+own_brings : (s p i : ℕ) (ts : List (Stage Event)) (t : Stage Event) (further : Stage Event → Stage Event)
+    → get_elem? ts i ≡ some t → t.owner ≡ p → (further t).owner ≡ p
     → own_from s p (set ts i (further t)) ≡ map (own_after (s + i) further) (own_from s p ts)
 own_brings s p i [] t further at mine still = absurd (some-ne-none t (sym at))
 own_brings s p zero (x ∷ ts) t further at mine still =
@@ -93,7 +95,8 @@ own_brings s p (suc i) (x ∷ ts) t further at mine still =
     ]
 
 -- another sender's is
-own_else : (s p i : ℕ) (ts : List (Stage Event)) (t t' : Stage Event) → get_elem? ts i ≡ some t → t.owner ≢ p → t'.owner ≢ p → own_from s p (set ts i t') ≡ own_from s p ts
+own_else : (s p i : ℕ) (ts : List (Stage Event)) (t t' : Stage Event) → get_elem? ts i ≡ some t → t.owner ≢ p → t'.owner ≢ p
+    → own_from s p (set ts i t') ≡ own_from s p ts
 own_else s p i [] t t' at other still = absurd (some-ne-none t (sym at))
 own_else s p zero (x ∷ ts) t t' at other still =
     let same : x ≡ t = some-injective x t at in
@@ -114,7 +117,8 @@ AreOwn w = (p : ℕ) (r : SenderRecord Event) → get_elem? w.senders p ≡ some
 knows : (w : World Event) (p : ℕ) (r r' : SenderRecord Event) → get_elem? w.senders p ≡ some r → r'.own ≡ r.own → AreOwn w → AreOwn (sender_knows w p r')
 knows w p r r' at same own = each_set (λ q x. x.own ≡ own_from 0 q w.stages) w.senders p r' (same ∙ own p r at) (λ q x ne there. own q x there)
 
-claims : (k : Shape) (w : World Event) (p c n : ℕ) (r : SenderRecord Event) → get_elem? w.senders p ≡ some r → KeepsRule k w → c + n ≤ k.limit → word_at w.words claim_word ≡ c → AreOwn w
+claims : (k : Shape) (w : World Event) (p c n : ℕ) (r : SenderRecord Event) → get_elem? w.senders p ≡ some r → KeepsRule k w
+    → c + n ≤ k.limit → word_at w.words claim_word ≡ c → AreOwn w
     → AreOwn (sender_claims w p r c n)
 claims k w p c n r at K limit here own =
     let small = K.shape.small in
@@ -124,13 +128,18 @@ claims k w p c n r at K limit here own =
     let number = (K.sent p r at).number in
     let more = own_append 0 p w.stages (replicate n (fresh_stage p)) in
     let mine : own_from 0 p (w.stages ++ replicate n (fresh_stage p)) ≡ own_from 0 p w.stages ++ fresh_own p c n =
-    more ∙ ap (λ (l : List (Own Event)). own_from 0 p w.stages ++ l) (own_fresh (0 + length w.stages) p n) ∙ ap (λ (s : ℕ). own_from 0 p w.stages ++ fresh_own p s n) first in
+    more ∙ ap (λ (l : List (Own Event)). own_from 0 p w.stages ++ l) (own_fresh (0 + length w.stages) p n)
+    ∙ ap (λ (s : ℕ). own_from 0 p w.stages ++ fresh_own p s n) first in
     let new : r.own ++ fresh_own r.number c n ≡ own_from 0 p (w.stages ++ replicate n (fresh_stage p)) =
     ap (λ (l : List (Own Event)). l ++ fresh_own r.number c n) (own p r at) ∙ ap (λ (q : ℕ). own_from 0 p w.stages ++ fresh_own q c n) number ∙ sym mine in
     each_set (λ q x. x.own ≡ own_from 0 q (w.stages ++ replicate n (fresh_stage p))) w.senders p (claimed_from r c n) new
-    (λ q x ne there. own q x there ∙ sym (own_append 0 q w.stages (replicate n (fresh_stage p)) ∙ ap (λ (l : List (Own Event)). own_from 0 q w.stages ++ l) (own_others (0 + length w.stages) q p n (λ e. ne (sym e))) ∙ append-nil (own_from 0 q w.stages)))
+    (λ q x ne there.
+    own q x there ∙ sym (own_append 0 q w.stages (replicate n (fresh_stage p))
+    ∙ ap (λ (l : List (Own Event)). own_from 0 q w.stages ++ l) (own_others (0 + length w.stages) q p n (λ e. ne (sym e)))
+    ∙ append-nil (own_from 0 q w.stages)))
 
-claims_or_looks : (k : Shape) (w : World Event) (p c n : ℕ) (r : SenderRecord Event) → get_elem? w.senders p ≡ some r → KeepsRule k w → c + n ≤ k.limit → AreOwn w
+claims_or_looks : (k : Shape) (w : World Event) (p c n : ℕ) (r : SenderRecord Event) → get_elem? w.senders p ≡ some r → KeepsRule k w → c + n ≤ k.limit
+    → AreOwn w
     → AreOwn (if word_at w.words claim_word == c then sender_claims w p r c n else sender_knows w p (sender_looked r claim_word (word_at w.words claim_word)))
 claims_or_looks k w p c n r at K limit own =
     let P : Bool → Type 0 = λ b. AreOwn (if b then sender_claims w p r c n else sender_knows w p (sender_looked r claim_word (word_at w.words claim_word))) in
@@ -140,7 +149,8 @@ claims_or_looks k w p c n r at K limit own =
     ]
 
 -- a sender brings one of its sequences further
-brings : (w : World Event) (words : List ℕ) (p s : ℕ) (r : SenderRecord Event) (t : Stage Event) (further : Stage Event → Stage Event) → get_elem? w.senders p ≡ some r → get_elem? w.stages s ≡ some t → t.owner ≡ p
+brings : (w : World Event) (words : List ℕ) (p s : ℕ) (r : SenderRecord Event) (t : Stage Event) (further : Stage Event → Stage Event)
+    → get_elem? w.senders p ≡ some r → get_elem? w.stages s ≡ some t → t.owner ≡ p
     → (further t).owner ≡ p → AreOwn w → AreOwn (record w { words = words; stages = set w.stages s (further t); senders = set w.senders p (brought r s further) })
 brings w words p s r t further at there mine still own =
     let z : 0 + s ≡ s = omega arith in

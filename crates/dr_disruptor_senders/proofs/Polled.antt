@@ -1,6 +1,6 @@
 -- What a worker's polls handed out, by the answers of a receiver.
-use Rattle.std.proofs.Common.{◌≡◌, ◌≢◌, ◌≤◌, ◌<◌, ◌+◌, ◌-◌, ℕ, Bool, List, [], ◌∷◌, ◌++◌, length, take, All, Ok, Err, inl, inr, refl, sym, ap, ◌∙◌, subst, arith}
-use Rattle.std.proofs.Common.{append_assoc, length-append}
+use Rattle.std.proofs.Common.{◌≡◌, ◌≢◌, ◌≤◌, ◌<◌, ◌+◌, ◌-◌, ℕ, Bool, List, [], ◌∷◌, ◌++◌, length, take, All, Ok, Err, inl, inr}
+use Rattle.std.proofs.Common.{refl, sym, ap, ◌∙◌, subst, arith, append_assoc, length-append}
 use Rattle.std.specs.Prelude.{Contains, slice_index}
 use Rattle.std.proofs.Math.Seq.{get_or-append_seam}
 use Rattle.std.proofs.lemmas.Bool.{cases_lt}
@@ -66,7 +66,8 @@ saw_claimed k w h r at K all =
     }
 
 -- so did it before it looked on
-before_it : (n : ℕ) (k : Shape) (ups : List ℕ) (r r' : ReceiverRecord Event) (marks looks : List Look) → r'.marks ≡ r.marks ++ marks → r'.looks ≡ r.looks ++ looks
+before_it : (n : ℕ) (k : Shape) (ups : List ℕ) (r r' : ReceiverRecord Event) (marks looks : List Look)
+    → r'.marks ≡ r.marks ++ marks → r'.looks ≡ r.looks ++ looks
     → SawAtMost n k ups r' → SawAtMost n k ups r
 before_it n k ups r r' marks looks marked grew saw = record {
   marks = λ before after x is.
@@ -95,7 +96,8 @@ looked a b seen lents place is = record {
 
 looked_only : (a b : ReceiverEnd Event) (seen : PollLooks) → receiver_place b ≡ receiver_place a → b.knows ≡ looked_round a.plan a.knows seen → LookedOn a b
 looked_only a b seen place is =
-    looked a b seen [] place (is ∙ ap (λ (l : List (Lent Event)). record (looked_round a.plan a.knows seen) { received = l }) (sym (append-nil a.knows.received)))
+    looked a b seen [] place
+    (is ∙ ap (λ (l : List (Lent Event)). record (looked_round a.plan a.knows seen) { received = l }) (sym (append-nil a.knows.received)))
 
 same_on : (a b : ReceiverEnd Event) → receiver_place b ≡ receiver_place a → b.knows.marks ≡ a.knows.marks → b.knows.looks ≡ a.knows.looks → LookedOn a b
 same_on a b place marks looks = record {
@@ -178,7 +180,8 @@ by_marks upto [] (c ∷ counts) many none = absurd (omega arith)
 by_marks upto (u ∷ ups) counts many none = absurd (let all = ap length none in omega arith)
 
 offer_within : (n room : ℕ) (k : Shape) (old r : ReceiverRecord Event) (seen : PollLooks) → LooksInOrder k old room seen
-    → r.marks ≡ old.marks ++ mark_looks k (length old.received) seen.marks → r.looks ≡ old.looks ++ look claim_word seen.claims ∷ count_looks (ups_of k old) seen.counts
+    → r.marks ≡ old.marks ++ mark_looks k (length old.received) seen.marks
+    → r.looks ≡ old.looks ++ look claim_word seen.claims ∷ count_looks (ups_of k old) seen.counts
     → length old.received < offer seen → SawAtMost n k (ups_of k old) r → offer seen ≤ n
 offer_within n room k old r seen order marked grew further saw =
     offered n k seen.claims seen.upto r old.looks (ups_of k old) seen.counts order.each grew

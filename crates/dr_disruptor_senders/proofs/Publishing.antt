@@ -27,9 +27,10 @@ use Rattle.dr_plain_senders.specs.Calls.Publishing.{LendsWritten, PublishCall, i
 use Rattle.dr_plain_senders.specs.Calls.Sending.{SenderClaimCall}
 use Rattle.dr_plain_senders.specs.Calls.Writing.{WriteCall, written_where}
 use Rattle.dr_plain_senders.proofs.Places.{one_value}
-use Rattle.dr_disruptor_senders.proofs.Lines.{AreLent, AreStretches, Line, LinesOut, after_both, after_calls, fresh_lines, line_written, lines, lines_more, lines_out}
-use Rattle.dr_disruptor_senders.proofs.Lines.{lines_published, lines_written, many_fresh, many_published, many_where, none_begun, numbers, numbers_of_lines, outs}
-use Rattle.dr_disruptor_senders.proofs.Lines.{events_of_lines, parts_sent, same_sequences, stretches_both, writes_none}
+use Rattle.dr_disruptor_senders.proofs.Lines.{AreLent, AreStretches, Line, LinesOut, after_both, after_calls, fresh_lines, line_written, lines}
+use Rattle.dr_disruptor_senders.proofs.Lines.{lines_more, lines_out, lines_published, lines_written, many_fresh, many_published, many_where}
+use Rattle.dr_disruptor_senders.proofs.Lines.{events_of_lines, none_begun, numbers, numbers_of_lines, outs, parts_sent, same_sequences}
+use Rattle.dr_disruptor_senders.proofs.Lines.{stretches_both, writes_none}
 use Rattle.dr_disruptor_senders.proofs.Rising.{Rise, one_place, rise_front, sequences}
 use Rattle.dr_disruptor_senders.proofs.Shown.{AreOut, events_in}
 
@@ -106,11 +107,13 @@ writes_one a b s event is whole =
       (λ i. lines (own i) (is.writes i)) ∙ lines_written a.knows.own a.writes s event,
     )
 
-write_refused : (a b : SenderEnd Event) (s : ℕ) (event : Event) (trouble : Trouble) → IsEndsAnswer {A = Unit {0}} (WriteCall a s event b) (Err trouble) → IsSame a b
+write_refused : (a b : SenderEnd Event) (s : ℕ) (event : Event) (trouble : Trouble)
+    → IsEndsAnswer {A = Unit {0}} (WriteCall a s event b) (Err trouble) → IsSame a b
 write_refused a b s event Memory is = absurd is
 write_refused a b s event (Refused r) is = (ap (λ (r : SenderRecord Event). r.own) is.knows, is.writes)
 
-writes_all : (a b : SenderEnd Event) (lo : ℕ) (events : List Event) (count : ℕ) (trouble : Option Trouble) → WriteAllCall a lo events b count trouble → IsWhole a
+writes_all : (a b : SenderEnd Event) (lo : ℕ) (events : List Event) (count : ℕ) (trouble : Option Trouble)
+    → WriteAllCall a lo events b count trouble → IsWhole a
     → Leads a b (each_written lo (take count events))
 writes_all a b lo [] count trouble is whole =
     subst (λ (n : ℕ). Leads a b (each_written lo (take n []))) (sym is.1)
@@ -181,7 +184,8 @@ all_written a b lo (event ∷ events) count trouble is = elim is [
 grows : (a b : SenderEnd Event) (call : InletCall Event) → sender_does a call b → Grows a b
 grows a b (TriesClaim n (Ok c)) is =
     let p = a.knows.number in
-    (sequences (fresh_own p c.lo n), ap (λ (r : SenderRecord Event). sequences r.own) is.0.knows ∙ map-append (λ (o : Own Event). o.sequence) a.knows.own (fresh_own p c.lo n))
+    let own = ap (λ (r : SenderRecord Event). sequences r.own) is.0.knows in
+    (sequences (fresh_own p c.lo n), own ∙ map-append (λ (o : Own Event). o.sequence) a.knows.own (fresh_own p c.lo n))
 grows a b (TriesClaim n (Err Memory)) is = absurd is
 grows a b (TriesClaim n (Err (Refused r))) is = no_more a b (claim_refused a b n r is).0
 grows a b (WritesOne s event (Ok done)) is = no_more a b (ap (λ (r : SenderRecord Event). r.own) is.knows)
@@ -196,7 +200,8 @@ grows a b (PublishesStretch lo hi (Err (Refused r))) is = no_more a b (publish_r
 rise_back : (a b : SenderEnd Event) → Grows a b → Rise (sequences b.knows.own) → Rise (sequences a.knows.own)
 rise_back a b grown rises = rise_front (sequences a.knows.own) grown.0 (subst Rise grown.1 rises)
 
-all_rise : (a b : SenderEnd Event) (calls : List (InletCall Event)) → CallsLead sender_does a calls b → Rise (sequences b.knows.own) → Rise (sequences a.knows.own)
+all_rise : (a b : SenderEnd Event) (calls : List (InletCall Event)) → CallsLead sender_does a calls b → Rise (sequences b.knows.own)
+    → Rise (sequences a.knows.own)
 all_rise a b [] lead rises = subst (λ (e : SenderEnd Event). Rise (sequences e.knows.own)) lead rises
 all_rise a b (call ∷ calls) (between, is, lead) rises = rise_back a between (grows a between call is) (all_rise between b calls lead rises)
 
@@ -221,7 +226,8 @@ stretch a b (PublishesStretch lo hi (Err trouble)) is = tt
 
 stretches : (a b : SenderEnd Event) (calls : List (InletCall Event)) → CallsLead sender_does a calls b → AreStretches (accepted_in calls)
 stretches a b [] lead = tt
-stretches a b (call ∷ calls) (between, is, lead) = stretches_both (accepted_of call) (accepted_in calls) (stretch a between call is) (stretches between b calls lead)
+stretches a b (call ∷ calls) (between, is, lead) =
+    stretches_both (accepted_of call) (accepted_in calls) (stretch a between call is) (stretches between b calls lead)
 
 -- A sender that began with nothing, whose sequences are all published, published the first of its script, as many as its worker says.
 pub sent_in_order : (script : List Event) (sent : ℕ) (a b : SenderEnd Event) (calls : List (InletCall Event)) → CallsLead sender_does a calls b

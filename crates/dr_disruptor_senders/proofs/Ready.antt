@@ -36,8 +36,8 @@ abbrev pub StayAtPlace : (ℕ → SenderEnd Event → Sent → Type 0) → Type 
 StayAtPlace sends = (p : ℕ) (given : SenderEnd Event) (back : Sent) → sends p given back → sender_place back.sender ≡ sender_place given
 
 -- what senders' workers gave back are all senders of the ring again
-pub senders_back : (sends : ℕ → SenderEnd Event → Sent → Type 0) (ss : List (SenderEnd Event)) (rs : List (ReceiverEnd Event)) (t : HalterStand Event) (sent : List Sent) → StayAtPlace sends
-    → AreSent sends ss sent → AreAllEnds ss rs t → AreAllEnds (map (λ b. b.sender) sent) rs t
+pub senders_back : (sends : ℕ → SenderEnd Event → Sent → Type 0) (ss : List (SenderEnd Event)) (rs : List (ReceiverEnd Event)) (t : HalterStand Event)
+    (sent : List Sent) → StayAtPlace sends → AreSent sends ss sent → AreAllEnds ss rs t → AreAllEnds (map (λ b. b.sender) sent) rs t
 senders_back sends ss rs t sent stay are all = record {
   senders = length-map sent (λ b. b.sender) ∙ are.many ∙ all.senders;
   receivers = all.receivers;
@@ -52,8 +52,8 @@ senders_back sends ss rs t sent stay are all = record {
 }
 
 -- so are what handlers' workers gave back
-pub receivers_back : {A : Type 0} (goes : Relation Event A) (ss : List (SenderEnd Event)) (t : HalterStand Event) (ws : List (Worker A)) (served : List (Served A)) → AreKept goes ws served
-    → AreAllEnds ss (map given_end ws) t → AreAllEnds ss (map (λ (b : Served A). b.outlet) served) t
+pub receivers_back : {A : Type 0} (goes : Relation Event A) (ss : List (SenderEnd Event)) (t : HalterStand Event) (ws : List (Worker A))
+    (served : List (Served A)) → AreKept goes ws served → AreAllEnds ss (map given_end ws) t → AreAllEnds ss (map (λ (b : Served A). b.outlet) served) t
 receivers_back goes ss t ws served kept all = record {
   senders = all.senders;
   receivers = many_back receiver_place receiver_does (λ e. Some (received_by e)) is_told goes ws served kept ∙ all.receivers;
@@ -64,7 +64,8 @@ receivers_back goes ss t ws served kept all = record {
 }
 
 -- a halted ring's ends are those that they were
-pub halted_back : (ss : List (SenderEnd Event)) (rs : List (ReceiverEnd Event)) (t t' : HalterStand Event) → HaltsOnly t t' → AreAllEnds ss rs t → AreAllEnds ss rs t'
+pub halted_back : (ss : List (SenderEnd Event)) (rs : List (ReceiverEnd Event)) (t t' : HalterStand Event) → HaltsOnly t t'
+    → AreAllEnds ss rs t → AreAllEnds ss rs t'
 halted_back ss rs t t' halts all =
     let ring = sym halts.1.0.0 in
     let plan = sym halts.1.0.1 in
@@ -76,7 +77,8 @@ halted_back ss rs t t' halts all =
     }
 
 -- the run of ends is that of the same ends
-pub same_run : (ss ss' : List (SenderEnd Event)) (rs rs' : List (ReceiverEnd Event)) (t t' : HalterStand Event) (n : ℕ) (on : Bool) → ss ≡ ss' → rs ≡ rs' → t ≡ t' → HasRun ss rs t n on → HasRun ss' rs' t' n on
+pub same_run : (ss ss' : List (SenderEnd Event)) (rs rs' : List (ReceiverEnd Event)) (t t' : HalterStand Event) (n : ℕ) (on : Bool)
+    → ss ≡ ss' → rs ≡ rs' → t ≡ t' → HasRun ss rs t n on → HasRun ss' rs' t' n on
 same_run ss ss' rs rs' t t' n on one each other run =
     subst (λ (e : HalterStand Event). HasRun ss' rs' e n on) other
     (subst (λ (l : List (ReceiverEnd Event)). HasRun ss' l t n on) each (subst (λ (l : List (SenderEnd Event)). HasRun l rs t n on) one run))
@@ -94,19 +96,22 @@ pub then_ok : {V E : Type 0} (P Q : V → Type 0) (r : Result V E) → IfOk r P 
 then_ok P Q (Ok v) is then_is = then_is v is
 then_ok P Q (Err e) is then_is = tt
 
-pub joins_ok : {A V H Q : Type 0} (goes : Relation Event A) (ws : List (Worker A)) (items : V → List Sent) (P : V → Type 0) (r : Result V AllocError) (t : HalterStand Event) (ran : Ran A)
-    → JoinsAll goes ws items r t ran → IfOk r P → OnOk r H → ((v : V) → P v → H → IsJoined goes ws (items v) t ran → Q) → Q
+pub joins_ok : {A V H Q : Type 0} (goes : Relation Event A) (ws : List (Worker A)) (items : V → List Sent) (P : V → Type 0) (r : Result V AllocError)
+    (t : HalterStand Event) (ran : Ran A) → JoinsAll goes ws items r t ran → IfOk r P → OnOk r H
+    → ((v : V) → P v → H → IsJoined goes ws (items v) t ran → Q) → Q
 joins_ok goes ws items P (Ok v) t ran joined is has then_is = then_is v is has joined
 joins_ok goes ws items P (Err e) t ran joined is has then_is = absurd joined
 
 -- what a sender's worker did, of the end that it was given
-pub worker_sends : (size cut : ℕ) (script events : List Event) (given from back to : SenderEnd Event) (produced : Produced) → from ≡ given → to ≡ back → events ≡ script → cut ≡ max (size / 4) 1
+pub worker_sends : (size cut : ℕ) (script events : List Event) (given from back to : SenderEnd Event) (produced : Produced)
+    → from ≡ given → to ≡ back → events ≡ script → cut ≡ max (size / 4) 1
     → sender_place back ≡ sender_place from → SomeCalls sender_does from back (worker.Sends cut events (λ passage. ⊥) (λ passage. ⊥) produced) → produced.sent ≤ length events
     → IfNone produced.fault (produced.sent ≡ length events) → produced.fault ≢ Some Stopped → Sending size script given (record { sender = to; fault = produced.fault })
 worker_sends size cut script events given from back to produced one other same is place calls within all stopped = record {
   sent = produced.sent;
   place = ap sender_place other ∙ place ∙ ap sender_place one;
-  calls = subst (λ (e : SenderEnd Event). SomeCalls sender_does given e (worker.Sends (max (size / 4) 1) script (λ passage. ⊥) (λ passage. ⊥) produced)) (sym other)
+  calls = subst (λ (e : SenderEnd Event). SomeCalls sender_does given e (worker.Sends (max (size / 4) 1) script (λ passage. ⊥) (λ passage. ⊥) produced))
+      (sym other)
       (subst (λ (e : SenderEnd Event). SomeCalls sender_does e back (worker.Sends (max (size / 4) 1) script (λ passage. ⊥) (λ passage. ⊥) produced)) one
       (subst (λ (n : ℕ). SomeCalls sender_does from back (worker.Sends n script (λ passage. ⊥) (λ passage. ⊥) produced)) is
       (subst (λ (l : List Event). SomeCalls sender_does from back (worker.Sends cut l (λ passage. ⊥) (λ passage. ⊥) produced)) same calls)));
@@ -118,7 +123,8 @@ worker_sends size cut script events given from back to produced one other same i
 -- Of the senders' threads.
 
 -- each script was sent by the sender at its place
-pub scripts_sent : (size : ℕ) (ws : List Producer) (scripts : List (Vec Event)) (ss : List (SenderEnd Event)) (sent : List Sent) → map given_sender ws ≡ ss → map given_script ws ≡ scripts
+pub scripts_sent : (size : ℕ) (ws : List Producer) (scripts : List (Vec Event)) (ss : List (SenderEnd Event)) (sent : List Sent)
+    → map given_sender ws ≡ ss → map given_script ws ≡ scripts
     → All (λ w. given_size w ≡ size) ws → AreGiven (λ (p : SendsPromise) (r : Sent). Sending p.size p.script.value.items p.end.value r) ws sent
     → AreSent (SendsScript size (map (λ s. s.items) scripts)) ss sent
 scripts_sent size ws scripts ss sent ends given sizes are = record {
@@ -164,7 +170,8 @@ module _ {F : Type 0} (gives : F → SenderEnd Event → Option WorkFault → Se
 -- Of a run.
 
 -- what was handed back for each sender goes with what handlers' workers were given
-pub ready : {A : Type 0} (sends : ℕ → SenderEnd Event → Sent → Type 0) (r : Result (Vec Sent) AllocError) (ss : List (SenderEnd Event)) (rs : List (ReceiverEnd Event)) (ws : List (Worker A)) (made begun after : HalterStand Event)
+pub ready : {A : Type 0} (sends : ℕ → SenderEnd Event → Sent → Type 0) (r : Result (Vec Sent) AllocError) (ss : List (SenderEnd Event))
+    (rs : List (ReceiverEnd Event)) (ws : List (Worker A)) (made begun after : HalterStand Event)
     → StayAtPlace sends → IfOk r (λ v. AreSent sends ss v.items) → OnOk r (after ≡ begun) → begun ≡ made → map given_end ws ≡ rs → AreAllEnds ss rs made
     → IfOk r (λ v. AreAllEnds (map (λ b. b.sender) v.items) (map given_end ws) after)
 ready sends r ss rs ws made begun after stay are still was ends all =

@@ -43,7 +43,7 @@ use Rattle.dr_threads.specs.Handlers.{AllWentThroughMerge, IsPolled}
 use Rattle.dr_threads.specs.Serving.{endings_from, given_end, given_handler}
 use Rattle.dr_threads.proofs.Settled as threads
 use Rattle.dr_disruptor_senders.specs.declared.sending.Sent.{Sent}
-use Rattle.dr_disruptor_senders.specs.Running.{IsJoined, IsRan, IsRanBy, JoinsAll, PublishesScript, Ran, events_of, new_receiver, new_sender}
+use Rattle.dr_disruptor_senders.specs.Running.{IsJoined, IsRanOver, JoinsAll, PublishesScript, Ran, events_of, new_receiver, new_sender}
 use Rattle.dr_disruptor_senders.specs.Serving.{AreSent, HaltsOnly, SendsFeed, SendsScript, Served, Worker, is_told, received_by, sender_endings}
 use Rattle.dr_disruptor_senders.proofs.Marks.{MarksWithin, marks_within}
 use Rattle.dr_disruptor_senders.proofs.Merged.{merged}
@@ -105,7 +105,8 @@ abbrev pub Tells : Shape → (ℕ → SenderEnd Event → Sent → Type 0) → (
 Tells k sends more = (ring : TableId) (p : ℕ) (back : Sent) → sends p (new_sender ring k p) back
     → Rise (sequences back.sender.knows.own) → AreOut back.sender.knows.own → more p (new_sender ring k p) back
 
-module _ {A : Type 0} (goes : Relation Event A) (k : Shape) (sends more : ℕ → SenderEnd Event → Sent → Type 0) (tells : Tells k sends more) (starts : List A) (ran : Ran A)
+module _ {A : Type 0} (goes : Relation Event A) (k : Shape) (sends more : ℕ → SenderEnd Event → Sent → Type 0) (tells : Tells k sends more)
+    (starts : List A) (ran : Ran A)
     (ss : List (SenderEnd Event)) (rs : List (ReceiverEnd Event)) (t : HalterStand Event) (ws : List (Worker A)) (sent : List Sent)
     (shape : IsShape k) (fresh : AreFreshEnds k ss rs t) (ends : map given_end ws ≡ rs) (begun : map given_handler ws ≡ starts)
     (are : AreSent sends ss sent) (joined : IsJoined goes ws sent t ran) where
@@ -155,9 +156,12 @@ module _ {A : Type 0} (goes : Relation Event A) (k : Shape) (sends more : ℕ �
       let many = many_senders in
       let b = there sent p (omega arith) in
       let (e, at_given, sending) = are.each p b.0 b.1 in
-      let from = lists.at_map (sender_at t.ring k) (fresh_senders 0 k.senders) p e (ap (λ (l : List (SenderEnd Event)). get_elem? l p) (sym fresh.senders) ∙ at_given) in
+      let at_new = ap (λ (l : List (SenderEnd Event)). get_elem? l p) (sym fresh.senders) ∙ at_given in
+      let from = lists.at_map (sender_at t.ring k) (fresh_senders 0 k.senders) p e at_new in
       let z : 0 + p ≡ p = omega arith in
-      let new : e ≡ new_sender ring k p = sym from.2 ∙ ap (sender_at t.ring k) (sender_fresh 0 k.senders p from.0 from.1 ∙ ap fresh_sender z) ∙ ap (λ (r : TableId). new_sender r k p) same_ring in
+      let new : e ≡ new_sender ring k p =
+      sym from.2 ∙ ap (sender_at t.ring k) (sender_fresh 0 k.senders p from.0 from.1 ∙ ap fresh_sender z)
+      ∙ ap (λ (r : TableId). new_sender r k p) same_ring in
       record {
         back = b.0;
         at_back = b.1;
@@ -174,7 +178,8 @@ module _ {A : Type 0} (goes : Relation Event A) (k : Shape) (sends more : ℕ �
       let at_given = ap (λ (l : List (ReceiverEnd Event)). get_elem? l h) (sym (ends ∙ fresh.receivers)) ∙ at in
       let from = lists.at_map (receiver_at t.ring k) (fresh_receivers 0 (handlers_of k)) h e at_given in
       let z : 0 + h ≡ h = omega arith in
-      sym from.2 ∙ ap (receiver_at t.ring k) (receiver_fresh 0 (handlers_of k) h from.0 from.1 ∙ ap fresh_receiver z) ∙ ap (λ (r : TableId). new_receiver r k h) same_ring
+      sym from.2 ∙ ap (receiver_at t.ring k) (receiver_fresh 0 (handlers_of k) h from.0 from.1 ∙ ap fresh_receiver z)
+      ∙ ap (λ (r : TableId). new_receiver r k h) same_ring
 
   abbrev Place : ℕ → Type 0
   Place h = threads.Place receiver_place receiver_does received_by is_told goes (new_receiver ring k) starts served h
@@ -249,18 +254,20 @@ module _ {A : Type 0} (goes : Relation Event A) (k : Shape) (sends more : ℕ �
       (λ s u at.
       let owner = settles.claimed s u at in
       let low = at_below w.senders u.owner owner.0 owner.1 in
-      let many = ap length joined.run.senders ∙ length-map (map (λ s. s.sender) sent) (λ (e : SenderEnd Event). e.knows) ∙ length-map sent (λ s. s.sender) in omega arith)
+      let placed_too = ap length joined.run.senders ∙ length-map (map (λ s. s.sender) sent) (λ (e : SenderEnd Event). e.knows) in
+      let many = placed_too ∙ length-map sent (λ s. s.sender) in omega arith)
       (λ p inside.
       let x = sender_place p (omega arith) in
       value_at lists p (events_of x.back.sender) [] (map_there (λ (s : Sent). events_of s.sender) sent p x.back x.at_back)
       ∙ all_shown x.back.sender.knows.own (out p x) ∙ ap shown_in (own_by p x))
 
-  pub is_ran : IsRanBy more goes k starts ran
+  pub is_ran : IsRanOver more goes k starts ran
   is_ran = record {
     senders = sent;
     served = served;
     halter = joined.after;
-    halts = subst (λ (e : HalterStand Event). HaltsOnly e joined.after) (fresh.halter ∙ ap (λ (r : TableId). at_ring r k record { looks = [] }) same_ring) joined.halts;
+    halts = subst (λ (e : HalterStand Event). HaltsOnly e joined.after)
+        (fresh.halter ∙ ap (λ (r : TableId). at_ring r k record { looks = [] }) same_ring) joined.halts;
     run = joined.run;
     many = many_senders;
     sending = λ p inside. let x = sender_place p inside in (x.back, x.at_back, tells ring p x.back x.sending (rises p x) (out p x), out p x);
@@ -268,16 +275,19 @@ module _ {A : Type 0} (goes : Relation Event A) (k : Shape) (sends more : ℕ �
     order = sym in_order;
     merge = merge;
     handlers = threads.are_served receiver_place receiver_does received_by is_told goes (new_receiver ring k) starts events
-        served ran.handlers.items ran.settled.handlers.items ran.endings.items (sender_endings 16 sent) many_served place took all_polled joined.handlers (joined.counts ∙ same_counts (map (λ s. s.outlet) served)) joined.endings;
+        served ran.handlers.items ran.settled.handlers.items ran.endings.items (sender_endings 16 sent) many_served place took all_polled joined.handlers
+        (joined.counts ∙ same_counts (map (λ s. s.outlet) served)) joined.endings;
     claimed = joined.run.came.claims ∙ sym (length-map w.stages shown);
     endings = joined.endings;
   }
 
 -- so it is of what is joined, where all senders' workers gave something back
-pub came : {A : Type 0} (goes : Relation Event A) (k : Shape) (sends more : ℕ → SenderEnd Event → Sent → Type 0) (starts : List A) (ran : Ran A) (r : Result (Vec Sent) AllocError)
-    (ss : List (SenderEnd Event)) (rs : List (ReceiverEnd Event)) (made begun after : HalterStand Event) (ws : List (Worker A)) → Tells k sends more → IsShape k → AreFreshEnds k ss rs made → begun ≡ made
+pub came : {A : Type 0} (goes : Relation Event A) (k : Shape) (sends more : ℕ → SenderEnd Event → Sent → Type 0) (starts : List A) (ran : Ran A)
+    (r : Result (Vec Sent) AllocError)
+    (ss : List (SenderEnd Event)) (rs : List (ReceiverEnd Event)) (made begun after : HalterStand Event) (ws : List (Worker A))
+    → Tells k sends more → IsShape k → AreFreshEnds k ss rs made → begun ≡ made
     → map given_end ws ≡ rs → map given_handler ws ≡ starts → IfOk r (λ v. AreSent sends ss v.items) → OnOk r (after ≡ begun) → JoinsAll goes ws (λ v. v.items) r after ran
-    → IsRanBy more goes k starts ran
+    → IsRanOver more goes k starts ran
 came goes k sends more starts ran r ss rs made begun after ws tells shape fresh was ends given are still joins =
     joins_ok goes ws (λ (v : Vec Sent). v.items) (λ (v : Vec Sent). AreSent sends ss v.items) r after ran joins are still (λ v sent same joined.
     is_ran goes k sends more tells starts ran ss rs made ws v.items shape fresh ends given sent
@@ -294,11 +304,13 @@ tells_scripts k scripts = λ ring p back is rises out.
     )
 
 -- a closure's sender did what its contract says
-pub tells_feeds : {F : Type 0} (k : Shape) (gives : F → SenderEnd Event → Option WorkFault → SenderEnd Event → Type 0) (feeds : List F) → Tells k (SendsFeed gives feeds) (SendsFeed gives feeds)
+pub tells_feeds : {F : Type 0} (k : Shape) (gives : F → SenderEnd Event → Option WorkFault → SenderEnd Event → Type 0) (feeds : List F)
+    → Tells k (SendsFeed gives feeds) (SendsFeed gives feeds)
 tells_feeds k gives feeds = λ ring p back is rises out. is
 
 -- without a fault all scripts are sent
-pub went_whole : {A : Type 0} (goes : Relation Event A) (k : Shape) (scripts : List (List Event)) (starts : List A) (ran : Ran A) → k.senders ≡ length scripts → IsRan goes k scripts starts ran
+pub went_whole : {A : Type 0} (goes : Relation Event A) (k : Shape) (scripts : List (List Event)) (starts : List A) (ran : Ran A) → k.senders ≡ length scripts
+    → IsRanOver (PublishesScript k.size scripts) goes k starts ran
     → AreFine ran.endings.items → (events : List Event) × AllWentThroughMerge goes scripts starts ran.handlers.items events
 went_whole goes k scripts starts ran many is fine =
     let handlers = endings_from 0 is.served in

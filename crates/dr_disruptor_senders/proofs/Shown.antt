@@ -45,7 +45,8 @@ all_shown (o ∷ own) out =
     ap (λ (x : Option Event). cons_option x (events_in own)) (shows o.stage (out 0 o refl))
     ∙ ap (λ (l : List Event). shown o.stage ∷ l) (all_shown own (λ i x at. out (suc i) x at))
 
-lent_first : (o : Option (Lent Event)) (rest : List (Lent Event)) → is_some o ≡ true → events_of (cons_option o rest) ≡ unwrap_or (event_in o) no_event ∷ events_of rest
+lent_first : (o : Option (Lent Event)) (rest : List (Lent Event)) → is_some o ≡ true
+    → events_of (cons_option o rest) ≡ unwrap_or (event_in o) no_event ∷ events_of rest
 lent_first None rest out = absurd (false≢true out)
 lent_first (Some l) rest out = refl
 

@@ -36,7 +36,9 @@ completes a b upto (Refused r) low high is =
     ⊎_elim (λ no. false≢true no.0)
     (λ there. ⊎_elim (λ no. false≢true no.0)
     (λ left. ⊎_elim (λ behind. let less = ltb-true upto a.knows.completed behind.0 in absurd (omega arith))
-    (λ last. ⊎_elim (λ beyond. let more = ltb-true (length (received_of a.knows).events) upto beyond.0 in absurd (omega arith)) (λ more. more.1) last.1) left.1) there.1)
+    (λ last.
+    ⊎_elim (λ beyond. let more = ltb-true (length (received_of a.knows).events) upto beyond.0 in absurd (omega arith)) (λ more. more.1) last.1)
+    left.1) there.1)
     is.1.0
 
 completed : (a b : ReceiverEnd Event) (upto : ℕ) → receiver_does a (CompletesBelow upto (Ok tt)) b

@@ -4,6 +4,7 @@ use Rattle.std.specs.List.{filter_map}
 use Rattle.std.specs.declared.alloc.AllocError.{AllocError}
 use mathlib.Core.Option.{some}
 use lib.ListN.{get_elem?}
+use denote.RawPtr.{Ptr}
 use Rattle.atomic_table.specs.Seated.{TableId}
 use Rattle.dr_seq.specs.declared.event.Event.{Event}
 use Rattle.dr_meaning.specs.Calls.Handling.{Relation}
@@ -45,7 +46,8 @@ abbrev pub new_receiver : TableId → Shape → ℕ → ReceiverEnd Event
 new_receiver ring k h = receiver_at ring k (fresh_receiver h)
 
 -- what came of a new ring of this shape, where this is so of the place of each sender, of the sender, and of what the thread that sent by it gave back
-pub record IsRanBy {A : Type 0} (sends : ℕ → SenderEnd Event → Sent → Type 0) (goes : Relation Event A) (k : Shape) (starts : List A) (ran : Ran A) : Type 0 where
+pub record IsRanOver {A : Type 0} (sends : ℕ → SenderEnd Event → Sent → Type 0) (goes : Relation Event A) (k : Shape) (starts : List A)
+    (ran : Ran A) : Type 0 where
   -- what the threads gave back, and the halter, which halted the ring once
   pub senders : List Sent
   pub served : List (Served A)
@@ -72,12 +74,17 @@ abbrev pub PublishesScript : ℕ → List (List Event) → ℕ → SenderEnd Eve
 PublishesScript size scripts p given back =
     (script : List Event) × (get_elem? scripts p ≡ some script) × (sending : Sending size script given back) × (events_of back.sender ≡ take sending.sent script)
 
--- what came of scripts over a new ring of this shape, each sent by a worker of its own
-abbrev pub IsRan : {A : Type 0} → Relation Event A → Shape → List (List Event) → List A → Ran A → Type 0
-IsRan goes k scripts starts ran = IsRanBy (PublishesScript k.size scripts) goes k starts ran
+-- so it is of a new ring of this shape, whose events lie somewhere
+abbrev pub IsRanBy : {A : Type 0} → (ℕ → SenderEnd Event → Sent → Type 0) → Relation Event A → (Ptr → Shape) → List A → Ran A → Type 0
+IsRanBy sends goes shape starts ran = (strip : Ptr) × IsRanOver sends goes (shape strip) starts ran
+
+-- and what came of scripts, each sent by a worker of its own
+abbrev pub IsRan : {A : Type 0} → Relation Event A → (Ptr → Shape) → List (List Event) → List A → Ran A → Type 0
+IsRan goes shape scripts starts ran = (strip : Ptr) × IsRanOver (PublishesScript (shape strip).size scripts) goes (shape strip) starts ran
 
 -- what a run's handlers' workers gave back, once the ring was halted, and how all ends came together
-pub record IsJoined {A : Type 0} (goes : Relation Event A) (workers : List (Worker A)) (sent : List Sent) (halter : HalterStand Event) (ran : Ran A) : Type 0 where
+pub record IsJoined {A : Type 0} (goes : Relation Event A) (workers : List (Worker A)) (sent : List Sent) (halter : HalterStand Event)
+    (ran : Ran A) : Type 0 where
   pub served : List (Served A)
   pub kept : AreKept goes workers served
   pub after : HalterStand Event

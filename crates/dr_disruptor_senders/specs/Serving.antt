@@ -71,7 +71,8 @@ pub record Sending (size : ℕ) (script : List Event) (given : SenderEnd Event) 
 
 -- what a closure sends leaves the sender at its ring, with its number
 abbrev pub LeavesSender : (SenderEnd Event → Option WorkFault → SenderEnd Event → Type 0) → Type 0
-LeavesSender gives = (given : SenderEnd Event) (fault : Option WorkFault) (back : SenderEnd Event) → gives given fault back → sender_place back ≡ sender_place given
+LeavesSender gives =
+    (given : SenderEnd Event) (fault : Option WorkFault) (back : SenderEnd Event) → gives given fault back → sender_place back ≡ sender_place given
 
 -- The thread of a sender.
 

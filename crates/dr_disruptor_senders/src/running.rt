@@ -3,7 +3,6 @@
 ghost use Rattle.std.specs.Prelude.{◌≡◌, ◌≤◌, All, false, IfErr, IfOk, List, length, map};
 ghost use Rattle.std.specs.Fn.{FnOnceReturnsAtMut};
 ghost use Rattle.dr_seq.specs.declared.event.Event.{Event};
-ghost use denote.RawPtr.{Ptr};
 ghost use Rattle.dr_meaning.specs.declared.mode.Mode.TheVariants.{Multi};
 ghost use Rattle.dr_meaning.specs.Calls.OpenFault.{has_bad_producers};
 ghost use Rattle.dr_plain_senders.specs.Calls.Settling.{AreAllEnds};
@@ -83,7 +82,7 @@ pub fn run_scripts<
     // Where no worker has a fault, all handlers went through one list of events, a merge of the scripts.
     ensures whole { IfOk result (λ ran. AreFine ran.endings.items → (events : List Event) × AllWentThroughMerge H.goes (map (λ s. s.items) scripts.items) handlers.items ran.handlers.items events) }
     // It went over a new ring of this graph and size, and so it is of what was sent of the scripts, whatever the faults.
-    ensures run { IfOk result (λ ran. (strip : Ptr) × IsRan H.goes (shape_of graph.now.upstreams size (length scripts.items) strip) (map (λ s. s.items) scripts.items) handlers.items ran) }
+    ensures run { IfOk result (IsRan H.goes (shape_of graph.now.upstreams size (length scripts.items)) (map (λ s. s.items) scripts.items) handlers.items) }
     ensures many { IfOk result (λ _. length handlers.items ≡ length graph.now.upstreams) }
     ensures few { IfOk result (λ _. has_bad_producers (Multi (length scripts.items)) ≡ false) }
     ensures refused { IfErr result (λ e. e ≡ refusal_of (length graph.now.upstreams) (length handlers.items) (length scripts.items)) }
@@ -127,7 +126,7 @@ pub fn run_feeds<
     // No closure puts another ring's sender, or another sender, in the place of the one that it is given.
     requires place { All (λ f. LeavesSender (FnOnceReturnsAtMut F.FnOnce f)) feeds.items }
     // It went over a new ring of this graph and size, and so it is of what each closure sent by the sender at its place.
-    ensures run { IfOk result (λ ran. (strip : Ptr) × IsRanBy (SendsFeed (FnOnceReturnsAtMut F.FnOnce) feeds.items) H.goes (shape_of graph.now.upstreams size (length feeds.items) strip) handlers.items ran) }
+    ensures run { IfOk result (IsRanBy (SendsFeed (FnOnceReturnsAtMut F.FnOnce) feeds.items) H.goes (shape_of graph.now.upstreams size (length feeds.items)) handlers.items) }
     ensures many { IfOk result (λ _. length handlers.items ≡ length graph.now.upstreams) }
     ensures few { IfOk result (λ _. has_bad_producers (Multi (length feeds.items)) ≡ false) }
     ensures refused { IfErr result (λ e. e ≡ refusal_of (length graph.now.upstreams) (length handlers.items) (length feeds.items)) }

@@ -36,15 +36,22 @@ pub(crate) type Producer = PromisedHandle<Sent, SendsPromise>;
 /// The thread of a sender that a closure sends by.
 pub(crate) type Feeder<F> = PromisedHandle<Sent, FeedsPromise<F>>;
 
-/// The ends of a new ring for a graph, with as many handlers as it has and so many senders, and the bell that wakes
-/// those who park.
+/// The senders, the receivers and the halter of a run's ring, and the bell that wakes those who park.
+type Opened = (
+    Vec<Sender<Event>>,
+    Vec<Receiver<Event>>,
+    LiveHalter,
+    Arc<Bell, Global>,
+);
+
+/// A new ring for a graph, with as many handlers as it has and so many senders.
 pub(crate) fn open(
     alloc: Global,
     graph: &Graph,
     size: Size,
     handlers: usize,
     scripts: usize,
-) -> Result<(Vec<Sender<Event>>, Vec<Receiver<Event>>, LiveHalter, Arc<Bell, Global>), RunFault>
+) -> Result<Opened, RunFault>
     ensures fresh { IfOk result (λ r. (strip : Ptr) × AreFreshEnds (shape_of graph.now.upstreams size scripts strip) r.0.items r.1.items r.2) }
     ensures ends { IfOk result (λ r. AreAllEnds r.0.items r.1.items r.2) }
     ensures shape { IfOk result (λ _. (strip : Ptr) → IsShape (shape_of graph.now.upstreams size scripts strip)) }
@@ -66,8 +73,9 @@ pub(crate) fn open(
     let bell = Arc::new(alloc, Bell::new())?;
     let theirs = Arc::try_clone(&bell)?;
     let events = vec![in alloc; Event::NONE; size.get() as usize]?;
-    let Ok((senders, receivers, halter)) = senders_ring(alloc, graph, size, MAX_LIMIT, scripts, events)
-    else {
+    let Ok((senders, receivers, halter)) = senders_ring(
+        alloc, graph, size, MAX_LIMIT, scripts, events,
+    ) else {
         return Err(RunFault::Memory);
     };
     Ok((senders, receivers, Ringing::new(halter, theirs), bell))

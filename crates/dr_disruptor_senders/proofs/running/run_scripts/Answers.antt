@@ -45,10 +45,12 @@ returns-clause-run g c =
     let shape : IsShape k = subst (λ (n : ℕ). IsShape (shape_of c.args.graph.now.upstreams c.args.size n strip)) long (made.ensures.shape strip) in
     let fresh : AreFreshEnds k made.senders.items made.receivers.items made.halter =
     subst (λ (n : ℕ). AreFreshEnds (shape_of c.args.graph.now.upstreams c.args.size n strip) made.senders.items made.receivers.items made.halter) long
-    made.ensures.fresh.1 in
-    (strip, came g.H.Handler.goes k (SendsScript c.args.size scripts) (PublishesScript c.args.size scripts) c.args.handlers.items c.in_ok-ran.ran sent.result
-    made.senders.items made.receivers.items made.halter _ sent.new.halter begun.workers.items (tells_scripts k scripts) shape fresh begun.ensures.halter
-    begun.ensures.ends begun.ensures.starts sent.ensures.sent sent.ensures.halter c.in_ok-ran.ensures)
+    made.ensures.fresh.1 in (
+      strip,
+      came g.H.Handler.goes k (SendsScript c.args.size scripts) (PublishesScript c.args.size scripts) c.args.handlers.items c.in_ok-ran.ran sent.result
+          made.senders.items made.receivers.items made.halter _ sent.new.halter begun.workers.items (tells_scripts k scripts) shape fresh begun.ensures.halter
+          begun.ensures.ends begun.ensures.starts sent.ensures.sent sent.ensures.halter c.in_ok-ran.ensures,
+    )
 
 pub returns-clause-whole : goal.returns-clause-whole
 returns-clause-whole g c =

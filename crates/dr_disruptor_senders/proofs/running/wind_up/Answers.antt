@@ -39,7 +39,9 @@ returns g c =
       kept = c.in_ok-served.ensures.kept;
       after = c.joined.new.halter;
       halts = c.joined.ensures.halts;
-      run = same_run c.in_ok-senders.senders.items (map (λ b. b.sender) sent.items) back.field-0.outlets.items (map (λ b. b.outlet) served) c.into_end.result c.joined.new.halter settled.result.0.claimed settled.result.0.is_halted c.in_ok-senders.ensures.senders back.ensures.outlets c.into_end.ensures settled.ensures.run;
+      run = same_run c.in_ok-senders.senders.items (map (λ b. b.sender) sent.items) back.field-0.outlets.items (map (λ b. b.outlet) served) c.into_end.result
+          c.joined.new.halter settled.result.0.claimed settled.result.0.is_halted c.in_ok-senders.ensures.senders back.ensures.outlets c.into_end.ensures
+          settled.ensures.run;
       counts = settled.ensures.handlers ∙ ap (map (λ (e : ReceiverEnd Event). handler_counts e.knows)) back.ensures.outlets;
       handlers = back.ensures.handlers;
       endings = c.in_ok-senders.ensures.endings ∙ ap (λ (l : List Ended). l ++ sender_endings 16 sent.items) back.ensures.endings;
