@@ -25,8 +25,11 @@ others_in() {
         $0 ~ stores && !told { print FILENAME ":" FNR ":" $0 }' {} +
 }
 
-# (dr_plain's tokens are exchanged in slots that an end has in hand, which is no step.)
-others=$(others_in crates/dr_ring/src; others_in crates/dr_senders/src; others_in crates/dr_plain/src | grep -v '[.]exchange(')
+# (The tokens of plain memory are exchanged in slots that an end has in hand, which is no step.)
+others=$(
+    for ring in dr_ring dr_senders; do others_in crates/$ring/src; done
+    for ring in dr_plain dr_plain_senders; do others_in crates/$ring/src; done | grep -v '[.]exchange('
+)
 if [ -n "$others" ]; then
     printf 'a load or store that is no step of the laws, or a store that its contract does not tell:\n%s\n' "$others"
     exit 1

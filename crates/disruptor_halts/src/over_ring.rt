@@ -1,4 +1,4 @@
-//! Rounds over the rings: of one sender, over words and over plain memory, and of several.
+//! Rounds over the rings: of one sender and of several, over words and over plain memory.
 
 use crate::ends::{Halting, Producing, Taking};
 use crate::fault::Fault;
@@ -66,6 +66,22 @@ impl Producing for dr_senders::Sender {
     }
 }
 
+impl Producing for dr_plain_senders::Sender<Event> {
+    fn send(&mut self, sending: &mut Sending) -> Result<Stretch, Fault> {
+        sending.send(self)
+    }
+
+    fn may_halt(&mut self, random: &mut Random) {
+        if random.below(MOST_BEFORE_LEAVING) == 0 {
+            self.halt();
+        }
+    }
+
+    fn end(&mut self) -> Result<(), Fault> {
+        Ok(())
+    }
+}
+
 /// The handler is gone then, and those after it get no more.
 fn leave(random: &mut Random, signs: &Signs) -> Stretch {
     if random.below(MOST_BEFORE_LEAVING) > 0 {
@@ -105,6 +121,16 @@ impl Taking for dr_senders::Receiver {
     }
 }
 
+impl Taking for dr_plain_senders::Receiver<Event> {
+    fn receive(&mut self, receiving: &mut Receiving, signs: &Signs) -> Result<Stretch, Fault> {
+        receiving.receive(self, signs)
+    }
+
+    fn may_leave(&mut self, random: &mut Random, signs: &Signs) -> Result<Stretch, Fault> {
+        Ok(leave(random, signs))
+    }
+}
+
 impl Halting for Halter {
     fn halt(&mut self) {
         Halter::halt(self);
@@ -120,6 +146,12 @@ impl Halting for dr_plain::Halter<Event> {
 impl Halting for dr_senders::Halter {
     fn halt(&mut self) {
         dr_senders::Halter::halt(self);
+    }
+}
+
+impl Halting for dr_plain_senders::Halter<Event> {
+    fn halt(&mut self) {
+        dr_plain_senders::Halter::halt(self);
     }
 }
 
@@ -184,6 +216,33 @@ fn open_with_several(
     })
 }
 
+// The ends of a ring of events with several senders.
+type SomeSender = dr_plain_senders::Sender<Event>;
+
+type SomeReceiver = dr_plain_senders::Receiver<Event>;
+
+type SomeHalter = dr_plain_senders::Halter<Event>;
+
+fn open_with_several_over_plain_memory(
+    alloc: Global,
+    random: &mut Random,
+) -> Result<Opened<SomeSender, SomeReceiver, SomeHalter>, Fault> {
+    let size = any_size(random)?;
+    let graph = graph(alloc, random)?;
+    let count = random.below(MOST_SENDERS).saturating_add(1) as usize;
+    let events = vec![in alloc; Event::NONE; size.get() as usize]?;
+    let (senders, receivers, halter) = dr_plain_senders::senders_ring(
+        alloc, &graph, size, MAX_LIMIT, count, events,
+    )?;
+    Ok(Opened {
+        inlets: senders,
+        outlets: receivers,
+        halter,
+        slots: size.get(),
+        in_order: false,
+    })
+}
+
 /// Runs a ring of one sender.
 pub fn one_sender<R: Threads + Wait + Sync>(
     rt: &R,
@@ -211,5 +270,15 @@ pub fn several_senders<R: Threads + Wait + Sync>(
     random: &mut Random,
 ) -> Result<Told, Fault> {
     let opened = open_with_several(alloc, random)?;
+    told(rt, alloc, opened, random)
+}
+
+/// Runs a ring of several senders over plain memory, which may halt it too.
+pub fn several_over_plain_memory<R: Threads + Wait + Sync>(
+    rt: &R,
+    alloc: Global,
+    random: &mut Random,
+) -> Result<Told, Fault> {
+    let opened = open_with_several_over_plain_memory(alloc, random)?;
     told(rt, alloc, opened, random)
 }

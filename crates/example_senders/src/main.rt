@@ -1,10 +1,11 @@
-//! Two senders and a handler, each on a thread of its own, over one ring and without a lock.
+//! Two senders and a handler, each on a thread of its own, over one ring and without a lock. What they
+//! send is of a type of this program's.
 #![tactic(auto)]
 
 use dr_graph::{Graph, GraphBuilder, GraphFault};
 use dr_meaning::{Handler, MAX_LIMIT};
-use dr_senders::{Halter, Receiver, Sender, senders_ring};
-use dr_seq::{Event, Size};
+use dr_plain_senders::{Halter, Receiver, Sender, senders_ring};
+use dr_seq::Size;
 use dr_workers::{OpenGate, WorkFault, consume, produce};
 use std::alloc::Global;
 use std::process::ExitCode;
@@ -22,34 +23,56 @@ enum Fault {
     Memory,
 }
 
-/// Adds up the first words of what it is shown.
-#[derive(Drop)]
-struct Adder {
-    total: u64,
+/// What a sender sends.
+#[derive(Clone, Copy)]
+struct Sale {
+    shop: u16,
+    pieces: u32,
+    pence: u64,
 }
 
-impl Handler<Event> for Adder {
+impl Sale {
+    /// What lies in a slot before the first sale does.
+    const NONE: Sale = Sale {
+        shop: 0,
+        pieces: 0,
+        pence: 0,
+    };
+}
+
+/// Adds up what was taken.
+#[derive(Drop)]
+struct Till {
+    pence: u64,
+}
+
+impl Handler<Sale> for Till {
     ghost use Rattle.std.specs.Prelude.{◌≡◌, ◌+◌, ◌%◌, ◌^◌};
 
-    ghost goes = { λ old event s end new. new.total ≡ (old.total + event.first) % 2 ^ 64 };
+    ghost goes = { λ old sale s end new. new.pence ≡ (old.pence + sale.pence) % 2 ^ 64 };
 
-    fn on_event(&mut self, event: Event, _s: u64, _end: bool) {
-        self.total = self.total.wrapping_add(event.first);
+    fn on_event(&mut self, sale: Sale, _s: u64, _end: bool) {
+        self.pence = self.pence.wrapping_add(sale.pence);
     }
 }
 
 /// The work of the handler: it ends when the ring has drained.
-fn add_up<R: Wait>(rt: &R, mut receiver: Receiver) -> Result<u64, Fault> {
-    let mut adder = Adder { total: 0 };
-    let mut buffer = [Event::NONE; 64];
-    match consume(rt, &mut receiver, &OpenGate, 0, &mut adder, &mut buffer) {
-        None => Ok(adder.total),
+fn add_up<R: Wait>(rt: &R, mut receiver: Receiver<Sale>) -> Result<u64, Fault> {
+    let mut till = Till { pence: 0 };
+    let mut buffer = [Sale::NONE; 64];
+    match consume(rt, &mut receiver, &OpenGate, 0, &mut till, &mut buffer) {
+        None => Ok(till.pence),
         Some(fault) => Err(Fault::Work(fault)),
     }
 }
 
 /// The work of a sender: it sends a script in claims of up to eight events.
-fn send<R: Wait>(rt: &R, mut sender: Sender, who: usize, script: &[Event]) -> Result<(), Fault> {
+fn send<R: Wait>(
+    rt: &R,
+    mut sender: Sender<Sale>,
+    who: usize,
+    script: &[Sale],
+) -> Result<(), Fault> {
     match produce(rt, &mut sender, &OpenGate, who, script, 8).fault {
         None => Ok(()),
         Some(fault) => Err(Fault::Work(fault)),
@@ -58,7 +81,7 @@ fn send<R: Wait>(rt: &R, mut sender: Sender, who: usize, script: &[Event]) -> Re
 
 fn graph(alloc: Global) -> Result<Graph, GraphFault> {
     let mut builder = GraphBuilder::new(alloc);
-    builder.handle_with(&["adder"])?;
+    builder.handle_with(&["till"])?;
     builder.build()
 }
 
@@ -76,9 +99,9 @@ fn joined<T: Drop, R: Threads, E: Drop>(
 /// Two senders send a script each, one on a thread of its own and one on this.
 fn send_both<R: Threads + Wait + Sync>(
     rt: &R,
-    one: Sender,
-    other: Sender,
-    script: &[Event],
+    one: Sender<Sale>,
+    other: Sender<Sale>,
+    script: &[Sale],
 ) -> Result<(), Fault> {
     thread::scope(thread::scope_env(), rt, move |scope| -> Result<(), Fault> {
         let one = scope.spawn(move || send(rt, one, 16, script));
@@ -91,10 +114,10 @@ fn send_both<R: Threads + Wait + Sync>(
 /// Sends a script twice, by two senders, and gives what the handler added up.
 fn exchange<R: Threads + Wait + Sync>(
     rt: &R,
-    mut senders: Vec<Sender>,
-    receiver: Receiver,
-    halter: &mut Halter,
-    script: &[Event],
+    mut senders: Vec<Sender<Sale>>,
+    receiver: Receiver<Sale>,
+    halter: &mut Halter<Sale>,
+    script: &[Sale],
 ) -> Result<u64, Fault> {
     let (Some(one), Some(other)) = (senders.pop(), senders.pop()) else {
         return Err(Fault::Memory);
@@ -118,16 +141,22 @@ fn exchange<R: Threads + Wait + Sync>(
     )
 }
 
+/// The senders, the receivers and the halter of a ring.
+type Ends = (Vec<Sender<Sale>>, Vec<Receiver<Sale>>, Halter<Sale>);
+
 /// The ends of a ring of sixty-four slots with two senders.
-fn open(alloc: Global, graph: &Graph) -> Option<(Vec<Sender>, Vec<Receiver>, Halter)> {
-    senders_ring(alloc, graph, Size::new(64).ok()?, MAX_LIMIT, 2).ok()
+fn open(alloc: Global, graph: &Graph) -> Option<Ends> {
+    let size = Size::new(64).ok()?;
+    let sales = vec![in alloc; Sale::NONE; size.get() as usize].ok()?;
+    senders_ring(alloc, graph, size, MAX_LIMIT, 2, sales).ok()
 }
 
 fn run<R: Threads + Wait + Sync>(rt: &R, alloc: Global) -> Result<u64, Fault> {
     let graph = graph(alloc).map_err(Fault::Graph)?;
-    let script = [Event {
-        first: 1,
-        second: 0,
+    let script = [Sale {
+        shop: 1,
+        pieces: 2,
+        pence: 350,
     }; 100];
     match open(alloc, &graph) {
         Some((senders, mut receivers, mut halter)) => match receivers.pop() {
