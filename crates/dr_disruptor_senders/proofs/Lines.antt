@@ -20,7 +20,7 @@ use Rattle.dr_plain_senders.specs.Meaning.Records.{fresh_own, own_after, own_pub
 use Rattle.dr_plain_senders.specs.Calls.Publishing.{is_between}
 use Rattle.dr_plain_senders.specs.Calls.Writing.{written_where}
 use Rattle.dr_disruptor_senders.proofs.Rising.{AreBelow, Rise, below_more, below_next, sequences}
-use Rattle.dr_disruptor_senders.proofs.Shown.{AreOut, events_in, shown, shows}
+use Rattle.dr_disruptor_senders.proofs.Shown.{AreOut, events_in, shows}
 
 -- What is between.
 

@@ -12,8 +12,6 @@ use Rattle.dr_runs.specs.Looks.{look}
 use Rattle.dr_runs.proofs.Elements.{at_below, each_set}
 use Rattle.dr_plain_senders.specs.Meaning.Shape.{Shape, IsShape, handlers_of}
 use Rattle.dr_plain_senders.specs.Meaning.Words.{claim_word, count_word, mark_word}
-use Rattle.dr_plain_senders.specs.declared.record.Lent.{Lent}
-use Rattle.dr_plain_senders.specs.declared.record.Stage.{Stage}
 use Rattle.dr_plain_senders.specs.declared.record.SenderRecord.{SenderRecord}
 use Rattle.dr_plain_senders.specs.declared.record.ReceiverRecord.{ReceiverRecord}
 use Rattle.dr_plain_senders.specs.declared.record.Step.{Step}

@@ -1,6 +1,6 @@
 -- What the calls of a sender's worker leave of the sequences that the sender owns.
-use Rattle.std.proofs.Common.{◌≡◌, ℕ, suc, ◌+◌, ◌-◌, ◌<◌, ◌≤◌, inl, inr, ◌==◌, List, [], ◌∷◌, ◌++◌}
-use Rattle.std.proofs.Common.{length, take, drop, replicate, map, Option, None, Some, Ok, Err, refl, sym, ap, ◌∙◌, subst, arith, length-append}
+use Rattle.std.proofs.Common.{◌≡◌, ℕ, suc, ◌+◌, ◌-◌, inl, inr, ◌==◌, List, [], ◌∷◌, ◌++◌}
+use Rattle.std.proofs.Common.{length, take, drop, replicate, map, Option, None, Some, Ok, Err, sym, ap, ◌∙◌, subst, arith, length-append}
 use Rattle.std.specs.Prelude.{flat_map}
 use Rattle.std.proofs.lemmas.List.{append-nil, map-append, length-replicate}
 use mathlib.Core.Option.{some}

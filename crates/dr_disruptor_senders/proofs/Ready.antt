@@ -18,7 +18,7 @@ use Rattle.dr_workers.specs.declared.fault.WorkFault.TheVariants.{Stopped}
 use Rattle.dr_workers.specs.declared.producer.Produced.{Produced}
 use Rattle.dr_seq.specs.declared.event.Event.{Event}
 use Rattle.dr_plain_senders.specs.Meaning.Shape.{Shape, handlers_of}
-use Rattle.dr_plain_senders.specs.Calls.Ends.{EndPlace, HalterStand, ReceiverEnd, SenderEnd, receiver_place, sender_place}
+use Rattle.dr_plain_senders.specs.Calls.Ends.{HalterStand, ReceiverEnd, SenderEnd, receiver_place, sender_place}
 use Rattle.dr_plain_senders.specs.Calls.Inlets.{sender_does}
 use Rattle.dr_plain_senders.specs.Calls.Outlets.{receiver_does}
 use Rattle.dr_plain_senders.specs.Calls.Settling.{AreAllEnds, HasRun}
