@@ -1,5 +1,8 @@
 pub mod Owned
 pub mod Rising
+pub mod Shown
+pub mod Marks
+pub mod Lines
 pub mod Publishing
 pub mod Merged
 pub mod Untroubled

@@ -1,5 +1,6 @@
 -- What a worker's polls handed out, by the answers of a receiver.
-use Rattle.std.proofs.Common.{◌≡◌, ◌≢◌, ◌≤◌, ◌<◌, ◌+◌, ℕ, Bool, List, [], ◌∷◌, ◌++◌, length, take, All, Ok, Err, inl, inr, refl, sym, ap, ◌∙◌, subst, arith, append_assoc, length-append}
+use Rattle.std.proofs.Common.{◌≡◌, ◌≤◌, ◌<◌, ◌+◌, ◌-◌, ℕ, Bool, List, [], ◌∷◌, ◌++◌, length, take, All, Ok, Err, inl, inr}
+use Rattle.std.proofs.Common.{refl, sym, ap, ◌∙◌, subst, arith, append_assoc, length-append}
 use Rattle.std.specs.Prelude.{Contains, slice_index}
 use Rattle.std.proofs.Math.Seq.{get_or-append_seam}
 use Rattle.std.proofs.lemmas.Bool.{cases_lt}
@@ -7,6 +8,7 @@ use Rattle.std.proofs.lemmas.List.{append-nil}
 use mathlib.Core.Option.{some}
 use lib.ListN.{get_elem?}
 use Rattle.dr_seq.specs.declared.event.Event.{Event}
+use Rattle.dr_seq.specs.Rounds.{entry_of}
 use Rattle.dr_graph.specs.Meaning.Graph.{upstreams_of}
 use Rattle.dr_meaning.proofs.Leasts.{least_of-le}
 use Rattle.dr_meaning.specs.declared.command.Polled.TheVariants.{Batch, Drained, Gating, Idle}
@@ -16,50 +18,47 @@ use Rattle.dr_workers.specs.Calls.Serving.{InTurn, ToPoll}
 use Rattle.dr_workers.specs.Meaning.Work.{batches_in}
 use Rattle.dr_runs.specs.declared.look.Look.{Look}
 use Rattle.dr_runs.specs.Looks.{look, offered_by}
-use Rattle.dr_runs.proofs.Elements.{at_below, at_index}
-use Rattle.dr_senders.specs.declared.record.ReceiverRecord.{ReceiverRecord}
-use Rattle.dr_senders.specs.Meaning.Rule.{KeepsRule, World}
-use Rattle.dr_senders.specs.Meaning.Shape.{Shape, handlers_of}
-use Rattle.dr_senders.specs.Meaning.Words.{claim_word, claimed_in, count_word}
-use Rattle.dr_senders.specs.Calls.Ends.{ReceiverEnd, count_looks}
-use Rattle.dr_senders.specs.Calls.Receiving.{LooksInOrder, PollLooks, WalksTo, looked_round, offer, ups_of}
-use Rattle.dr_senders.specs.Calls.Telling.{receiver_does}
-use Rattle.dr_senders.proofs.Facts.{handler_inside, receiver_of_handler, upstream_inside}
+use Rattle.dr_runs.proofs.Elements.{at_index}
+use Rattle.dr_plain_senders.specs.declared.record.Lent.{Lent}
+use Rattle.dr_plain_senders.specs.declared.record.ReceiverRecord.{ReceiverRecord}
+use Rattle.dr_plain_senders.specs.Meaning.Rule.{KeepsRule, World}
+use Rattle.dr_plain_senders.specs.Meaning.Shape.{Shape, handlers_of}
+use Rattle.dr_plain_senders.specs.Meaning.Words.{claim_word, claimed_in, count_word, mark_word}
+use Rattle.dr_plain_senders.specs.Calls.Ends.{EndPlace, ReceiverEnd, count_looks, mark_looks, receiver_place}
+use Rattle.dr_plain_senders.specs.Calls.Outlets.{receiver_does}
+use Rattle.dr_plain_senders.specs.Calls.Receiving.{LooksInOrder, PollLooks, WalksTo, looked_round, offer, ups_of, walk_end}
+use Rattle.dr_plain_senders.proofs.Facts.{handler_inside, receiver_of_handler, taken_claimed, upstream_inside}
 use Rattle.dr_threads.specs.Handlers.{IsPolled}
 use Rattle.dr_threads.proofs.Polled.{batch_polled}
 use Rattle.dr_threads.proofs.Polled as threads
+use Rattle.dr_disruptor_senders.proofs.Marks.{IsWithin, MarksWithin}
 
 -- What a receiver saw.
 
--- it saw no more published than this, or completed by its upstreams
-pub record SawAtMost (n : ℕ) (ups : List ℕ) (r : ReceiverRecord) : Type 0 where
-  pub seen : r.seen ≤ n
+-- it found no mark of a sequence from this on, and nothing more completed by its upstreams
+pub record SawAtMost (n : ℕ) (k : Shape) (ups : List ℕ) (r : ReceiverRecord Event) : Type 0 where
+  pub marks : (before after : List Look) (x : Look) → r.marks ≡ before ++ x ∷ after → IsWithin k n x
   pub counts : (u : ℕ) (before after : List Look) (x : Look) → Contains ups u → r.looks ≡ before ++ x ∷ after → x.word ≡ count_word u → x.value ≤ n
 
--- what it took is claimed
-pub took_claimed : (k : Shape) (w : World) (h : ℕ) (r : ReceiverRecord) → get_elem? w.receivers h ≡ some r → KeepsRule k w → length r.received ≤ length w.stages
-took_claimed k w h r at K = elim (cases_lt (length w.stages) (length r.received)) [
-  | inl more ↦ absurd (let x = (K.received h r at).beginning (length w.stages) more in let inside = at_below w.stages (length w.stages) x.0 x.1 in omega arith)
-  | inr fits ↦ fits
-]
+-- what stands there
+seam : (before after : List Look) (x : Look) → get_elem? (before ++ x ∷ after) (length before) ≡ some x
+seam before after x =
+    let many : length (before ++ x ∷ after) ≡ length before + length (x ∷ after) = length-append before (x ∷ after) in
+    at_index (before ++ x ∷ after) (length before) x (omega arith) (sym (get_or-append_seam before x after x))
 
-pub saw_claimed : (k : Shape) (w : World) (h : ℕ) (r : ReceiverRecord) → get_elem? w.receivers h ≡ some r → KeepsRule k w → SawAtMost (length w.stages) (ups_of k r) r
-saw_claimed k w h r at K =
+pub saw_claimed : (k : Shape) (w : World Event) (h : ℕ) (r : ReceiverRecord Event) → get_elem? w.receivers h ≡ some r → KeepsRule k w → MarksWithin k w
+    → SawAtMost (length w.stages) k (ups_of k r) r
+saw_claimed k w h r at K all =
     let was = K.received h r at in
     let inside = handler_inside k w h r at K in
     record {
-      seen = elim (cases_lt (length w.stages) r.seen) [
-        | inl more ↦ absurd (let x = was.seen (length w.stages) more in let below = at_below w.stages (length w.stages) x.0 x.1 in omega arith)
-        | inr fits ↦ fits
-      ];
+      marks = λ before after x is.
+          all h r at (length before) x (ap (λ (l : List Look). get_elem? l (length before)) is ∙ seam before after x);
       counts = λ u before after x has is word.
-          let many : length (before ++ x ∷ after) ≡ length before + length (x ∷ after) = length-append before (x ∷ after) in
-          let here : get_elem? (before ++ x ∷ after) (length before) ≡ some x =
-          at_index (before ++ x ∷ after) (length before) x (omega arith) (sym (get_or-append_seam before x after x)) in
-          let past = was.looks (length before) x (ap (λ (l : List Look). get_elem? l (length before)) is ∙ here) in
+          let past = was.looks (length before) x (ap (λ (l : List Look). get_elem? l (length before)) is ∙ seam before after x) in
           let up : u < handlers_of k = upstream_inside k K.shape.graph h u inside (subst (λ (m : ℕ). Contains (upstreams_of k.upstreams m) u) was.number has) in
           let other = receiver_of_handler k w K u up in
-          let took = took_claimed k w u other.0 other.1 K in
+          let took = taken_claimed k w u other.0 other.1 K in
           let count = other.2.count in
           let done = other.2.completed in
           let low = subst (λ (m : ℕ). x.value ≤ slice_index w.words m) word past.before in
@@ -67,112 +66,169 @@ saw_claimed k w h r at K =
     }
 
 -- so did it before it looked on
-before_it : (n : ℕ) (ups : List ℕ) (r r' : ReceiverRecord) (more : List Look) → r'.looks ≡ r.looks ++ more → r.seen ≤ r'.seen → SawAtMost n ups r' → SawAtMost n ups r
-before_it n ups r r' more grew rose saw = record {
-  seen = let a = saw.seen in omega arith;
+before_it : (n : ℕ) (k : Shape) (ups : List ℕ) (r r' : ReceiverRecord Event) (marks looks : List Look)
+    → r'.marks ≡ r.marks ++ marks → r'.looks ≡ r.looks ++ looks
+    → SawAtMost n k ups r' → SawAtMost n k ups r
+before_it n k ups r r' marks looks marked grew saw = record {
+  marks = λ before after x is.
+      saw.marks before (after ++ marks) x (marked ∙ ap (λ (l : List Look). l ++ marks) is ∙ append_assoc before (x ∷ after) marks);
   counts = λ u before after x has is word.
-      saw.counts u before (after ++ more) x has (grew ∙ ap (λ (l : List Look). l ++ more) is ∙ append_assoc before (x ∷ after) more) word;
+      saw.counts u before (after ++ looks) x has (grew ∙ ap (λ (l : List Look). l ++ looks) is ∙ append_assoc before (x ∷ after) looks) word;
 }
 
-walked_on : (size claimed s : ℕ) (marks : List ℕ) (upto : ℕ) → WalksTo size claimed s marks upto → s ≤ upto
-walked_on size claimed s [] upto W = let a = W.1 in omega arith
-walked_on size claimed s (m ∷ ms) upto W = elim W.1 [
-  | inl here ↦ (let rest = walked_on size claimed (s + 1) ms upto here.1 in omega arith)
+-- a call only adds to what a receiver saw, which stays at its place
+record LookedOn (a b : ReceiverEnd Event) : Type 0 where
+  place : receiver_place b ≡ receiver_place a
+  found : List Look
+  marks : b.knows.marks ≡ a.knows.marks ++ found
+  more : List Look
+  looks : b.knows.looks ≡ a.knows.looks ++ more
+
+looked : (a b : ReceiverEnd Event) (seen : PollLooks) (lents : List (Lent Event)) → receiver_place b ≡ receiver_place a
+    → b.knows ≡ record (looked_round a.plan a.knows seen) { received = a.knows.received ++ lents } → LookedOn a b
+looked a b seen lents place is = record {
+  place = place;
+  found = mark_looks a.plan (length a.knows.received) seen.marks;
+  marks = ap (λ (r : ReceiverRecord Event). r.marks) is;
+  more = look claim_word seen.claims ∷ count_looks (ups_of a.plan a.knows) seen.counts;
+  looks = ap (λ (r : ReceiverRecord Event). r.looks) is;
+}
+
+looked_only : (a b : ReceiverEnd Event) (seen : PollLooks) → receiver_place b ≡ receiver_place a → b.knows ≡ looked_round a.plan a.knows seen → LookedOn a b
+looked_only a b seen place is =
+    looked a b seen [] place
+    (is ∙ ap (λ (l : List (Lent Event)). record (looked_round a.plan a.knows seen) { received = l }) (sym (append-nil a.knows.received)))
+
+same_on : (a b : ReceiverEnd Event) → receiver_place b ≡ receiver_place a → b.knows.marks ≡ a.knows.marks → b.knows.looks ≡ a.knows.looks → LookedOn a b
+same_on a b place marks looks = record {
+  place = place;
+  found = [];
+  marks = marks ∙ sym (append-nil a.knows.marks);
+  more = [];
+  looks = looks ∙ sym (append-nil a.knows.looks);
+}
+
+same_record : (a b : ReceiverEnd Event) → receiver_place b ≡ receiver_place a → b.knows ≡ record a.knows { completed = b.knows.completed } → LookedOn a b
+same_record a b place is = same_on a b place (ap (λ (r : ReceiverRecord Event). r.marks) is) (ap (λ (r : ReceiverRecord Event). r.looks) is)
+
+looked_on : (a b : ReceiverEnd Event) (call : OutletCall Event) → receiver_does a call b → LookedOn a b
+looked_on a b (PollsInto before after (Ok (Batch first count end))) is = let sees = is.0.1.1 in looked a b sees.0 sees.2.5.0 is.0.0 sees.2.5.2
+looked_on a b (PollsInto before after (Ok Drained)) is = let sees = is.0.1.1 in looked_only a b sees.0 is.0.0 sees.2.3
+looked_on a b (PollsInto before after (Ok Gating)) is = let sees = is.0.1.1 in looked_only a b sees.0 is.0.0 sees.2.2
+looked_on a b (PollsInto before after (Ok Idle)) is = let sees = is.0.1.1 in looked_only a b sees.0 is.0.0 sees.2.3
+looked_on a b (PollsInto before after (Err Memory)) is = absurd is
+looked_on a b (PollsInto before after (Err (Refused r))) is = let same = is.0.1.1 in
+    same_on a b is.0.0 (ap (λ (r : ReceiverRecord Event). r.marks) same) (ap (λ (r : ReceiverRecord Event). r.looks) same)
+looked_on a b (CompletesBelow upto (Ok done)) is = same_record a b is.0 is.1.2
+looked_on a b (CompletesBelow upto (Err Memory)) is = absurd is
+looked_on a b (CompletesBelow upto (Err (Refused r))) is = same_record a b is.0 is.1.2
+
+-- What its barrier offered.
+
+walked_on : (size end s : ℕ) (marks : List ℕ) (upto : ℕ) → WalksTo size end s marks upto → s ≤ upto
+walked_on size end s [] upto W = let a = W.1 in omega arith
+walked_on size end s (m ∷ ms) upto W = elim W.1 [
+  | inl here ↦ (let rest = walked_on size end (s + 1) ms upto here.1 in omega arith)
   | inr stop ↦ (let at = stop.2 in omega arith)
 ]
 
-upto_by : (ups : List ℕ) (size claimed s upto : ℕ) (marks : List ℕ) → (ups ≡ [] → WalksTo size claimed s marks upto) → (ups ≢ [] → (marks ≡ []) × (upto ≡ s)) → s ≤ upto
-upto_by [] size claimed s upto marks walks stands = walked_on size claimed s marks upto (walks refl)
-upto_by (u ∷ ups) size claimed s upto marks walks stands = let at = (stands (λ e. let none = ap length e in omega arith)).1 in omega arith
+-- a walk that came further found the mark of the last sequence before its end
+walked_last : (k : Shape) (end s : ℕ) (marks : List ℕ) (upto : ℕ) → WalksTo k.size end s marks upto → s < upto
+    → (before after : List Look) × (mark_looks k s marks ≡ before ++ look (mark_word k (upto - 1)) (entry_of k.size (upto - 1)) ∷ after)
+walked_last k end s [] upto W less = let a = W.1 in absurd (omega arith)
+walked_last k end s (m ∷ ms) upto W less = elim W.1 [
+  | inl here ↦ elim (cases_lt (s + 1) upto) [
+    | inl more ↦
+        let rest = walked_last k end (s + 1) ms upto here.1 more in
+        (look (mark_word k s) m ∷ rest.0, rest.1, ap (λ (l : List Look). look (mark_word k s) m ∷ l) rest.2)
+    | inr last ↦
+        let on = walked_on k.size end (s + 1) ms upto here.1 in
+        let same : s ≡ upto - 1 = omega arith in
+        let is : m ≡ entry_of k.size (upto - 1) = here.0 ∙ ap (entry_of k.size) same in
+        ([], mark_looks k (s + 1) ms, λ i. look (mark_word k (same i)) (is i) ∷ mark_looks k (s + 1) ms)
+  ]
+  | inr stop ↦ (let at = stop.2 in absurd (omega arith))
+]
 
-saw_on : (k : Shape) (r : ReceiverRecord) (seen : PollLooks) → LooksInOrder k r seen → r.seen ≤ seen.upto
-saw_on k r seen order = upto_by (ups_of k r) k.size (claimed_in seen.claims) r.seen seen.upto seen.marks order.walks order.stands
+-- no sequence is offered that was not published
+walk_within : (n : ℕ) (k : Shape) (ups : List ℕ) (old r : ReceiverRecord Event) (end : ℕ) (marks : List ℕ) (upto : ℕ)
+    → WalksTo k.size end (length old.received) marks upto → r.marks ≡ old.marks ++ mark_looks k (length old.received) marks
+    → length old.received < upto → SawAtMost n k ups r → upto ≤ n
+walk_within n k ups old r end marks upto W is on saw =
+    let last = walked_last k end (length old.received) marks upto W on in
+    let x : Look = look (mark_word k (upto - 1)) (entry_of k.size (upto - 1)) in
+    let all : r.marks ≡ (old.marks ++ last.0) ++ x ∷ last.1 =
+    is ∙ ap (λ (l : List Look). old.marks ++ l) last.2 ∙ sym (append_assoc old.marks last.0 (x ∷ last.1)) in
+    let low : upto - 1 < n = saw.marks (old.marks ++ last.0) last.1 x all (upto - 1) refl refl in
+    omega arith
 
--- a call only adds to what a receiver saw, which stays at its place
-record LookedOn (a b : ReceiverEnd) : Type 0 where
-  plan : b.plan ≡ a.plan
-  number : b.knows.number ≡ a.knows.number
-  more : List Look
-  looks : b.knows.looks ≡ a.knows.looks ++ more
-  seen : a.knows.seen ≤ b.knows.seen
-
-looked : (a b : ReceiverEnd) (out out' : List Event) (seen : PollLooks) (events : List Event) → b.plan ≡ a.plan → LooksInOrder a.plan a.knows seen
-    → b.knows ≡ record (looked_round a.plan a.knows seen) { received = a.knows.received ++ events } → LookedOn a b
-looked a b out out' seen events plan order is = record {
-  plan = plan;
-  number = ap (λ (r : ReceiverRecord). r.number) is;
-  more = look claim_word seen.claims ∷ count_looks (ups_of a.plan a.knows) seen.counts;
-  looks = ap (λ (r : ReceiverRecord). r.looks) is;
-  seen = let up = saw_on a.plan a.knows seen order in let same : b.knows.seen ≡ seen.upto = ap (λ (r : ReceiverRecord). r.seen) is in omega arith;
-}
-
-looked_only : (a b : ReceiverEnd) (out out' : List Event) (seen : PollLooks) → b.plan ≡ a.plan → LooksInOrder a.plan a.knows seen
-    → b.knows ≡ looked_round a.plan a.knows seen → LookedOn a b
-looked_only a b out out' seen plan order is =
-    looked a b out out' seen [] plan order
-    (is ∙ ap (λ (l : List Event). record (looked_round a.plan a.knows seen) { received = l }) (sym (append-nil a.knows.received)))
-
-same_on : (a b : ReceiverEnd) → b.plan ≡ a.plan → b.knows.number ≡ a.knows.number → b.knows.looks ≡ a.knows.looks → b.knows.seen ≡ a.knows.seen → LookedOn a b
-same_on a b plan number looks seen = record { plan = plan; number = number; more = []; looks = looks ∙ sym (append-nil a.knows.looks); seen = omega arith }
-
-looked_on : (a b : ReceiverEnd) (call : OutletCall Event) → receiver_does a call b → LookedOn a b
-looked_on a b (PollsInto before after (Ok (Batch first count end))) is = let sees = is.1.1 in looked a b before after sees.0 (take count after) is.0.1 sees.1 sees.2.4
-looked_on a b (PollsInto before after (Ok Drained)) is = let sees = is.1.1 in looked_only a b before after sees.0 is.0.1 sees.1 sees.2.2
-looked_on a b (PollsInto before after (Ok Gating)) is = let sees = is.1.1 in looked_only a b before after sees.0 is.0.1 sees.1 sees.2.2
-looked_on a b (PollsInto before after (Ok Idle)) is = let sees = is.1.1 in looked_only a b before after sees.0 is.0.1 sees.1 sees.2.2
-looked_on a b (PollsInto before after (Err Memory)) is = absurd is
-looked_on a b (PollsInto before after (Err (Refused r))) is = let same = is.1.1.0 in
-    same_on a b is.0.1 (ap (λ (r : ReceiverRecord). r.number) same) (ap (λ (r : ReceiverRecord). r.looks) same) (ap (λ (r : ReceiverRecord). r.seen) same)
-looked_on a b (CompletesBelow upto (Ok done)) is = let same = is.1.2 in
-    same_on a b is.0.1 (ap (λ (r : ReceiverRecord). r.number) same) (ap (λ (r : ReceiverRecord). r.looks) same) (ap (λ (r : ReceiverRecord). r.seen) same)
-looked_on a b (CompletesBelow upto (Err Memory)) is = absurd is
-looked_on a b (CompletesBelow upto (Err (Refused r))) is = let same = is.1.2 in
-    same_on a b is.0.1 (ap (λ (r : ReceiverRecord). r.number) same) (ap (λ (r : ReceiverRecord). r.looks) same) (ap (λ (r : ReceiverRecord). r.seen) same)
-
--- what its barrier offered was published
-offered : (n claims upto : ℕ) (r : ReceiverRecord) (old : List Look) (ups counts : List ℕ) → length counts ≡ length ups
-    → r.looks ≡ old ++ look claim_word claims ∷ count_looks ups counts → upto ≤ r.seen → SawAtMost n ups r → offered_by upto counts ≤ n
-offered n claims upto r old ups [] many is within saw = let a = saw.seen in omega arith
-offered n claims upto r old [] (c ∷ counts) many is within saw = absurd (omega arith)
-offered n claims upto r old (u ∷ ups) (c ∷ counts) many is within saw =
+offered : (n : ℕ) (k : Shape) (claims upto : ℕ) (r : ReceiverRecord Event) (old : List Look) (ups counts : List ℕ) → length counts ≡ length ups
+    → r.looks ≡ old ++ look claim_word claims ∷ count_looks ups counts → (ups ≡ [] → upto ≤ n) → SawAtMost n k ups r → offered_by upto counts ≤ n
+offered n k claims upto r old [] [] many is within saw = within refl
+offered n k claims upto r old [] (c ∷ counts) many is within saw = absurd (omega arith)
+offered n k claims upto r old (u ∷ ups) [] many is within saw = absurd (omega arith)
+offered n k claims upto r old (u ∷ ups) (c ∷ counts) many is within saw =
     let least = least_of-le (c ∷ counts) 0 (omega arith) in
     let first : c ≤ n = saw.counts u (old ++ look claim_word claims ∷ []) (count_looks ups counts) (look (count_word u) c) (0, omega arith, refl)
     (is ∙ sym (append_assoc old (look claim_word claims ∷ []) (count_looks (u ∷ ups) (c ∷ counts)))) refl in
     omega arith
 
+-- without upstreams nothing but the marks is offered
+by_marks : (upto : ℕ) (ups counts : List ℕ) → length counts ≡ length ups → ups ≡ [] → offered_by upto counts ≡ upto
+by_marks upto [] [] many none = refl
+by_marks upto [] (c ∷ counts) many none = absurd (omega arith)
+by_marks upto (u ∷ ups) counts many none = absurd (let all = ap length none in omega arith)
+
+offer_within : (n room : ℕ) (k : Shape) (old r : ReceiverRecord Event) (seen : PollLooks) → LooksInOrder k old room seen
+    → r.marks ≡ old.marks ++ mark_looks k (length old.received) seen.marks
+    → r.looks ≡ old.looks ++ look claim_word seen.claims ∷ count_looks (ups_of k old) seen.counts
+    → length old.received < offer seen → SawAtMost n k (ups_of k old) r → offer seen ≤ n
+offer_within n room k old r seen order marked grew further saw =
+    offered n k seen.claims seen.upto r old.looks (ups_of k old) seen.counts order.each grew
+    (λ none.
+    let upto = by_marks seen.upto (ups_of k old) seen.counts order.each none in
+    walk_within n k (ups_of k old) old r (walk_end old (claimed_in seen.claims) room) seen.marks seen.upto (order.walks none) marked (omega arith) saw)
+    saw
+
 -- What it was handed.
 
 -- the upstreams of a receiver that stays at its place
-stays_among : (a b : ReceiverEnd) → LookedOn a b → ups_of b.plan b.knows ≡ ups_of a.plan a.knows
-stays_among a b on = ap (λ (k : Shape). ups_of k b.knows) on.plan ∙ ap (λ (m : ℕ). upstreams_of a.plan.upstreams m) on.number
+stays_among : (a b : ReceiverEnd Event) → LookedOn a b → ups_of b.plan b.knows ≡ ups_of a.plan a.knows
+stays_among a b on = ap (λ (q : EndPlace). upstreams_of q.1.upstreams q.2) on.place
 
 module _ (room n : ℕ) where
-  abbrev Saw : ReceiverEnd → Type 0
-  Saw e = SawAtMost n (ups_of e.plan e.knows) e.knows
+  abbrev Saw : ReceiverEnd Event → Type 0
+  Saw e = SawAtMost n e.plan (ups_of e.plan e.knows) e.knows
 
   -- what a receiver saw after a call, by its upstreams before it
-  saw_after : (a b : ReceiverEnd) (call : OutletCall Event) → receiver_does a call b → Saw b → SawAtMost n (ups_of a.plan a.knows) b.knows
-  saw_after a b call is saw = subst (λ (us : List ℕ). SawAtMost n us b.knows) (stays_among a b (looked_on a b call is)) saw
+  saw_after : (a b : ReceiverEnd Event) (call : OutletCall Event) → receiver_does a call b → Saw b → SawAtMost n a.plan (ups_of a.plan a.knows) b.knows
+  saw_after a b call is saw =
+      let on = looked_on a b call is in
+      subst (λ (k : Shape). SawAtMost n k (ups_of a.plan a.knows) b.knows) (ap (λ (q : EndPlace). q.1) on.place)
+      (subst (λ (us : List ℕ). SawAtMost n b.plan us b.knows) (stays_among a b on) saw)
 
-  before_call : (a b : ReceiverEnd) (call : OutletCall Event) → receiver_does a call b → Saw b → Saw a
+  before_call : (a b : ReceiverEnd Event) (call : OutletCall Event) → receiver_does a call b → Saw b → Saw a
   before_call a b call is saw =
       let on = looked_on a b call is in
-      before_it n (ups_of a.plan a.knows) a.knows b.knows on.more on.looks on.seen (saw_after a b call is saw)
+      before_it n a.plan (ups_of a.plan a.knows) a.knows b.knows on.found on.more on.marks on.looks (saw_after a b call is saw)
 
-  fits : (a b : ReceiverEnd) (before after : List Event) (first count : ℕ) (end : Bool) → length before ≡ room → length after ≡ room
+  fits : (a b : ReceiverEnd Event) (before after : List Event) (first count : ℕ) (end : Bool) → length before ≡ room → length after ≡ room
       → receiver_does a (PollsInto before after (Ok (Batch first count end))) b → Saw b
       → IsPolled room n (record { first = first; events = take count after; end = end })
   fits a b before after first count end long longer is saw =
-      let seen : PollLooks = is.1.1.0 in
-      let order = is.1.1.1 in
-      let answers = is.1.1.2 in
-      let same : b.knows.seen ≡ seen.upto = ap (λ (r : ReceiverRecord). r.seen) answers.4 in
+      let sees = is.0.1.1 in
+      let seen : PollLooks = sees.0 in
+      let answers = sees.2 in
+      let next = answers.0 in
+      let further = answers.1 in
+      let marked = ap (λ (r : ReceiverRecord Event). r.marks) answers.5.2 in
+      let grew = ap (λ (r : ReceiverRecord Event). r.looks) answers.5.2 in
       let within : offer seen ≤ n =
-      offered n seen.claims seen.upto b.knows a.knows.looks (ups_of a.plan a.knows) seen.counts order.each (ap (λ (r : ReceiverRecord). r.looks) answers.4) (omega arith)
+      offer_within n (length before) a.plan a.knows b.knows seen sees.1 marked grew (omega arith)
       (saw_after a b (PollsInto before after (Ok (Batch first count end))) is saw)
       in
       batch_polled room n first count (offer seen) end before after long longer answers.1 answers.2 answers.3.1 within
 
-  pub polled : (a b : ReceiverEnd) (calls : List (OutletCall Event)) → CallsLead receiver_does a calls b → InTurn room ToPoll calls → Saw b
+  pub polled : (a b : ReceiverEnd Event) (calls : List (OutletCall Event)) → CallsLead receiver_does a calls b → InTurn room ToPoll calls → Saw b
       → All (IsPolled room n) (batches_in calls)
   polled a b calls lead order saw = threads.polled receiver_does room n Saw before_call fits ToPoll a b calls lead order saw

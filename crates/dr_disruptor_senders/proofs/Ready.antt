@@ -17,10 +17,11 @@ use Rattle.dr_workers.specs.declared.fault.WorkFault.{WorkFault}
 use Rattle.dr_workers.specs.declared.fault.WorkFault.TheVariants.{Stopped}
 use Rattle.dr_workers.specs.declared.producer.Produced.{Produced}
 use Rattle.dr_seq.specs.declared.event.Event.{Event}
-use Rattle.dr_senders.specs.Meaning.Shape.{Shape, handlers_of}
-use Rattle.dr_senders.specs.Calls.Ends.{EndPlace, HalterEnd, ReceiverEnd, SenderEnd, receiver_place, sender_place}
-use Rattle.dr_senders.specs.Calls.Settling.{AreAllEnds, HasRun}
-use Rattle.dr_senders.specs.Calls.Telling.{receiver_does, sender_does}
+use Rattle.dr_plain_senders.specs.Meaning.Shape.{Shape, handlers_of}
+use Rattle.dr_plain_senders.specs.Calls.Ends.{HalterStand, ReceiverEnd, SenderEnd, receiver_place, sender_place}
+use Rattle.dr_plain_senders.specs.Calls.Inlets.{sender_does}
+use Rattle.dr_plain_senders.specs.Calls.Outlets.{receiver_does}
+use Rattle.dr_plain_senders.specs.Calls.Settling.{AreAllEnds, HasRun}
 use Rattle.dr_threads.specs.declared.fault.RunFault.TheVariants as fault
 use Rattle.dr_threads.specs.Serving.{given_end}
 use Rattle.dr_threads.proofs.Settled.{end_back, many_back}
@@ -31,12 +32,12 @@ use Rattle.dr_disruptor_senders.specs.Running.{IsJoined, JoinsAll, Ran}
 use Rattle.dr_disruptor_senders.specs.Serving.{AreGiven, AreKept, AreSent, Feeder, HaltsOnly, LeavesSender, Producer, Sending, SendsFeed, SendsScript, Served, Worker, fed_sender, given_feed, given_script, given_sender, given_size, is_told, received_by, refusal_of}
 
 -- each sender's worker gave its end back
-abbrev pub StayAtPlace : (ℕ → SenderEnd → Sent → Type 0) → Type 0
-StayAtPlace sends = (p : ℕ) (given : SenderEnd) (back : Sent) → sends p given back → sender_place back.sender ≡ sender_place given
+abbrev pub StayAtPlace : (ℕ → SenderEnd Event → Sent → Type 0) → Type 0
+StayAtPlace sends = (p : ℕ) (given : SenderEnd Event) (back : Sent) → sends p given back → sender_place back.sender ≡ sender_place given
 
 -- what senders' workers gave back are all senders of the ring again
-pub senders_back : (sends : ℕ → SenderEnd → Sent → Type 0) (ss : List SenderEnd) (rs : List ReceiverEnd) (t : HalterEnd) (sent : List Sent) → StayAtPlace sends
-    → AreSent sends ss sent → AreAllEnds ss rs t → AreAllEnds (map (λ b. b.sender) sent) rs t
+pub senders_back : (sends : ℕ → SenderEnd Event → Sent → Type 0) (ss : List (SenderEnd Event)) (rs : List (ReceiverEnd Event)) (t : HalterStand Event)
+    (sent : List Sent) → StayAtPlace sends → AreSent sends ss sent → AreAllEnds ss rs t → AreAllEnds (map (λ b. b.sender) sent) rs t
 senders_back sends ss rs t sent stay are all = record {
   senders = length-map sent (λ b. b.sender) ∙ are.many ∙ all.senders;
   receivers = all.receivers;
@@ -46,44 +47,41 @@ senders_back sends ss rs t sent stay are all = record {
       let b = there sent p (omega arith) in
       let same : b.0.sender ≡ e = some-injective b.0.sender e (sym (at_map (λ b. b.sender) sent p b.0 b.1) ∙ at) in
       let (one, at_one, sending) = are.each p b.0 b.1 in
-      let was = all.each_sender p one at_one in
-      let place = stay p one b.0 sending in
-      let ring = ap (λ (q : EndPlace). q.0) place in
-      let number = ap (λ (q : EndPlace). q.2) place in
-      subst (λ (x : SenderEnd). (x.ring ≡ t.ring) × (x.knows.number ≡ p)) same (ring ∙ was.0, number ∙ was.1);
+      subst (λ (x : SenderEnd Event). sender_place x ≡ (t.ring, t.plan, p)) same (stay p one b.0 sending ∙ all.each_sender p one at_one);
   each_receiver = all.each_receiver;
 }
 
 -- so are what handlers' workers gave back
-pub receivers_back : {A : Type 0} (goes : Relation Event A) (ss : List SenderEnd) (t : HalterEnd) (ws : List (Worker A)) (served : List (Served A)) → AreKept goes ws served
-    → AreAllEnds ss (map given_end ws) t → AreAllEnds ss (map (λ (b : Served A). b.outlet) served) t
+pub receivers_back : {A : Type 0} (goes : Relation Event A) (ss : List (SenderEnd Event)) (t : HalterStand Event) (ws : List (Worker A))
+    (served : List (Served A)) → AreKept goes ws served → AreAllEnds ss (map given_end ws) t → AreAllEnds ss (map (λ (b : Served A). b.outlet) served) t
 receivers_back goes ss t ws served kept all = record {
   senders = all.senders;
   receivers = many_back receiver_place receiver_does (λ e. Some (received_by e)) is_told goes ws served kept ∙ all.receivers;
   each_sender = all.each_sender;
   each_receiver = λ h e at.
       let (given, there, same) = end_back receiver_place receiver_does (λ e. Some (received_by e)) is_told goes ws served kept h e at in
-      let was = all.each_receiver h given there in
-      (ap (λ (q : EndPlace). q.0) same ∙ was.0, ap (λ (q : EndPlace). q.2) same ∙ was.1);
+      same ∙ all.each_receiver h given there;
 }
 
 -- a halted ring's ends are those that they were
-pub halted_back : (ss : List SenderEnd) (rs : List ReceiverEnd) (t t' : HalterEnd) → HaltsOnly t t' → AreAllEnds ss rs t → AreAllEnds ss rs t'
+pub halted_back : (ss : List (SenderEnd Event)) (rs : List (ReceiverEnd Event)) (t t' : HalterStand Event) → HaltsOnly t t'
+    → AreAllEnds ss rs t → AreAllEnds ss rs t'
 halted_back ss rs t t' halts all =
     let ring = sym halts.1.0.0 in
     let plan = sym halts.1.0.1 in
     record {
       senders = all.senders ∙ ap (λ (k : Shape). k.senders) plan;
       receivers = all.receivers ∙ ap handlers_of plan;
-      each_sender = λ p e at. let was = all.each_sender p e at in (was.0 ∙ ring, was.1);
-      each_receiver = λ h e at. let was = all.each_receiver h e at in (was.0 ∙ ring, was.1);
+      each_sender = λ p e at. all.each_sender p e at ∙ (λ i. (ring i, plan i, p));
+      each_receiver = λ h e at. all.each_receiver h e at ∙ (λ i. (ring i, plan i, h));
     }
 
 -- the run of ends is that of the same ends
-pub same_run : (ss ss' : List SenderEnd) (rs rs' : List ReceiverEnd) (t t' : HalterEnd) (n : ℕ) (on : Bool) → ss ≡ ss' → rs ≡ rs' → t ≡ t' → HasRun ss rs t n on → HasRun ss' rs' t' n on
+pub same_run : (ss ss' : List (SenderEnd Event)) (rs rs' : List (ReceiverEnd Event)) (t t' : HalterStand Event) (n : ℕ) (on : Bool)
+    → ss ≡ ss' → rs ≡ rs' → t ≡ t' → HasRun ss rs t n on → HasRun ss' rs' t' n on
 same_run ss ss' rs rs' t t' n on one each other run =
-    subst (λ (e : HalterEnd). HasRun ss' rs' e n on) other
-    (subst (λ (l : List ReceiverEnd). HasRun ss' l t n on) each (subst (λ (l : List SenderEnd). HasRun l rs t n on) one run))
+    subst (λ (e : HalterStand Event). HasRun ss' rs' e n on) other
+    (subst (λ (l : List (ReceiverEnd Event)). HasRun ss' l t n on) each (subst (λ (l : List (SenderEnd Event)). HasRun l rs t n on) one run))
 
 -- a run that was not refused for its handlers or its scripts lacked memory or a thread
 pub memory_is : (graph given scripts : ℕ) → given ≡ graph → has_bad_producers (Multi scripts) ≡ false → refusal_of graph given scripts ≡ fault.Memory
@@ -98,20 +96,23 @@ pub then_ok : {V E : Type 0} (P Q : V → Type 0) (r : Result V E) → IfOk r P 
 then_ok P Q (Ok v) is then_is = then_is v is
 then_ok P Q (Err e) is then_is = tt
 
-pub joins_ok : {A V H Q : Type 0} (goes : Relation Event A) (ws : List (Worker A)) (items : V → List Sent) (P : V → Type 0) (r : Result V AllocError) (t : HalterEnd) (ran : Ran A)
-    → JoinsAll goes ws items r t ran → IfOk r P → OnOk r H → ((v : V) → P v → H → IsJoined goes ws (items v) t ran → Q) → Q
+pub joins_ok : {A V H Q : Type 0} (goes : Relation Event A) (ws : List (Worker A)) (items : V → List Sent) (P : V → Type 0) (r : Result V AllocError)
+    (t : HalterStand Event) (ran : Ran A) → JoinsAll goes ws items r t ran → IfOk r P → OnOk r H
+    → ((v : V) → P v → H → IsJoined goes ws (items v) t ran → Q) → Q
 joins_ok goes ws items P (Ok v) t ran joined is has then_is = then_is v is has joined
 joins_ok goes ws items P (Err e) t ran joined is has then_is = absurd joined
 
 -- what a sender's worker did, of the end that it was given
-pub worker_sends : (size cut : ℕ) (script events : List Event) (given from back to : SenderEnd) (produced : Produced) → from ≡ given → to ≡ back → events ≡ script → cut ≡ max (size / 4) 1
+pub worker_sends : (size cut : ℕ) (script events : List Event) (given from back to : SenderEnd Event) (produced : Produced)
+    → from ≡ given → to ≡ back → events ≡ script → cut ≡ max (size / 4) 1
     → sender_place back ≡ sender_place from → SomeCalls sender_does from back (worker.Sends cut events (λ passage. ⊥) (λ passage. ⊥) produced) → produced.sent ≤ length events
     → IfNone produced.fault (produced.sent ≡ length events) → produced.fault ≢ Some Stopped → Sending size script given (record { sender = to; fault = produced.fault })
 worker_sends size cut script events given from back to produced one other same is place calls within all stopped = record {
   sent = produced.sent;
   place = ap sender_place other ∙ place ∙ ap sender_place one;
-  calls = subst (λ (e : SenderEnd). SomeCalls sender_does given e (worker.Sends (max (size / 4) 1) script (λ passage. ⊥) (λ passage. ⊥) produced)) (sym other)
-      (subst (λ (e : SenderEnd). SomeCalls sender_does e back (worker.Sends (max (size / 4) 1) script (λ passage. ⊥) (λ passage. ⊥) produced)) one
+  calls = subst (λ (e : SenderEnd Event). SomeCalls sender_does given e (worker.Sends (max (size / 4) 1) script (λ passage. ⊥) (λ passage. ⊥) produced))
+      (sym other)
+      (subst (λ (e : SenderEnd Event). SomeCalls sender_does e back (worker.Sends (max (size / 4) 1) script (λ passage. ⊥) (λ passage. ⊥) produced)) one
       (subst (λ (n : ℕ). SomeCalls sender_does from back (worker.Sends n script (λ passage. ⊥) (λ passage. ⊥) produced)) is
       (subst (λ (l : List Event). SomeCalls sender_does from back (worker.Sends cut l (λ passage. ⊥) (λ passage. ⊥) produced)) same calls)));
   within = subst (λ (l : List Event). produced.sent ≤ length l) same within;
@@ -122,7 +123,8 @@ worker_sends size cut script events given from back to produced one other same i
 -- Of the senders' threads.
 
 -- each script was sent by the sender at its place
-pub scripts_sent : (size : ℕ) (ws : List Producer) (scripts : List (Vec Event)) (ss : List SenderEnd) (sent : List Sent) → map given_sender ws ≡ ss → map given_script ws ≡ scripts
+pub scripts_sent : (size : ℕ) (ws : List Producer) (scripts : List (Vec Event)) (ss : List (SenderEnd Event)) (sent : List Sent)
+    → map given_sender ws ≡ ss → map given_script ws ≡ scripts
     → All (λ w. given_size w ≡ size) ws → AreGiven (λ (p : SendsPromise) (r : Sent). Sending p.size p.script.value.items p.end.value r) ws sent
     → AreSent (SendsScript size (map (λ s. s.items) scripts)) ss sent
 scripts_sent size ws scripts ss sent ends given sizes are = record {
@@ -132,7 +134,7 @@ scripts_sent size ws scripts ss sent ends given sizes are = record {
       let inside : p < length ws = at_below ws p w at_w in
       let same : given_size w ≡ size = ap given_size (sym (value_at ws p w w at_w)) ∙ sizes p w inside in (
         given_sender w,
-        ap (λ (l : List SenderEnd). get_elem? l p) (sym ends) ∙ at_map given_sender ws p w at_w,
+        ap (λ (l : List (SenderEnd Event)). get_elem? l p) (sym ends) ∙ at_map given_sender ws p w at_w,
         (
           (given_script w).items,
           at_map (λ (s : Vec Event). s.items) scripts p (given_script w) (ap (λ (l : List (Vec Event)). get_elem? l p) (sym given) ∙ at_map given_script ws p w at_w),
@@ -145,16 +147,16 @@ scripts_sent size ws scripts ss sent ends given sizes are = record {
 pub scripts_stay : (size : ℕ) (scripts : List (List Event)) → StayAtPlace (SendsScript size scripts)
 scripts_stay size scripts = λ p given back is. let (script, at, sending) = is in sending.place
 
-module _ {F : Type 0} (gives : F → SenderEnd → Option WorkFault → SenderEnd → Type 0) (feeds : List F) where
+module _ {F : Type 0} (gives : F → SenderEnd Event → Option WorkFault → SenderEnd Event → Type 0) (feeds : List F) where
   -- each closure was given the sender at its place
-  pub feeds_sent : (ws : List (Feeder F)) (ss : List SenderEnd) (sent : List Sent) → map fed_sender ws ≡ ss → map given_feed ws ≡ feeds
+  pub feeds_sent : (ws : List (Feeder F)) (ss : List (SenderEnd Event)) (sent : List Sent) → map fed_sender ws ≡ ss → map given_feed ws ≡ feeds
       → AreGiven (λ (p : FeedsPromise F) (r : Sent). gives p.feed.value p.end.value r.fault r.sender) ws sent → AreSent (SendsFeed gives feeds) ss sent
   feeds_sent ws ss sent ends given are = record {
     many = are.many ∙ sym (length-map ws fed_sender) ∙ ap length ends;
     each = λ p back at.
         let (w, at_w, kept) = are.each p back at in (
           fed_sender w,
-          ap (λ (l : List SenderEnd). get_elem? l p) (sym ends) ∙ at_map fed_sender ws p w at_w,
+          ap (λ (l : List (SenderEnd Event)). get_elem? l p) (sym ends) ∙ at_map fed_sender ws p w at_w,
           (given_feed w, ap (λ (l : List F). get_elem? l p) (sym given) ∙ at_map given_feed ws p w at_w, kept),
         );
   }
@@ -168,16 +170,17 @@ module _ {F : Type 0} (gives : F → SenderEnd → Option WorkFault → SenderEn
 -- Of a run.
 
 -- what was handed back for each sender goes with what handlers' workers were given
-pub ready : {A : Type 0} (sends : ℕ → SenderEnd → Sent → Type 0) (r : Result (Vec Sent) AllocError) (ss : List SenderEnd) (rs : List ReceiverEnd) (ws : List (Worker A)) (made begun after : HalterEnd)
+pub ready : {A : Type 0} (sends : ℕ → SenderEnd Event → Sent → Type 0) (r : Result (Vec Sent) AllocError) (ss : List (SenderEnd Event))
+    (rs : List (ReceiverEnd Event)) (ws : List (Worker A)) (made begun after : HalterStand Event)
     → StayAtPlace sends → IfOk r (λ v. AreSent sends ss v.items) → OnOk r (after ≡ begun) → begun ≡ made → map given_end ws ≡ rs → AreAllEnds ss rs made
     → IfOk r (λ v. AreAllEnds (map (λ b. b.sender) v.items) (map given_end ws) after)
 ready sends r ss rs ws made begun after stay are still was ends all =
     both_ok (λ (v : Vec Sent). AreSent sends ss v.items) (λ (v : Vec Sent). AreAllEnds (map (λ b. b.sender) v.items) (map given_end ws) after) r are still (λ v sent same.
-    subst (λ (t : HalterEnd). AreAllEnds (map (λ b. b.sender) v.items) (map given_end ws) t) (sym (same ∙ was))
-    (senders_back sends ss (map given_end ws) made v.items stay sent (subst (λ (l : List ReceiverEnd). AreAllEnds ss l made) (sym ends) all)))
+    subst (λ (t : HalterStand Event). AreAllEnds (map (λ b. b.sender) v.items) (map given_end ws) t) (sym (same ∙ was))
+    (senders_back sends ss (map given_end ws) made v.items stay sent (subst (λ (l : List (ReceiverEnd Event)). AreAllEnds ss l made) (sym ends) all)))
 
 -- there are no more of them than there were senders
-pub few_back : (sends : ℕ → SenderEnd → Sent → Type 0) (r : Result (Vec Sent) AllocError) (ss : List SenderEnd)
+pub few_back : (sends : ℕ → SenderEnd Event → Sent → Type 0) (r : Result (Vec Sent) AllocError) (ss : List (SenderEnd Event))
     → IfOk r (λ v. AreSent sends ss v.items) → length ss ≤ 16 → IfOk r (λ v. length v.items ≤ 16)
 few_back sends r ss are few =
     then_ok (λ (v : Vec Sent). AreSent sends ss v.items) (λ (v : Vec Sent). length v.items ≤ 16) r are (λ v sent. let many = sent.many in omega arith)

@@ -5,7 +5,7 @@ ghost use Rattle.std.specs.Fn.{FnOnceReturnsAtMut};
 ghost use Rattle.dr_seq.specs.declared.event.Event.{Event};
 ghost use Rattle.dr_meaning.specs.declared.mode.Mode.TheVariants.{Multi};
 ghost use Rattle.dr_meaning.specs.Calls.OpenFault.{has_bad_producers};
-ghost use Rattle.dr_senders.specs.Calls.Settling.{AreAllEnds};
+ghost use Rattle.dr_plain_senders.specs.Calls.Settling.{AreAllEnds};
 ghost use Rattle.dr_threads.specs.Endings.{AreFine};
 ghost use Rattle.dr_threads.specs.Handlers.{AllWentThroughMerge};
 ghost use Rattle.dr_threads.specs.Serving.{given_end};
@@ -16,7 +16,7 @@ use crate::sending::{LiveSender, Sent};
 use crate::workers::{LiveHalter, Worker, begin, feed_all, joined, open, send_all, senders_apart};
 use dr_graph::Graph;
 use dr_meaning::Handler;
-use dr_senders::{Settled, settle};
+use dr_plain_senders::{Settled, finish};
 use dr_seq::{Event, Size};
 use dr_threads::{Back, RunFault, WaitStrategy, apart};
 use dr_workers::WorkFault;
@@ -28,9 +28,9 @@ use std::thread::Threads;
 /// handler came, and how each worker ended, the senders' last, in the order of their scripts or closures.
 pub type Ran<H> = dr_threads::Ran<H, Settled>;
 
-// Halts the ring, joins the handlers' threads, and brings all ends together. It halts and joins also where memory
-// ran out.
-fn finish<R: Threads, H: Handler<Event> + Drop>(
+// Halts the ring, joins the handlers' threads, and brings all ends together; the events that come back are dropped. It
+// halts and joins also where memory ran out.
+fn wind_up<R: Threads, H: Handler<Event> + Drop>(
     rt: &R,
     alloc: Global,
     mut halter: LiveHalter,
@@ -49,7 +49,8 @@ fn finish<R: Threads, H: Handler<Event> + Drop>(
         mut endings,
     } = apart(alloc, served)?;
     let senders = senders_apart(alloc, sent, &mut endings)?;
-    let settled = settle(senders, outlets, halter.into_end());
+    let (settled, events) = finish(senders, outlets, halter.into_end());
+    drop(events);
     Ok(dr_threads::Ran {
         handlers,
         settled,
@@ -64,7 +65,8 @@ fn finish<R: Threads, H: Handler<Event> + Drop>(
 ///
 /// It is refused with `Handlers` where there are not as many handlers as the graph has, with `Senders` where there
 /// are no scripts or more than 16, and with `Memory` where a thread could not be started. Where memory runs out, or
-/// a sender's thread cannot be started, what was done is lost.
+/// a sender's thread cannot be started, what was done is lost. A ring that was made for a run that is then refused keeps
+/// its memory.
 pub fn run_scripts<
     R: Threads + Wait + Copy + Send + 'static,
     H: Handler<Event> + Drop + Send + 'static,
@@ -98,7 +100,7 @@ pub fn run_scripts<
         size,
         strategy,
     );
-    let ran = finish(&rt, alloc, halter, sent, workers)?;
+    let ran = wind_up(&rt, alloc, halter, sent, workers)?;
     Ok(ran)
 }
 
@@ -137,6 +139,6 @@ pub fn run_feeds<
     let (senders, receivers, mut halter, bell) = open(alloc, graph, size, handlers.len(), many)?;
     let workers = begin(rt, alloc, &mut halter, receivers, handlers, &bell, strategy)?;
     let sent = feed_all(&rt, alloc, &mut halter, senders, feeds, &bell);
-    let ran = finish(&rt, alloc, halter, sent, workers)?;
+    let ran = wind_up(&rt, alloc, halter, sent, workers)?;
     Ok(ran)
 }

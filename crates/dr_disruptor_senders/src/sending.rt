@@ -3,10 +3,11 @@
 ghost use Rattle.std.specs.Prelude.{◌≡◌, Option};
 ghost use Rattle.std.specs.Fn.{FnOnceReturnsAtMut};
 ghost use Rattle.dr_workers.specs.declared.fault.WorkFault.{WorkFault};
-ghost use Rattle.dr_senders.specs.Calls.Ends.{SenderEnd};
+ghost use Rattle.dr_seq.specs.declared.event.Event.{Event};
+ghost use Rattle.dr_plain_senders.specs.Calls.Ends.{SenderEnd};
 ghost use Rattle.dr_disruptor_senders.specs.Serving.{Sending};
 
-use dr_senders::Sender;
+use dr_plain_senders::Sender;
 use dr_seq::{Event, Size};
 use dr_threads::WaitStrategy;
 use dr_workers::{Bell, OpenGate, Ringing, WorkFault, produce_with};
@@ -16,24 +17,24 @@ use std::sync::{Arc, Wait};
 use std::thread::Promise;
 
 /// A run's sender, which wakes its threads.
-pub type LiveSender = Ringing<Sender, Arc<Bell, Global>>;
+pub type LiveSender = Ringing<Sender<Event>, Arc<Bell, Global>>;
 
 /// What a worker gives back: its end, and its fault if it has one.
 #[derive(Drop)]
 pub struct Sent {
-    pub sender: Sender,
+    pub sender: Sender<Event>,
     pub fault: Option<WorkFault>,
 }
 
 /// The promise of the worker that is given an end of a ring of this size, and a script.
 pub struct SendsPromise {
-    end: Snapshot<Sender>,
+    end: Snapshot<Sender<Event>>,
     script: Snapshot<Vec<Event>>,
     size: Size,
 }
 
 impl SendsPromise {
-    pub fn of(end: &Sender, script: &Vec<Event>, size: Size) -> SendsPromise
+    pub fn of(end: &Sender<Event>, script: &Vec<Event>, size: Size) -> SendsPromise
         ensures end { result.end.value ≡ end.now }
         ensures script { result.script.value ≡ script.now }
         ensures size { result.size ≡ size }
@@ -65,7 +66,7 @@ impl Promise<Sent> for SendsPromise {
 pub fn send<R: Wait>(
     rt: &R,
     who: usize,
-    sender: Sender,
+    sender: Sender<Event>,
     script: Vec<Event>,
     bell: &Bell,
     size: Size,
@@ -90,7 +91,7 @@ pub fn send<R: Wait>(
 pub(crate) trait Feed {
     ghost callable: { Self → Type 0 };
 
-    ghost gives: { Self → SenderEnd → Option WorkFault → SenderEnd → Type 0 };
+    ghost gives: { Self → SenderEnd Event → Option WorkFault → SenderEnd Event → Type 0 };
 
     fn feed(self, sender: &mut LiveSender) -> Option<WorkFault>
         requires { callable self }
@@ -109,12 +110,12 @@ impl<F: FnOnce(&mut LiveSender) -> Option<WorkFault>> Feed for F {
 
 /// The promise of the worker that is given an end, and a closure to send by it.
 pub(crate) struct FeedsPromise<F> {
-    end: Snapshot<Sender>,
+    end: Snapshot<Sender<Event>>,
     feed: Snapshot<F>,
 }
 
 impl<F> FeedsPromise<F> {
-    pub(crate) fn of(end: &Sender, feed: &F) -> FeedsPromise<F>
+    pub(crate) fn of(end: &Sender<Event>, feed: &F) -> FeedsPromise<F>
         ensures end { result.end.value ≡ end.now }
         ensures feed { result.feed.value ≡ feed.now }
     {
@@ -136,7 +137,7 @@ impl<F: Feed> Promise<Sent> for FeedsPromise<F> {
 }
 
 /// Calls a closure with a sender that rings the bell with each publication.
-pub(crate) fn send_by<F: Feed>(sender: Sender, feed: F, bell: Arc<Bell, Global>) -> Sent
+pub(crate) fn send_by<F: Feed>(sender: Sender<Event>, feed: F, bell: Arc<Bell, Global>) -> Sent
     requires { F.callable feed }
     ensures { F.gives feed sender result.fault result.sender }
 {

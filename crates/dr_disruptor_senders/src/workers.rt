@@ -1,18 +1,19 @@
 //! The threads of a ring's handlers and senders: how they are started, and what they give back.
 
 ghost use Rattle.std.specs.Prelude.{◌≡◌, ◌≤◌, ◌++◌, [], All, false, IfErr, IfOk, OnOk, length, map};
+ghost use denote.RawPtr.{Ptr};
 ghost use Rattle.dr_meaning.specs.declared.mode.Mode.TheVariants.{Multi};
 ghost use Rattle.dr_meaning.specs.Calls.OpenFault.{has_bad_producers};
-ghost use Rattle.dr_senders.specs.Calls.Making.{AreFreshEnds};
-ghost use Rattle.dr_senders.specs.Calls.Settling.{AreAllEnds};
-ghost use Rattle.dr_senders.specs.Meaning.Shape.{IsShape};
+ghost use Rattle.dr_plain_senders.specs.Calls.Making.{AreFreshEnds};
+ghost use Rattle.dr_plain_senders.specs.Calls.Settling.{AreAllEnds};
+ghost use Rattle.dr_plain_senders.specs.Meaning.Shape.{IsShape};
 ghost use Rattle.dr_threads.specs.Serving.{given_end, given_handler};
 ghost use Rattle.dr_disruptor_senders.specs.Serving.{AreGiven, AreKept, AreSent, HaltsOnly, SendsFeed, SendsScript, fed_sender, given_feed, given_script, given_sender, given_size, refusal_of, sender_endings, shape_of};
 
 use crate::sending::{Feed, FeedsPromise, SendsPromise, Sent, send, send_by};
 use dr_graph::Graph;
 use dr_meaning::{Handler, MAX_LIMIT, Mode};
-use dr_senders::{Halter, Receiver, Sender, senders_ring};
+use dr_plain_senders::{Halter, Receiver, Sender, senders_ring};
 use dr_seq::{Event, Size};
 use dr_threads::{RunFault, Served, WaitStrategy, join, start, wait_for};
 use dr_workers::{Bell, Ended, Ringing};
@@ -24,10 +25,10 @@ use std::thread::{self, Promise, PromisedHandle, Threads, join_promised};
 const FIRST_SENDER: usize = 16;
 
 /// A run's halter, which wakes its threads.
-pub(crate) type LiveHalter = Ringing<Halter, Arc<Bell, Global>>;
+pub(crate) type LiveHalter = Ringing<Halter<Event>, Arc<Bell, Global>>;
 
 /// A handler's thread.
-pub(crate) type Worker<H> = dr_threads::Worker<Receiver, H>;
+pub(crate) type Worker<H> = dr_threads::Worker<Receiver<Event>, H>;
 
 /// The thread of a sender that sends a script.
 pub(crate) type Producer = PromisedHandle<Sent, SendsPromise>;
@@ -35,18 +36,25 @@ pub(crate) type Producer = PromisedHandle<Sent, SendsPromise>;
 /// The thread of a sender that a closure sends by.
 pub(crate) type Feeder<F> = PromisedHandle<Sent, FeedsPromise<F>>;
 
-/// The ends of a new ring for a graph, with as many handlers as it has and so many senders, and the bell that wakes
-/// those who park.
+/// The senders, the receivers and the halter of a run's ring, and the bell that wakes those who park.
+type Opened = (
+    Vec<Sender<Event>>,
+    Vec<Receiver<Event>>,
+    LiveHalter,
+    Arc<Bell, Global>,
+);
+
+/// A new ring for a graph, with as many handlers as it has and so many senders.
 pub(crate) fn open(
     alloc: Global,
     graph: &Graph,
     size: Size,
     handlers: usize,
     scripts: usize,
-) -> Result<(Vec<Sender>, Vec<Receiver>, LiveHalter, Arc<Bell, Global>), RunFault>
-    ensures fresh { IfOk result (λ r. AreFreshEnds (shape_of graph.now.upstreams size scripts) r.0.items r.1.items r.2) }
+) -> Result<Opened, RunFault>
+    ensures fresh { IfOk result (λ r. (strip : Ptr) × AreFreshEnds (shape_of graph.now.upstreams size scripts strip) r.0.items r.1.items r.2) }
     ensures ends { IfOk result (λ r. AreAllEnds r.0.items r.1.items r.2) }
-    ensures shape { IfOk result (λ _. IsShape (shape_of graph.now.upstreams size scripts)) }
+    ensures shape { IfOk result (λ _. (strip : Ptr) → IsShape (shape_of graph.now.upstreams size scripts strip)) }
     ensures many { IfOk result (λ r. (handlers ≡ length graph.now.upstreams) × (length r.1.items ≡ handlers) × (length r.0.items ≡ scripts)) }
     ensures few { IfOk result (λ _. scripts ≤ 16) }
     ensures fits { IfOk result (λ _. has_bad_producers (Multi scripts) ≡ false) }
@@ -64,8 +72,10 @@ pub(crate) fn open(
     }
     let bell = Arc::new(alloc, Bell::new())?;
     let theirs = Arc::try_clone(&bell)?;
-    let Ok((senders, receivers, halter)) = senders_ring(alloc, graph, size, MAX_LIMIT, scripts)
-    else {
+    let events = vec![in alloc; Event::NONE; size.get() as usize]?;
+    let Ok((senders, receivers, halter)) = senders_ring(
+        alloc, graph, size, MAX_LIMIT, scripts, events,
+    ) else {
         return Err(RunFault::Memory);
     };
     Ok((senders, receivers, Ringing::new(halter, theirs), bell))
@@ -75,7 +85,7 @@ pub(crate) fn open(
 fn start_senders<R: Threads + Wait + Copy + Send + 'static>(
     rt: R,
     started: &mut Vec<Producer>,
-    senders: Vec<Sender>,
+    senders: Vec<Sender<Event>>,
     scripts: Vec<Vec<Event>>,
     bell: &Arc<Bell, Global>,
     size: Size,
@@ -113,7 +123,7 @@ fn start_senders<R: Threads + Wait + Copy + Send + 'static>(
 fn start_feeds<R: Threads, F: Feed + Drop + Send + 'static>(
     rt: &R,
     started: &mut Vec<Feeder<F>>,
-    senders: Vec<Sender>,
+    senders: Vec<Sender<Event>>,
     feeds: Vec<F>,
     bell: &Arc<Bell, Global>,
 ) -> Result<(), AllocError>
@@ -175,7 +185,7 @@ pub(crate) fn begin<
     rt: R,
     alloc: Global,
     halter: &mut LiveHalter,
-    receivers: Vec<Receiver>,
+    receivers: Vec<Receiver<Event>>,
     handlers: Vec<H>,
     bell: &Arc<Bell, Global>,
     strategy: WaitStrategy,
@@ -197,7 +207,7 @@ pub(crate) fn send_all<R: Threads + Wait + Copy + Send + 'static>(
     rt: R,
     alloc: Global,
     halter: &mut LiveHalter,
-    senders: Vec<Sender>,
+    senders: Vec<Sender<Event>>,
     scripts: Vec<Vec<Event>>,
     bell: &Arc<Bell, Global>,
     size: Size,
@@ -221,7 +231,7 @@ pub(crate) fn feed_all<R: Threads, F: Feed + Drop + Send + 'static>(
     rt: &R,
     alloc: Global,
     halter: &mut LiveHalter,
-    senders: Vec<Sender>,
+    senders: Vec<Sender<Event>>,
     feeds: Vec<F>,
     bell: &Arc<Bell, Global>,
 ) -> Result<Vec<Sent>, AllocError>
@@ -243,7 +253,7 @@ pub(crate) fn joined<R: Threads, H: Handler<Event> + Drop>(
     rt: &R,
     halter: &mut LiveHalter,
     workers: Vec<Worker<H>>,
-) -> Result<Vec<Served<Receiver, H>>, AllocError>
+) -> Result<Vec<Served<Receiver<Event>, H>>, AllocError>
     ensures halts { HaltsOnly halter.old halter.new }
     ensures kept { IfOk result (λ served. AreKept H.goes workers.items served.items) }
 {
@@ -256,7 +266,7 @@ pub(crate) fn senders_apart(
     alloc: Global,
     sent: Vec<Sent>,
     endings: &mut Vec<Ended>,
-) -> Result<Vec<Sender>, AllocError>
+) -> Result<Vec<Sender<Event>>, AllocError>
     requires few { length sent.items ≤ 16 }
     ensures senders { IfOk result (λ senders. senders.items ≡ map (λ s. s.sender) sent.items) }
     ensures endings { OnOk result (endings.new.items ≡ endings.old.items ++ sender_endings 16 sent.items) }

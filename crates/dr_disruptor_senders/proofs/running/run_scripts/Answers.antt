@@ -1,12 +1,13 @@
 use Rattle.std.proofs.Common.{rules, ◌≡◌, ℕ, false, length, map, sym, subst, ◌∙◌, arith}
+use denote.RawPtr.{Ptr}
 use Rattle.std.specs.Prelude.{IfErr}
 use Rattle.std.specs.Global.{Vec}
 use lib.ListN.{length-map}
 use Rattle.dr_seq.specs.declared.event.Event.{Event}
 use Rattle.dr_meaning.specs.declared.mode.Mode.TheVariants.{Multi}
 use Rattle.dr_meaning.specs.Calls.OpenFault.{has_bad_producers}
-use Rattle.dr_senders.specs.Calls.Making.{AreFreshEnds}
-use Rattle.dr_senders.specs.Meaning.Shape.{IsShape}
+use Rattle.dr_plain_senders.specs.Calls.Making.{AreFreshEnds}
+use Rattle.dr_plain_senders.specs.Meaning.Shape.{IsShape}
 use Rattle.dr_threads.specs.declared.fault.RunFault.{RunFault}
 use Rattle.dr_disruptor_senders.specs.Running.{PublishesScript}
 use Rattle.dr_disruptor_senders.specs.Serving.{SendsScript, shape_of}
@@ -14,8 +15,8 @@ use Rattle.dr_disruptor_senders.proofs.Ready.{few_back, memory_is, ready, script
 use Rattle.dr_disruptor_senders.proofs.Settled.{came, tells_scripts, went_whole}
 use Rattle.dr_disruptor_senders.proofs.running.run_scripts.Goals as goal
 
-pub finish-requires-clause-ends : goal.finish-requires-clause-ends
-finish-requires-clause-ends g c =
+pub wind_up-requires-clause-ends : goal.wind_up-requires-clause-ends
+wind_up-requires-clause-ends g c =
     let made = c.in_ok-senders in
     let begun = c.in_ok-workers in
     let sent = c.send_all-sent in
@@ -23,8 +24,8 @@ finish-requires-clause-ends g c =
     ready (SendsScript c.args.size scripts) sent.result made.senders.items made.receivers.items begun.workers.items made.halter _ sent.new.halter
     (scripts_stay c.args.size scripts) sent.ensures.sent sent.ensures.halter begun.ensures.halter begun.ensures.ends made.ensures.ends
 
-pub finish-requires-clause-few : goal.finish-requires-clause-few
-finish-requires-clause-few g c =
+pub wind_up-requires-clause-few : goal.wind_up-requires-clause-few
+wind_up-requires-clause-few g c =
     let made = c.in_ok-senders in
     let sent = c.send_all-sent in
     let scripts = map (λ (s : Vec Event). s.items) c.args.scripts.items in
@@ -39,19 +40,24 @@ returns-clause-run g c =
     let sent = c.send_all-sent in
     let scripts = map (λ (s : Vec Event). s.items) c.args.scripts.items in
     let long : c.len-many.result ≡ length c.args.scripts.items = search rules in
-    let k = shape_of c.args.graph.now.upstreams c.args.size (length c.args.scripts.items) in
-    let shape : IsShape k = subst (λ (n : ℕ). IsShape (shape_of c.args.graph.now.upstreams c.args.size n)) long made.ensures.shape in
+    let strip : Ptr = made.ensures.fresh.0 in
+    let k = shape_of c.args.graph.now.upstreams c.args.size (length c.args.scripts.items) strip in
+    let shape : IsShape k = subst (λ (n : ℕ). IsShape (shape_of c.args.graph.now.upstreams c.args.size n strip)) long (made.ensures.shape strip) in
     let fresh : AreFreshEnds k made.senders.items made.receivers.items made.halter =
-    subst (λ (n : ℕ). AreFreshEnds (shape_of c.args.graph.now.upstreams c.args.size n) made.senders.items made.receivers.items made.halter) long made.ensures.fresh in
-    came g.H.Handler.goes k (SendsScript c.args.size scripts) (PublishesScript c.args.size scripts) c.args.handlers.items c.in_ok-ran.ran sent.result
-    made.senders.items made.receivers.items made.halter _ sent.new.halter begun.workers.items (tells_scripts k scripts) shape fresh begun.ensures.halter
-    begun.ensures.ends begun.ensures.starts sent.ensures.sent sent.ensures.halter c.in_ok-ran.ensures
+    subst (λ (n : ℕ). AreFreshEnds (shape_of c.args.graph.now.upstreams c.args.size n strip) made.senders.items made.receivers.items made.halter) long
+    made.ensures.fresh.1 in (
+      strip,
+      came g.H.Handler.goes k (SendsScript c.args.size scripts) (PublishesScript c.args.size scripts) c.args.handlers.items c.in_ok-ran.ran sent.result
+          made.senders.items made.receivers.items made.halter _ sent.new.halter begun.workers.items (tells_scripts k scripts) shape fresh begun.ensures.halter
+          begun.ensures.ends begun.ensures.starts sent.ensures.sent sent.ensures.halter c.in_ok-ran.ensures,
+    )
 
 pub returns-clause-whole : goal.returns-clause-whole
 returns-clause-whole g c =
     let scripts = map (λ (s : Vec Event). s.items) c.args.scripts.items in
-    let k = shape_of c.args.graph.now.upstreams c.args.size (length c.args.scripts.items) in
-    went_whole g.H.Handler.goes k scripts c.args.handlers.items c.in_ok-ran.ran (sym (length-map c.args.scripts.items (λ (s : Vec Event). s.items))) (returns-clause-run g c)
+    let run = returns-clause-run g c in
+    let k = shape_of c.args.graph.now.upstreams c.args.size (length c.args.scripts.items) run.0 in
+    went_whole g.H.Handler.goes k scripts c.args.handlers.items c.in_ok-ran.ran (sym (length-map c.args.scripts.items (λ (s : Vec Event). s.items))) run.1
 
 pub returns-clause-few : goal.returns-clause-few
 returns-clause-few g c =
@@ -66,3 +72,12 @@ returns-in_err-ran-clause-refused g c =
     let is = memory_is (length c.args.graph.now.upstreams) (length c.args.handlers.items) (length c.args.scripts.items) (sym given ∙ made.ensures.many.0)
     (subst (λ (n : ℕ). has_bad_producers (Multi n) ≡ false) long made.ensures.fits) in
     subst (λ (f : RunFault). IfErr c.from_residual-in_err-ran.result (λ e. e ≡ f)) (sym is) (search rules)
+
+pub returns-in_err-workers-clause-refused : goal.returns-in_err-workers-clause-refused
+returns-in_err-workers-clause-refused g c =
+    let made = c.in_ok-senders in
+    let given : c.len-given.result ≡ length c.args.handlers.items = search rules in
+    let long : c.len-many.result ≡ length c.args.scripts.items = search rules in
+    let is = memory_is (length c.args.graph.now.upstreams) (length c.args.handlers.items) (length c.args.scripts.items) (sym given ∙ made.ensures.many.0)
+    (subst (λ (n : ℕ). has_bad_producers (Multi n) ≡ false) long made.ensures.fits) in
+    subst (λ (f : RunFault). IfErr c.from_residual-in_err-workers.result (λ e. e ≡ f)) (sym is) (search rules)
