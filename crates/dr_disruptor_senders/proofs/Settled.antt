@@ -267,6 +267,7 @@ module _ {A : Type 0} (goes : Relation Event A) (k : Shape) (sends more : ℕ �
     halter = joined.after;
     halts = subst (λ (e : HalterStand Event). HaltsOnly e joined.after)
         (fresh.halter ∙ ap (λ (r : TableId). at_ring r k record { looks = [] }) same_ring) joined.halts;
+    ends = joined.ends;
     run = joined.run;
     many = many_senders;
     sending = λ p inside. let x = sender_place p inside in (x.back, x.at_back, tells ring p x.back x.sending (rises p x) (out p x), out p x);

@@ -28,7 +28,7 @@ use Rattle.dr_disruptor_senders.specs.Serving.{AreKept, HaltsOnly, Sending, Serv
 
 -- what came of a run over a ring
 abbrev pub Ran : Type 0 → Type 0
-Ran A = threads.Ran A Settled
+Ran A = threads.Ran A (Settled Event)
 
 -- the events of those of a sender's own sequences that are published, in their order
 abbrev pub events_of : SenderEnd Event → List Event
@@ -45,6 +45,12 @@ new_sender ring k p = sender_at ring k (fresh_sender p)
 abbrev pub new_receiver : TableId → Shape → ℕ → ReceiverEnd Event
 new_receiver ring k h = receiver_at ring k (fresh_receiver h)
 
+-- the ends that came together are these
+pub record AreSettled {A : Type 0} (ran : Ran A) (ss : List (SenderEnd Event)) (rs : List (ReceiverEnd Event)) (t : HalterStand Event) : Type 0 where
+  pub senders : ran.settled.senders.value.items ≡ ss
+  pub receivers : ran.settled.receivers.value.items ≡ rs
+  pub halter : ran.settled.halter.value ≡ t
+
 -- what came of a new ring of this shape, where this is so of the place of each sender, of the sender, and of what the thread that sent by it gave back
 pub record IsRanOver {A : Type 0} (sends : ℕ → SenderEnd Event → Sent → Type 0) (goes : Relation Event A) (k : Shape) (starts : List A)
     (ran : Ran A) : Type 0 where
@@ -53,7 +59,8 @@ pub record IsRanOver {A : Type 0} (sends : ℕ → SenderEnd Event → Sent → 
   pub served : List (Served A)
   pub halter : HalterStand Event
   pub halts : HaltsOnly (at_ring halter.ring k record { looks = [] }) halter
-  -- one run came to all of them, and so far
+  -- they are the ends that came together at last, and one run came to all of them
+  pub ends : AreSettled ran (map (λ s. s.sender) senders) (map (λ s. s.outlet) served) halter
   pub run : HasRun (map (λ s. s.sender) senders) (map (λ s. s.outlet) served) halter ran.settled.claimed ran.settled.is_halted
   -- it is so of each new sender, and all that it claimed is published
   pub many : length senders ≡ k.senders
@@ -89,6 +96,7 @@ pub record IsJoined {A : Type 0} (goes : Relation Event A) (workers : List (Work
   pub kept : AreKept goes workers served
   pub after : HalterStand Event
   pub halts : HaltsOnly halter after
+  pub ends : AreSettled ran (map (λ s. s.sender) sent) (map (λ s. s.outlet) served) after
   pub run : HasRun (map (λ s. s.sender) sent) (map (λ s. s.outlet) served) after ran.settled.claimed ran.settled.is_halted
   pub counts : ran.settled.handlers.items ≡ map (λ e. handler_counts e.knows) (map (λ s. s.outlet) served)
   pub handlers : ran.handlers.items ≡ map (λ s. s.handler) served

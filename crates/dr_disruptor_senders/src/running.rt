@@ -26,7 +26,7 @@ use std::thread::Threads;
 
 /// What came of a run: with the handlers how many events were claimed, all of which were published, how far each
 /// handler came, and how each worker ended, the senders' last, in the order of their scripts or closures.
-pub type Ran<H> = dr_threads::Ran<H, Settled>;
+pub type Ran<H> = dr_threads::Ran<H, Settled<Event>>;
 
 // Halts the ring, joins the handlers' threads, and brings all ends together; the events that come back are dropped. It
 // halts and joins also where memory ran out.

@@ -39,6 +39,11 @@ returns g c =
       kept = c.in_ok-served.ensures.kept;
       after = c.joined.new.halter;
       halts = c.joined.ensures.halts;
+      ends = record {
+        senders = settled.ensures.ends.0 ∙ c.in_ok-senders.ensures.senders;
+        receivers = settled.ensures.ends.1 ∙ back.ensures.outlets;
+        halter = settled.ensures.ends.2 ∙ c.into_end.ensures;
+      };
       run = same_run c.in_ok-senders.senders.items (map (λ b. b.sender) sent.items) back.field-0.outlets.items (map (λ b. b.outlet) served) c.into_end.result
           c.joined.new.halter settled.result.0.claimed settled.result.0.is_halted c.in_ok-senders.ensures.senders back.ensures.outlets c.into_end.ensures
           settled.ensures.run;
