@@ -14,7 +14,7 @@
 The others are the rings of bench/plain/exchanges, which `rustc` builds, and LMAX's own, where `javac` and
 the library are there (Debian's package libdisruptor-java; `--lmax JAR` names another place): `lmax` claims
 by `next`, which parks where there is no room, and `lmax-try` by `tryNext`, again and again. On threads
-`ours` is the ring over words, `memory` the one over plain memory, and `c` the rings of words from C, where
+`ours` is the ring over words, `memory` that over plain memory, and `c` the rings of words from C, where
 `--library FOLDER` names what `make lib` left. All run in turns, `--turns N` times (three without it), each
 for `--rounds N` rounds of `--seconds S`, of which the one in the middle counts; the best of a program's
 turns is taken. `--under WORDS` starts each run by these words, as 'chrt -r 10' (other work on the machine
@@ -144,8 +144,8 @@ def producers(programs):
 
 
 def senders(programs):
-    """The ring with several senders beside plain words, and LMAX's with several producers."""
-    kinds = programs.of(("ours", "c", "words", "channel", "lmax", "lmax-try"))
+    """The rings with several senders beside plain words, and LMAX's with several producers."""
+    kinds = programs.of(("ours", "memory", "c", "words", "channel", "lmax", "lmax-try"))
     print_head(["senders", "events a claim"] + kinds)
     for count in (1, 2, 3, 4, 8, 16):
         for claim in (1, 10, 100):
@@ -156,11 +156,7 @@ def languages(programs):
     """What a call from C costs, beside what other programs have."""
     kinds = programs.of(("ours", "memory", "c", "channel", "lmax", "lmax-try"))
     print_head(["topology"] + kinds)
-    for topology in ("unicast", "unicast-b10", "diamond", "diamond-b10"):
-        print_row(topology, programs, kinds, topology, 1024)
-    kinds = [kind for kind in kinds if kind != "memory"]
-    print_head(["topology"] + kinds)
-    for topology in ("senders3-unicast", "senders3-unicast-b10"):
+    for topology in ("unicast", "unicast-b10", "diamond", "diamond-b10", "senders3-unicast", "senders3-unicast-b10"):
         print_row(topology, programs, kinds, topology, 1024)
 
 
