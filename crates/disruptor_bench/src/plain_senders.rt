@@ -56,7 +56,12 @@ fn join_senders(rt: &impl Threads, producers: Vec<Producer>) -> Result<u64, Faul
 }
 
 /// Sends a stretch from each sender, and answers how many events there were.
-fn send_all(rt: &impl Threads, alloc: Global, senders: Vec<Sender<Two>>, n: u64) -> Result<u64, Fault> {
+fn send_all(
+    rt: &impl Threads,
+    alloc: Global,
+    senders: Vec<Sender<Two>>,
+    n: u64,
+) -> Result<u64, Fault> {
     let producers = start_senders(rt, alloc, senders, n)?;
     join_senders(rt, producers)
 }
@@ -127,7 +132,14 @@ fn ends(
 ) -> Result<(Vec<Sender<Two>>, Vec<Receiver<Two>>, Halter<Two>), Fault> {
     let graph = order.topology.shape.graph(alloc)?;
     let events = vec![in alloc; Two::at(0); order.size.get() as usize]?;
-    Ok(senders_ring(alloc, &graph, order.size, MAX_LIMIT, senders as usize, events)?)
+    Ok(senders_ring(
+        alloc,
+        &graph,
+        order.size,
+        MAX_LIMIT,
+        senders as usize,
+        events,
+    )?)
 }
 
 /// A round from the first sender's start until the last handler has drained the ring.
