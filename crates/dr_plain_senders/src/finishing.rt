@@ -124,9 +124,9 @@ fn gather_receivers<T>(
     }
 }
 
-/// Brings all ends of a ring together, and gives its events back: of each cell what was last written
-/// there, or what the ring began with. Each is there once, whatever the ends had in hand. They may
-/// be used, and are dropped with the answer. It takes no memory, looks once at the claim word, and
+/// Brings all ends of a ring together, and gives its events back, one for each cell, whatever the ends
+/// had in hand: where the cell's last sequence is published what was published, and where it is
+/// claimed alone what its sender has there. They may be used, and are dropped with the answer. It takes no memory, looks once at the claim word, and
 /// never fails.
 ///
 /// There is one run of all ends that came to what they know, in which each end stored exactly what

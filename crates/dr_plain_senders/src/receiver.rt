@@ -101,7 +101,8 @@ impl<T> Receiver<T> {
         Some(self.station.read(sequence, &self.parts))
     }
 
-    /// How many words the receiver has loaded that other ends store, up to the greatest `u64`.
+    /// How many words the receiver has loaded that other ends store, marks aside, up to the greatest
+    /// `u64`.
     pub fn looks(&self) -> u64
         ensures { result ≡ looks_counted self.now.knows.looks }
     {

@@ -69,7 +69,8 @@ impl<T> Sender<T> {
         self.station.halt();
     }
 
-    /// How many words the sender has loaded that other ends change, up to the greatest `u64`.
+    /// How many words the sender has loaded that other ends change, marks aside, up to the greatest
+    /// `u64`.
     pub fn looks(&self) -> u64
         ensures { result ≡ looks_counted self.now.knows.looks }
     {

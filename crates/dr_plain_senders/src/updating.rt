@@ -10,8 +10,9 @@ use dr_meaning::Refusal;
 
 impl<T> Sender<T> {
     /// Changes the event of a sequence that this sender claimed and has not published where it lies,
-    /// and so writes it: `change` finds what was written there before, or what an earlier sequence
-    /// left in the cell. Nothing is moved.
+    /// and so writes it: `change` finds what was written there before, and at first an event of the
+    /// ring, as you read in the code the one that an earlier sequence left in the cell. Nothing is
+    /// moved.
     ///
     /// Refusals in their order: `NotClaimed` (nobody's), `AlreadyPublished`, `NotClaimed` (another
     /// sender's). They change nothing.
