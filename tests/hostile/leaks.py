@@ -16,8 +16,9 @@ import sys
 from refused import CALLS, TAKING_NONE
 
 LOST = 99
-# A ring over plain memory keeps its events where its ends are dropped, and `finish` does not bring them together.
-KEEPING = {"plain", "plain-ends", "plain-senders-ends"}
+# A ring over plain memory with several senders keeps its events where its ends are dropped, and `finish` does not bring them
+# together.
+KEEPING = {"plain-senders-ends"}
 VALGRIND = ["valgrind", "--quiet", "--leak-check=full", "--errors-for-leak-kinds=definite,possible", f"--error-exitcode={LOST}"]
 
 

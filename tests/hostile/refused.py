@@ -20,7 +20,7 @@ from collections import Counter, namedtuple
 from run import HERE, NO_MEMORY, WAYS, Ran, merged_like
 
 # The calls of the library, and those of them that take no memory once something is open.
-CALLS = ("builder", "build", "open", "record", "ring", "plain", "plain-senders", "run", "call", "audit")
+CALLS = ("builder", "build", "open", "record", "ring", "plain", "plain-dropped", "plain-senders", "run", "call", "audit")
 TAKING_NONE = ("core", "many", "ends", "plain-ends", "plain-senders-ends", "settled", "kept", "parts")
 
 DIAMOND = """ring,2,single

@@ -7,6 +7,7 @@ use crate::core_calls::{tell_opened, tell_run};
 use crate::fault::Fault;
 use crate::parts::tell_parts;
 use crate::plain_calls::{tell_plain, tell_plain_ends};
+use crate::plain_dropping::tell_plain_dropped;
 use crate::plain_senders_calls::tell_plain_senders_ends;
 use crate::plain_senders_making::tell_plain_senders;
 use crate::recording::{tell_calls, tell_recorded};
@@ -27,6 +28,8 @@ pub enum Case {
     Ring,
     /// A ring over plain memory.
     Plain,
+    /// Rings over plain memory whose ends are dropped, one by one.
+    PlainDropped,
     /// One with several senders, over events of which each is dropped once.
     PlainSenders,
     /// `run`, at a gap between two producers.
@@ -52,13 +55,14 @@ pub enum Case {
 }
 
 impl Case {
-    pub const ALL: [Case; 18] = [
+    pub const ALL: [Case; 19] = [
         Case::Builder,
         Case::Build,
         Case::Open,
         Case::Record,
         Case::Ring,
         Case::Plain,
+        Case::PlainDropped,
         Case::PlainSenders,
         Case::Run,
         Case::Call,
@@ -82,6 +86,7 @@ impl Case {
             Case::Record => "record",
             Case::Ring => "ring",
             Case::Plain => "plain",
+            Case::PlainDropped => "plain-dropped",
             Case::PlainSenders => "plain-senders",
             Case::Run => "run",
             Case::Call => "call",
@@ -116,6 +121,7 @@ fn tell_once<R: Print>(rt: &R, alloc: Global, case: Case) -> Result<(), Fault> {
         Case::Record => tell_recorded(rt, alloc),
         Case::Ring => tell_ring(rt, alloc),
         Case::Plain => tell_plain(rt, alloc),
+        Case::PlainDropped => tell_plain_dropped(rt, alloc),
         Case::PlainSenders => tell_plain_senders(rt, alloc),
         Case::Run => tell_run(rt, alloc),
         Case::Call => tell_calls(rt, alloc),

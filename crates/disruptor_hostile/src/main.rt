@@ -13,6 +13,7 @@ mod fault;
 mod graphs;
 mod parts;
 mod plain_calls;
+mod plain_dropping;
 mod plain_senders_calls;
 mod plain_senders_making;
 mod recording;

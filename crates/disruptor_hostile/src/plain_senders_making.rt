@@ -37,12 +37,12 @@ pub fn opened<T: Drop>(alloc: Global, graph: &Graph, events: Vec<T>) -> Result<E
 
 /// An event that has a part in a number, in which nobody else has one but who keeps the numbers.
 #[derive(Drop)]
-struct Counted {
+pub struct Counted {
     number: Arc<u64>,
 }
 
 /// The numbers of four events.
-fn four_numbers(alloc: Global) -> Result<Vec<Arc<u64>>, AllocError> {
+pub fn four_numbers(alloc: Global) -> Result<Vec<Arc<u64>>, AllocError> {
     let mut numbers = Vec::new(alloc);
     for number in 4..8u64 {
         numbers.push(Arc::new(alloc, number)?)?;
@@ -56,7 +56,7 @@ fn event_of(number: &Arc<u64>) -> Result<Counted, AllocError> {
 }
 
 /// An event for each number.
-fn events_of(alloc: Global, numbers: &[Arc<u64>]) -> Result<Vec<Counted>, AllocError> {
+pub fn events_of(alloc: Global, numbers: &[Arc<u64>]) -> Result<Vec<Counted>, AllocError> {
     let mut events = Vec::new(alloc);
     for number in numbers {
         events.push(event_of(number)?)?;
@@ -65,7 +65,7 @@ fn events_of(alloc: Global, numbers: &[Arc<u64>]) -> Result<Vec<Counted>, AllocE
 }
 
 /// Whether each event was dropped once.
-fn are_dropped(numbers: &[Arc<u64>]) -> bool {
+pub fn are_dropped(numbers: &[Arc<u64>]) -> bool {
     for number in numbers {
         if Arc::strong_count(number) != 1 {
             return false;
