@@ -75,7 +75,7 @@ fn gather<T: Drop>(
 {
     while let Some(receiver) = receivers.pop() {
         let place = receivers.len();
-        let (_own, _number, left) = receiver.into_left();
+        let (_, _, left) = receiver.into_left();
         receive(&ring.table.shared, seat, left, place, counts, hands);
     }
 }
@@ -128,7 +128,7 @@ pub fn finish<T: Drop>(
     ensures events { map (λ event. Some event) result.1 ≡ sender.cells }
 {
     let (ring, sends) = sender.into_left();
-    let (_own, halts) = halter.into_left();
+    let (_, halts) = halter.into_left();
     let mut seat = sends.seat;
     let mut counts = sends.counts;
     let mut hands = sends.hands;
