@@ -1,6 +1,9 @@
 -- The ends that come together, by what each has: in the views of their seats, and in what they keep.
-use Rattle.std.proofs.Common.{◌≡◌, ℕ, ◌+◌, ◌-◌, ◌≤◌, List, [], ◌++◌, map, length, Option, ap, sym, subst, arith, ◌∙◌}
+use Rattle.std.proofs.Common.{◌≡◌, ℕ, ◌+◌, ◌-◌, ◌≤◌, List, [], ◌∷◌, ◌++◌, map, length, Option, refl, ap, sym, subst, arith, ◌∙◌}
+use mathlib.Core.Option.{some}
+use lib.ListN.{get_elem?}
 use Rattle.atomic_table.specs.Seated.{TableId}
+use Rattle.atomic_table.proofs.Lists.{at_last}
 use Rattle.dr_cells.specs.declared.token.Token.{Token}
 use Rattle.dr_runs.specs.declared.view.View.{View}
 use Rattle.dr_runs.specs.declared.written.Written.{Written}
@@ -22,11 +25,24 @@ use Rattle.dr_plain.specs.Inside.Views.{sender_end, receiver_end}
 use Rattle.dr_plain.specs.Inside.Fits.{SenderFields, SenderFits, TokensFit}
 use Rattle.dr_plain.specs.Inside.Gathering.{sender_known, receiver_known, halter_known}
 use Rattle.dr_plain.specs.Inside.Finishing.{first_lent, left_of, HasAllEnds, AreHandsOf, AreKept, AreLanes}
+use Rattle.dr_plain.specs.Inside.Leaving.{BelongsSender}
 use Rattle.dr_plain.proofs.Gathering.{Together, all_stand}
 use Rattle.dr_plain.proofs.Ending.{own_sender, own_halter}
 use Rattle.dr_plain.proofs.Handed.{lanes_of}
 
+-- what holds of each element holds of the last
+pub last_one : {A : Type 0} (P : ℕ → A → Type 0) (all left : List A) (x : A) → ((i : ℕ) (y : A) → get_elem? all i ≡ some y → P i y) → all ≡ left ++ x ∷ []
+    → P (length left) x
+last_one P all left x each popped =
+    each (length left) x (subst (λ (xs : List _). get_elem? xs (length left) ≡ some x) (sym popped) (at_last left x (length left) refl))
+
 module _ {T : Type 0} where
+  -- the last of what senders left, by what the places were told, belongs to the ring
+  pub last_sender : (ring at : TableId) (k plan : Shape) (all left : List (SenderEnd T)) (e : SenderEnd T)
+      → ((i : ℕ) (x : SenderEnd T) → get_elem? all i ≡ some x → BelongsSender ring k x) → all ≡ left ++ e ∷ [] → ring ≡ at → k ≡ plan → BelongsSender at plan e
+  last_sender ring at k plan all left e each popped same made = subst (λ (x : TableId × Shape). BelongsSender x.0 x.1 e) (λ i. (same i, made i))
+      (last_one (λ _ (x : SenderEnd T). BelongsSender ring k x) all left e each popped)
+
   -- an end's own seat has it in its view
   pub sender_in : (ring : TableId) (me : Sitting T) (w : Written) (cells : List (Option T)) (s : SenderEnd T) → IsSender (end_of me)
       → sender_end (sender_stand ring me) w cells ≡ s → IsInView ring_ends me.0 (sender_known s)
