@@ -21,7 +21,7 @@ impl Belongs<u64> for Numbered {
 }
 
 /// The number, with a part in what is held.
-pub fn numbered(number: u64, held: &Arc<u64>) -> Result<Numbered, AllocError>
+pub fn make_numbered(number: u64, held: &Arc<u64>) -> Result<Numbered, AllocError>
     ensures { IfOk result (λ it. it.number ≡ number) }
 {
     let held = Arc::try_clone(held)?;
@@ -39,9 +39,9 @@ pub fn three_places(alloc: Global) -> Result<Places<Numbered, u64>, AllocError>
 fn all_that_is_left_comes_out_from_the_last_on(rt: HostRuntime) -> Result<(), Fail> {
     let held = Arc::new(rt.alloc(), 0u64)?;
     let places = three_places(rt.alloc())?;
-    assert!(rt; places.leave(1, numbered(8, &held)?).is_ok());
-    assert!(rt; places.leave(0, numbered(7, &held)?).is_ok());
-    assert!(rt; places.leave(2, numbered(9, &held)?).is_ok());
+    assert!(rt; places.leave(1, make_numbered(8, &held)?).is_ok());
+    assert!(rt; places.leave(0, make_numbered(7, &held)?).is_ok());
+    assert!(rt; places.leave(2, make_numbered(9, &held)?).is_ok());
     assert!(rt; Arc::strong_count(&held) == 4);
     let Some(mut all) = places.close() else {
         return Err(Fail::from("a place is empty"));
@@ -57,8 +57,8 @@ fn all_that_is_left_comes_out_from_the_last_on(rt: HostRuntime) -> Result<(), Fa
 fn what_lies_beside_an_empty_place_is_dropped(rt: HostRuntime) -> Result<(), Fail> {
     let held = Arc::new(rt.alloc(), 0u64)?;
     let places = three_places(rt.alloc())?;
-    assert!(rt; places.leave(2, numbered(9, &held)?).is_ok());
-    assert!(rt; places.leave(0, numbered(7, &held)?).is_ok());
+    assert!(rt; places.leave(2, make_numbered(9, &held)?).is_ok());
+    assert!(rt; places.leave(0, make_numbered(7, &held)?).is_ok());
     assert!(rt; places.close().is_none() && Arc::strong_count(&held) == 1);
     Ok(())
 }
@@ -67,8 +67,8 @@ fn what_lies_beside_an_empty_place_is_dropped(rt: HostRuntime) -> Result<(), Fai
 fn the_first_in_a_place_stays(rt: HostRuntime) -> Result<(), Fail> {
     let held = Arc::new(rt.alloc(), 0u64)?;
     let places = three_places(rt.alloc())?;
-    assert!(rt; places.leave(0, numbered(7, &held)?).is_ok());
-    let back = places.leave(0, numbered(7, &held)?);
+    assert!(rt; places.leave(0, make_numbered(7, &held)?).is_ok());
+    let back = places.leave(0, make_numbered(7, &held)?);
     assert!(rt; back.is_err() && Arc::strong_count(&held) == 3);
     drop(back);
     drop(places);

@@ -2,7 +2,7 @@
 
 ghost use Rattle.std.specs.Prelude.{◌≡◌};
 
-use crate::leaving::{Numbered, numbered, three_places};
+use crate::leaving::{Numbered, make_numbered, three_places};
 use dr_places::Places;
 use std::sync::Arc;
 use std::test::Fail;
@@ -24,8 +24,8 @@ fn leave_second(places: &Places<Numbered, u64>, it: Numbered) -> bool
 fn each_thread_leaves_its_own(rt: HostRuntime) -> Result<(), Fail> {
     let held = Arc::new(rt.alloc(), 0u64)?;
     let places = three_places(rt.alloc())?;
-    let first = numbered(7, &held)?;
-    let second = numbered(8, &held)?;
+    let first = make_numbered(7, &held)?;
+    let second = make_numbered(8, &held)?;
     let both = join(
         &rt,
         || -> bool
@@ -36,7 +36,7 @@ fn each_thread_leaves_its_own(rt: HostRuntime) -> Result<(), Fail> {
         { leave_second(&places, second) },
     );
     assert!(rt; both == (true, true) && Arc::strong_count(&held) == 3);
-    assert!(rt; places.leave(2, numbered(9, &held)?).is_ok());
+    assert!(rt; places.leave(2, make_numbered(9, &held)?).is_ok());
     let Some(all) = places.close() else {
         return Err(Fail::from("a place is empty"));
     };
