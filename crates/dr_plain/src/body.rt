@@ -3,9 +3,9 @@
 ghost use Rattle.std.specs.Prelude.{◌≡◌};
 ghost use Rattle.dr_plain.specs.Meaning.Shape.{handlers_of};
 
-use crate::over::end;
 use crate::laws::{RingTable, Words};
 use crate::left::{HalterLeft, ReceiverLeft, SenderLeft};
+use crate::over::end;
 use crate::plan::Plan;
 use dr_places::Places;
 

@@ -7,8 +7,8 @@ ghost use Rattle.std.specs.Prelude.{◌≡◌};
 ghost use Rattle.dr_plain.specs.Calls.Ends.{HasStored};
 ghost use Rattle.dr_plain.specs.Inside.Leaving.{BelongsHalter};
 
-use super::plays::Halt;
 use super::RingSeat;
+use super::plays::Halt;
 use crate::body::RingBody;
 use crate::left::HalterLeft;
 use dr_runs::HALT_WORD;
