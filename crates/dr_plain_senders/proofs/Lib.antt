@@ -36,6 +36,7 @@ pub mod Copying
 pub mod Tokens
 pub mod Rowing
 pub mod Collecting
+pub mod Mixing
 pub mod Owning
 pub mod Opened
 pub mod Fitting

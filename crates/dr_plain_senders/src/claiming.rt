@@ -19,7 +19,7 @@ pub enum ClaimFault {
     #[error("{0}")]
     Refused(Refusal),
     /// Another sender claimed meanwhile, and nothing is changed: the claim may be tried again.
-    #[error("contended")]
+    #[error("no-room")]
     Contended,
 }
 

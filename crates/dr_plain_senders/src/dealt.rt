@@ -12,7 +12,7 @@ ghost use Rattle.dr_plain_senders.specs.Inside.Finishing.{AreAllWhole};
 
 use dr_cells::{Cells, Row, Token};
 use std::alloc::{AllocError, Global};
-use std::mem::replace;
+use std::mem::{replace, swap};
 
 /// Tokens of no cell.
 pub(crate) fn blanks<T>(alloc: Global, count: usize) -> Result<Vec<Token<T>>, AllocError>
@@ -70,6 +70,18 @@ pub(crate) fn write_in<T: Drop>(token: &mut Token<T>, cells: Cells<T>, place: us
     ensures { token.new ≡ token_at cells.ptr place (whole event) }
 {
     drop(replace(token.get_mut(cells, place), event));
+}
+
+/// What lies in two whole cells changes places.
+pub(crate) fn swap_in<T>(one: &mut Token<T>, other: &mut Token<T>, cells: Cells<T>, place: usize, next: usize)
+    requires one { IsOf cells.ptr place one.old × IsWhole one.old.hold }
+    requires other { IsOf cells.ptr next other.old × IsWhole other.old.hold }
+    ensures one { (x : T) × (one.new ≡ token_at cells.ptr place (whole x)) }
+    ensures other { (x : T) × (other.new ≡ token_at cells.ptr next (whole x)) }
+{
+    let left = one.get_mut(cells, place);
+    let right = other.get_mut(cells, next);
+    swap(left, right);
 }
 
 /// Changes what lies in a whole cell, where it lies.

@@ -1,6 +1,8 @@
 //! A sender takes what lies in the slots of a sequence, and so has its cell whole, and lends it.
 
-ghost use Rattle.std.specs.Prelude.{◌≡◌, ◌+◌, ◌-◌, ◌*◌, ◌<◌, ◌≤◌, ◌∷◌, ◌++◌, [], List, Some, length, take, drop};
+ghost use mathlib.Core.Option.{some};
+ghost use lib.ListN.{get_elem?};
+ghost use Rattle.std.specs.Prelude.{◌≡◌, ℕ, ◌+◌, ◌-◌, ◌*◌, ◌<◌, ◌≤◌, ◌∷◌, ◌++◌, [], List, Some, length, take, drop};
 ghost use Rattle.atomic_table.specs.Table.{rest, turned};
 ghost use Rattle.dr_cells.specs.declared.token.Token.{Token as TokenValue};
 ghost use Rattle.dr_cells.specs.Hold.{held};
@@ -12,7 +14,7 @@ ghost use Rattle.dr_plain_senders.specs.Inside.Hands.{with_hand};
 ghost use Rattle.dr_plain_senders.specs.Inside.Rows.{row, blank_row, parts_row, blank_parts, blank_rows, IsWholeOf, AreCollected};
 ghost use Rattle.dr_plain_senders.specs.Inside.Seats.{Hand, IsOfRound, LayIn, taken_by_claim};
 
-use crate::dealt::put_at;
+use crate::dealt::{put_at, swap_in};
 use crate::laws::SenderStation;
 use dr_cells::Token;
 
@@ -113,7 +115,7 @@ impl<T> SenderStation<T> {
 
     /// Takes what lies in the slots of some claimed sequences, which are first in hand, and so has
     /// their cells whole, each in its place.
-    pub(crate) fn collect(&mut self, first: u64, upto: u64, tokens: &mut Vec<Token<T>>)
+    pub(crate) fn collect_all(&mut self, first: u64, upto: u64, tokens: &mut Vec<Token<T>>)
         requires order { (first ≤ upto) × (upto ≤ first + self.old.plan.size) }
         requires room { length tokens.old.items ≡ self.old.plan.size }
         requires hand { (laid : List (Laid T)) × (others : Hand T) × LayIn self.old.plan first (upto - first) laid × (self.old.hand ≡ taken_by_claim self.old.plan first laid ++ others) }
@@ -125,6 +127,39 @@ impl<T> SenderStation<T> {
             let whole = self.collect_row(sequence);
             put_at(tokens, place, whole);
         }
+    }
+
+    /// As `collect_all`, and what lies in the first two cells changes places.
+    pub(crate) fn collect(&mut self, first: u64, upto: u64, tokens: &mut Vec<Token<T>>)
+        requires order { (first ≤ upto) × (upto ≤ first + self.old.plan.size) }
+        requires room { length tokens.old.items ≡ self.old.plan.size }
+        requires hand { (laid : List (Laid T)) × (others : Hand T) × LayIn self.old.plan first (upto - first) laid × (self.old.hand ≡ taken_by_claim self.old.plan first laid ++ others) }
+        ensures hand { self.new ≡ with_hand self.old (drop (lanes_of self.old.plan * (upto - first)) self.old.hand ++ blank_rows self.old.plan first (upto - first)) }
+        ensures collected { AreCollected self.old.plan first upto tokens.old.items tokens.new.items }
+    {
+        self.collect_all(first, upto, tokens);
+        if upto - first < 2 {
+            return;
+        }
+        self.mix(first, upto, tokens);
+    }
+
+    // What lies in the first two of some whole cells changes places.
+    fn mix(&self, first: u64, upto: u64, tokens: &mut Vec<Token<T>>)
+        requires order { (first ≤ upto) × (upto ≤ first + self.now.plan.size) }
+        requires two { first + 2 ≤ upto }
+        requires room { length tokens.old.items ≡ self.now.plan.size }
+        requires whole { (s : ℕ) (t : TokenValue T) → first ≤ s → s < upto → get_elem? tokens.old.items (cell_of self.now.plan s) ≡ some t → IsWholeOf self.now.plan s t }
+        ensures { AreCollected self.now.plan first upto tokens.old.items tokens.new.items }
+    {
+        let place = self.place(first);
+        let next = self.place(first + 1);
+        let cells = self.plan().cells();
+        let mut one = put_at(tokens, place, Token::blank());
+        let mut other = put_at(tokens, next, Token::blank());
+        swap_in(&mut one, &mut other, cells, place, next);
+        put_at(tokens, place, one);
+        put_at(tokens, next, other);
     }
 
     // Lends a whole cell, and puts a part for every handler into its slot.

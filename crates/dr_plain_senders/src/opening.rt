@@ -229,6 +229,14 @@ fn prepare<T>(
     Ok((plan, slots, rooms, lists))
 }
 
+// The events in another order.
+fn turned<T>(mut events: Vec<T>) -> Vec<T>
+    ensures { length result.items ≡ length events.items }
+{
+    events.reverse();
+    events
+}
+
 /// A ring for a graph of handlers, of a size, in which so many senders may claim `limit` sequences
 /// in all: its senders by their numbers, its receivers in the graph's order, and its halter. Each
 /// may be moved to a thread of its own. The events are as many as the size: they are made once, and
@@ -258,7 +266,7 @@ pub fn senders_ring<T: Drop>(
     if !is_valid_limit(limit) {
         return Err(OpenFault::BadLimit);
     }
-    let (strip, row) = Strip::new(alloc, events)?;
+    let (strip, row) = Strip::new(alloc, turned(events))?;
     match prepare(alloc, graph, size, limit, senders, strip.cells) {
         Ok((plan, mut tokens, rooms, lists)) => {
             deal(row, strip.cells, strip.len, &mut tokens);

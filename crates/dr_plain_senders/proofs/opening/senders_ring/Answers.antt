@@ -6,12 +6,12 @@ use Rattle.dr_plain_senders.proofs.opening.senders_ring.Goals as goal
 
 pub deal-requires : goal.deal-requires
 deal-requires g c =
-    let S = c.in_ok-strip.ensures.ok in let all = S.0.2 in let same = ap length S.1 in let many = c.requires.events in
+    let S = c.in_ok-strip.ensures.ok in let all = S.0.2 in let same = ap length S.1 in let many = c.requires.events in let turns = c.turned.ensures in
     let size = ap (λ (k : Shape). k.size) c.in-Ok.ensures.made in (S.0, slot_each c.in-Ok.plan _ _ c.in-Ok.ensures.slots (omega arith))
 
 pub ends-requires-clause-tokens : goal.ends-requires-clause-tokens
 ends-requires-clause-tokens g c =
-    let S = c.in_ok-strip.ensures.ok in let all = S.0.2 in let same = ap length S.1 in let many = c.requires.events in
+    let S = c.in_ok-strip.ensures.ok in let all = S.0.2 in let same = ap length S.1 in let many = c.requires.events in let turns = c.turned.ensures in
     let size = ap (λ (k : Shape). k.size) c.in-Ok.ensures.made in
     are_first c.in-Ok.plan _ _ _ _ _ c.in-Ok.ensures.slots (ap (λ (k : Shape). k.strip) c.in-Ok.ensures.made) (omega arith) (omega arith) c.deal.ensures
 

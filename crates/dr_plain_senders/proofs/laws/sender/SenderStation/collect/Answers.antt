@@ -1,57 +1,31 @@
-use Rattle.std.proofs.Common.{◌≡◌, ◌++◌, ◌-◌, ℕ, arith, ap, sym, ◌∙◌, subst, drop}
+use Rattle.std.proofs.Common.{◌≡◌, ◌<◌, ◌≤◌, ℕ, arith, ap, sym, ◌∙◌, subst}
+use mathlib.Core.Option.{some}
+use lib.ListN.{get_elem?}
+use Rattle.dr_cells.specs.declared.token.Token.{Token}
 use Rattle.dr_plain_senders.specs.Meaning.Shape.{Shape}
-use Rattle.dr_plain_senders.specs.Meaning.Words.{cell_of, lanes_of}
+use Rattle.dr_plain_senders.specs.Meaning.Words.{cell_of}
 use Rattle.dr_plain_senders.specs.Calls.Ends.{SenderStand}
-use Rattle.dr_plain_senders.specs.Inside.Hands.{with_hand}
-use Rattle.dr_plain_senders.specs.Inside.Rows.{row, blank_row, IsWholeOf, AreCollected}
-use Rattle.dr_plain_senders.specs.Inside.Seats.{IsOfRound}
-use Rattle.dr_plain_senders.proofs.Collecting.{collecting_none, row_next, collecting_next, collecting_all, collected_none, collected_more}
+use Rattle.dr_plain_senders.specs.Inside.Rows.{IsWholeOf, AreCollected}
+use Rattle.dr_plain_senders.proofs.Mixing.{collected_twice}
 use Rattle.dr_plain_senders.proofs.laws.sender.SenderStation.collect.Goals as goal
 
-pub loop-sequence-init : goal.loop-sequence-init
-loop-sequence-init g c =
-    let e = c.args.self.now in let first = c.args.first in let n = c.args.upto - first in let R = c.requires.hand in let le = c.requires.order.0 in (
-      R.0,
-      R.2,
-      collecting_none e e.plan first n R.0 R.2 R.1 R.3,
-      omega arith,
-      collected_none e.plan first _,
-    )
+pub mix-requires-clause-order : goal.mix-requires-clause-order
+mix-requires-clause-order g c =
+    let size = ap (λ (x : SenderStand g.row.T.Denot). x.plan.size) c.collect_all.ensures.hand in let R = c.requires.order in let low = R.0 in let near = R.1 in
+    (omega arith, omega arith)
 
-pub collect_row-whole-requires : goal.collect_row-whole-requires
-collect_row-whole-requires g c =
-    let e = c.args.self.now in let first = c.args.first in let n = c.args.upto - first in let inv = c.loop-sequence.invariant in let lt = c.loop-sequence-test.true in
-    let s = c.loop-sequence.sequence in let low = inv.3 in let next = row_next e e.plan first n inv.0 inv.1 s _ low (omega arith) inv.2 in
-    let plan = ap (λ (x : SenderStand g.row.T.Denot). x.plan) inv.2 in (
-      next.0,
-      next.1,
-      subst (λ (p : Shape). IsOfRound p s next.0) (sym plan) next.2,
-      next.3 ∙ ap (λ (p : Shape). row p s next.0 ++ next.1) (sym plan),
-    )
+pub mix-requires-clause-room : goal.mix-requires-clause-room
+mix-requires-clause-room g c =
+    c.collect_all.ensures.collected.count ∙ c.requires.room ∙ sym (ap (λ (x : SenderStand g.row.T.Denot). x.plan.size) c.collect_all.ensures.hand)
 
-pub loop-sequence-preserved : goal.loop-sequence-preserved
-loop-sequence-preserved g c =
-    let e = c.args.self.now in let k = e.plan in let first = c.args.first in let n = c.args.upto - first in let inv = c.loop-sequence.invariant in
-    let lt = c.loop-sequence-test.true in let s = c.loop-sequence.sequence in let low = inv.3 in let round = c.requires.order.1 in
-    let plan = ap (λ (x : SenderStand g.row.T.Denot). x.plan) inv.2 in let size = ap (λ (p : Shape). p.size) plan in
-    let now = c.loop-sequence.self in let inside = c.place-place.ensures.inside in let room = c.requires.room in (
-      inv.0,
-      inv.1,
-      collecting_next e k first n inv.0 inv.1 s _ _ low (omega arith) inv.2
-          (c.collect_row-whole.ensures.hand ∙ ap (λ (p : Shape). with_hand now (drop (lanes_of p) now.hand ++ blank_row p s)) plan),
-      omega arith,
-      collected_more k first s c.place-place.result _ _ _ _ inv.4 low (omega arith) (c.place-place.ensures.place ∙ ap (λ (p : Shape). cell_of p s) plan) (omega arith)
-          (subst (λ (p : Shape). IsWholeOf p s c.collect_row-whole.result) plan c.collect_row-whole.ensures.whole) c.put_at.ensures.row,
-    )
-
-pub returns-clause-hand : goal.returns-clause-hand
-returns-clause-hand g c =
-    let e = c.args.self.now in let first = c.args.first in let n = c.args.upto - first in let inv = c.loop-sequence.invariant in let le = c.requires.order.0 in
-    let over = c.loop-sequence-test.false in let end = c.loop-sequence.auto.sequence-end in let low = inv.3 in
-    collecting_all e e.plan first n inv.0 inv.1 c.loop-sequence.sequence _ (omega arith) inv.2
+pub mix-requires-clause-whole : goal.mix-requires-clause-whole
+mix-requires-clause-whole g c =
+    let plan = ap (λ (x : SenderStand g.row.T.Denot). x.plan) c.collect_all.ensures.hand in
+    subst (λ (k : Shape). (s : ℕ) (t : Token g.row.T.Denot) → c.args.first ≤ s → s < c.args.upto → get_elem? c.collect_all.new.tokens.items (cell_of k s) ≡ some t → IsWholeOf k s t)
+    (sym plan) c.collect_all.ensures.collected.whole
 
 pub returns-clause-collected : goal.returns-clause-collected
 returns-clause-collected g c =
-    let over = c.loop-sequence-test.false in let end = c.loop-sequence.auto.sequence-end in let le = c.requires.order.0 in let inv = c.loop-sequence.invariant in let low = inv.3 in
-    let all : c.loop-sequence.sequence ≡ c.args.upto = omega arith in
-    subst (λ (q : ℕ). AreCollected c.args.self.now.plan c.args.first q c.args.tokens.now.items c.loop-sequence.tokens.items) all inv.4
+    let plan = ap (λ (x : SenderStand g.row.T.Denot). x.plan) c.collect_all.ensures.hand in
+    collected_twice c.args.self.now.plan c.args.first c.args.upto c.args.tokens.now.items c.collect_all.new.tokens.items c.mix.new.tokens.items c.collect_all.ensures.collected
+    (subst (λ (k : Shape). AreCollected k c.args.first c.args.upto c.collect_all.new.tokens.items c.mix.new.tokens.items) plan c.mix.ensures)
