@@ -30,8 +30,7 @@ impl<T> SenderStation<T> {
 
 impl<T: Drop> Sender<T> {
     /// Writes the event of a sequence that this sender claimed and has not published, in place of
-    /// one that was written before, or of what an earlier sequence left in its cell, which is
-    /// dropped.
+    /// one that was written before, or of what lay in its cell, which is dropped.
     ///
     /// Refusals in their order: `NotClaimed` (nobody's), `AlreadyPublished`, `NotClaimed` (another
     /// sender's). They change nothing.
