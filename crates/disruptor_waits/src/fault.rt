@@ -6,7 +6,7 @@ use std::io;
 use thiserror::Error;
 
 const USAGE: &str =
-    "usage: disruptor_waits --check | lone STRATEGY EVENTS | idle STRATEGY SECONDS | one-slot EVENTS MICROS | latency EXCHANGE STRATEGY EVENTS NANOS";
+    "usage: disruptor_waits --check | lone STRATEGY EVENTS | idle STRATEGY SECONDS | one-slot EVENTS MICROS | rate STRATEGY THOUSANDS CUT | latency EXCHANGE STRATEGY EVENTS NANOS";
 
 /// Why the program ends early. Its text is the line that it prints.
 #[derive(Debug, Drop, Error)]

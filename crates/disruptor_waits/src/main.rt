@@ -6,6 +6,9 @@
 //! error. `one-slot EVENTS MICROS` sends them over a ring of one slot, whose workers park: each once the last handler
 //! completed the one before, and none may take longer until the sender sees that.
 //!
+//! `rate STRATEGY THOUSANDS CUT` sends so many thousand events through handlers that do nothing, as fast as they take
+//! them, in claims of up to CUT. How long that took stands on standard error.
+//!
 //! `idle STRATEGY SECONDS` leaves the same handlers without an event for so long, for who measures what that costs.
 //!
 //! `latency EXCHANGE STRATEGY EVENTS NANOS` sends an event each so many nanoseconds through `ring`, `plain` or
@@ -20,22 +23,26 @@ mod latency;
 mod lone;
 mod one_slot;
 mod pair;
+mod rate;
 mod stopwatch;
 mod times;
 mod words;
 
+use clock::micros_since;
 use dr_disruptor::WaitStrategy;
 use dr_graph::Graph;
 use fault::Fault;
 use pair::graph;
 use std::alloc::Global;
 use std::env;
+use std::num::NonZeroU64;
 use std::process::ExitCode;
 use std::rt::Runtime;
 use std::sync::Wait;
 use std::thread::Threads;
+use std::time::Instant;
 use times::Times;
-use words::{Exchange, Task, read};
+use words::{Exchange, STRATEGIES, Task, read};
 
 /// The number of the sender's worker.
 const SENDER: usize = 16;
@@ -78,6 +85,34 @@ fn send_one_slot<R: Runtime + Threads + Wait + Copy + Send + 'static>(
     Ok(())
 }
 
+fn send_fast<R: Runtime + Threads + Wait + Copy + Send + 'static>(
+    rt: R,
+    alloc: Global,
+    graph: &Graph,
+    strategy: WaitStrategy,
+    thousands: u64,
+    cut: NonZeroU64,
+) -> Result<(), Fault> {
+    let begun = Instant::now(&rt)?;
+    rate::send(rt, alloc, graph, strategy, thousands, cut)?;
+    let micros = micros_since(&rt, Some(begun)).unwrap_or(u64::MAX);
+    eprintln!(rt; "in {micros} microseconds")?;
+    println!(rt; "{thousands} thousand events went through")?;
+    Ok(())
+}
+
+fn send_fast_by_each<R: Runtime + Threads + Wait + Copy + Send + 'static>(
+    rt: R,
+    alloc: Global,
+    graph: &Graph,
+) -> Result<(), Fault> {
+    let cut = NonZeroU64::MIN;
+    for strategy in STRATEGIES {
+        send_fast(rt, alloc, graph, strategy, 10, cut)?;
+    }
+    Ok(())
+}
+
 fn check<R: Runtime + Threads + Wait + Copy + Send + 'static>(
     rt: R,
     alloc: Global,
@@ -85,6 +120,7 @@ fn check<R: Runtime + Threads + Wait + Copy + Send + 'static>(
 ) -> Result<(), Fault> {
     send_lone(rt, alloc, graph, WaitStrategy::Parking, 3000)?;
     send_one_slot(rt, alloc, graph, 10_000, MOST)?;
+    send_fast_by_each(rt, alloc, graph)?;
     for exchange in Exchange::ALL {
         latency::check(rt, alloc, exchange)?;
     }
@@ -109,6 +145,11 @@ fn do_task<R: Runtime + Threads + Wait + Copy + Send + 'static>(
         Task::Check => check(rt, alloc, graph),
         Task::Lone { strategy, events } => send_lone(rt, alloc, graph, strategy, events),
         Task::OneSlot { events, micros } => send_one_slot(rt, alloc, graph, events, micros),
+        Task::Rate {
+            strategy,
+            thousands,
+            cut,
+        } => send_fast(rt, alloc, graph, strategy, thousands, cut),
         Task::Idle { strategy, seconds } => Ok(idle::wait(rt, alloc, graph, strategy, seconds)?),
         Task::Latency(order) => latency::measure(rt, alloc, order),
     }

@@ -2,6 +2,7 @@
 
 use dr_disruptor::WaitStrategy;
 use std::fmt;
+use std::num::NonZeroU64;
 
 /// What the events of a measurement go through.
 #[derive(Clone, Copy)]
@@ -79,6 +80,11 @@ pub enum Task {
         events: usize,
         micros: u64,
     },
+    Rate {
+        strategy: WaitStrategy,
+        thousands: u64,
+        cut: NonZeroU64,
+    },
     Latency(Order),
 }
 
@@ -100,6 +106,14 @@ fn two_words(mode: &str, first: &str, second: u64) -> Option<Task> {
     }
 }
 
+fn read_rate(way: &str, thousands: &str, cut: &str) -> Option<Task> {
+    Some(Task::Rate {
+        strategy: strategy(way)?,
+        thousands: thousands.parse().ok()?,
+        cut: NonZeroU64::new(cut.parse().ok()?)?,
+    })
+}
+
 fn read_order(exchange: &str, way: &str, events: &str, gap: &str) -> Option<Order> {
     Some(Order {
         exchange: Exchange::named(exchange)?,
@@ -114,6 +128,9 @@ pub fn read(words: &[String]) -> Option<Task> {
     match words {
         [only] if only.as_str() == "--check" => Some(Task::Check),
         [mode, first, second] => two_words(mode.as_str(), first.as_str(), second.parse().ok()?),
+        [mode, way, thousands, cut] if mode.as_str() == "rate" => {
+            read_rate(way.as_str(), thousands.as_str(), cut.as_str())
+        }
         [mode, exchange, way, events, gap] if mode.as_str() == "latency" => {
             let asked = read_order(
                 exchange.as_str(),
