@@ -1,23 +1,26 @@
 #!/usr/bin/env python3
-"""What waiting costs, by each strategy: the processor time of two handlers that have nothing to do, and how long a lone
-event takes until both had it.
+"""What waiting costs, by each strategy: the processor time of two handlers that have nothing to do, how long a lone
+event takes until both had it, and how many go through them where the sender never rests.
 
-    bench/idle.py                 four idle seconds and two thousand lone events by each strategy
+    chrt -r 10 bench/idle.py      four idle seconds and two thousand lone events by each strategy, before other work
     bench/idle.py --seconds 10    as many idle seconds
 
 Build the program first, by `rt run -- --check` in `crates/disruptor_waits`. Its lone events are sent each after
-a pause of up to 255 microseconds.
+a pause of up to 255 microseconds. The rates are medians of five runs, by claims of one, ten and a hundred events.
 """
 
 import argparse
 import os
 import resource
+import statistics
 import subprocess
 
 TOP = os.path.dirname(os.path.dirname(os.path.abspath(__file__)))
 WAITS = os.path.join(TOP, "crates", "disruptor_waits", "out", "disruptor_waits")
 STRATEGIES = ("yielding", "spinning", "parking")
 HANDLERS = 2
+# Claims of so many events; and a run sends so many thousand.
+CLAIMS, THOUSANDS, RUNS = (1, 10, 100), 20_000, 5
 
 
 def processor_seconds():
@@ -32,6 +35,13 @@ def run(*words):
     return ran.stderr.strip(), processor_seconds() - before
 
 
+def rate(strategy, claim):
+    """Returns how many million events a second went through."""
+    told, _ = run("rate", strategy, THOUSANDS, claim)
+    micros = int(told.split()[1])
+    return 1000 * THOUSANDS / micros
+
+
 def main():
     parser = argparse.ArgumentParser(description=__doc__, formatter_class=argparse.RawDescriptionHelpFormatter)
     parser.add_argument("--seconds", type=int, default=4)
@@ -43,6 +53,8 @@ def main():
         print(f"{strategy}: {idle:.2f} s of a processor in {given.seconds} s, {share:.1f} per cent a handler", flush=True)
         told, _ = run("lone", strategy, given.events)
         print(f"{strategy}: {told}", flush=True)
+        rates = (statistics.median(rate(strategy, claim) for _ in range(RUNS)) for claim in CLAIMS)
+        print(f"{strategy}: {', '.join(f'{it:.0f}' for it in rates)} million a second by claims of {CLAIMS}", flush=True)
 
 
 if __name__ == "__main__":
