@@ -1,8 +1,8 @@
 #!/usr/bin/env bash
 # Builds and runs a program of each language over libdisruptor, in a new folder, and compares what it prints: C by the static
-# library, and under the sanitizers of addresses and of undefined behaviour where the compiler has them; C++ and Rust by the
-# static library; Python and Java by the shared one. A language whose compiler is not here is skipped, and named. It prints a line
-# for each failure, and then a count; its status is 0 where none failed.
+# library, and under the sanitizers of addresses and of undefined behaviour where the compiler has them; C++, Rust and Java by the
+# static library; Python by the shared one. A language whose compiler is not here is skipped, and named. It prints a line for each
+# failure, and then a count; its status is 0 where none failed.
 #
 #   tests/other_languages.sh FOLDER      that of `make lib`, with libdisruptor.a and libdisruptor.so
 set -u
@@ -114,19 +114,28 @@ if command -v python3 > "$room/null" 2>&1 && python3 -c 'import ctypes' 2> "$roo
 else
     skip Python
 fi
-# The first java of this machine that calls foreign functions, from version 22 on.
-java_of_foreign() {
-    local java
-    for java in ${JAVA_HOME:+"$JAVA_HOME/bin/java"} "$(command -v java)" /usr/lib/jvm/*/bin/java; do
-        [ -x "$java" ] && "$java" --version 2> "$room/null" | grep -qE '^[a-z]+ (2[2-9]|[3-9][0-9])' || continue
-        printf '%s' "$java"
-        return
-    done
-    return 1
+# The home of a Java compiler that has the header of Java's native interface too.
+java_home() {
+    local javac=${JAVA_HOME:+$JAVA_HOME/bin/javac} home
+    javac=$(readlink -f "${javac:-$(command -v javac)}" 2> "$room/null") || return 1
+    home=${javac%/bin/javac}
+    [ -x "$javac" ] && [ -f "$home/include/jni.h" ] && printf '%s' "$home"
 }
-if java=$(java_of_foreign); then
-    try Java "$size"$'\n''a claim after the halt: halted'$'\n'"$all" \
-        -- "$java" --enable-native-access=ALL-UNNAMED "$top/examples/java/Ring.java" "$library/libdisruptor.so"
+
+# Builds the native side and the classes.
+build_java() {
+    cc "${c[@]}" -I"$java/include" -I"$(dirname "$java"/include/*/jni_md.h)" -shared -fPIC -o "$room/libdisruptor_jni.so" \
+        "$top/examples/java/disruptor_jni.c" "$library/libdisruptor.a" -lpthread &&
+        "$java/bin/javac" --release 11 -d "$room/java" "$top"/examples/java/*.java
+}
+
+if has cc c && java=$(java_home); then
+    run=("$java/bin/java" -Xmx64m -Djava.library.path="$room" -cp "$room/java")
+    ring="$size"$'\n''a claim after the halt: halted'$'\n''a poll of a closed end: not-open'$'\n'"$all"
+    try Java "$ring" build_java -- "${run[@]}" Ring
+    try 'Java whose native calls are checked' "$ring" -- "${run[@]}" -Xcheck:jni Ring 100000
+    try 'Java, senders' "$all" -- "${run[@]}" Senders
+    try 'Java, bytes' 'an event of five bytes: bad-length'$'\n'"$orders" -- "${run[@]}" Bytes
 else
     skip Java
 fi

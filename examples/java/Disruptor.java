@@ -1,275 +1,451 @@
-import static java.lang.foreign.ValueLayout.ADDRESS;
-import static java.lang.foreign.ValueLayout.JAVA_BYTE;
-import static java.lang.foreign.ValueLayout.JAVA_INT;
-import static java.lang.foreign.ValueLayout.JAVA_LONG;
-
-import java.lang.foreign.Arena;
-import java.lang.foreign.FunctionDescriptor;
-import java.lang.foreign.Linker;
-import java.lang.foreign.MemoryLayout;
-import java.lang.foreign.MemorySegment;
-import java.lang.foreign.SymbolLookup;
-import java.lang.invoke.MethodHandle;
-import java.nio.charset.StandardCharsets;
-import java.nio.file.Path;
+import java.lang.ref.Reference;
+import java.nio.ByteBuffer;
+import java.nio.ByteOrder;
+import java.nio.LongBuffer;
 import java.util.List;
+import java.util.function.IntFunction;
+import java.util.stream.Collectors;
 import java.util.stream.IntStream;
 
 /**
- * The proved ring for Java 22 and later, by the foreign function interface over libdisruptor.so.
+ * A proved ring for Java 11 and later, by JNI over libdisruptor: its ends, each for a thread of its own.
  *
- * <pre>var ends = new Disruptor(path).open(1024, 0, 0b1, 0b1);</pre>
+ * <pre>
+ * try (var ring = Disruptor.open(1024, Disruptor.MAX_LIMIT, 0, 0b1, 0b1)) { .. }
+ * </pre>
  *
- * Each end is used by one thread at a time. What the library allocated goes back when all ends are closed.
+ * A call that is refused changes nothing, and throws a {@link DisruptorException}. Only a claim that finds no room and
+ * a poll that finds no event answer a negative number instead, since they are made again and again. The library's
+ * numbers are unsigned: a negative one is refused like any other that is too great.
+ *
+ * <p>Each call of an end holds its lock, but for {@link End#await}. So any thread may close an end at any time, though
+ * it is meant for one thread at a time. Events are copied: no call keeps an array or a buffer. None takes memory but
+ * an opening, the start of a {@code run} and an exception.
+ *
+ * @param <S> its senders
+ * @param <R> its receivers
  */
-final class Disruptor {
-    static final long MAX_LIMIT = 1L << 62;
-    private static final int NO_ROOM = 1;
-    private static final int CONTENDED = 16;
-    private static final int BATCH = 0;
-    private static final int DRAINED = 3;
-    private static final long HANDLE = 128;
-    private static final long EVENT = 16;
-    private static final long OFFER = 24;
-    private static final long COUNTS = 16;
+public final class Disruptor<S extends Disruptor.Sender, R extends Disruptor.Receiver> implements AutoCloseable {
+    /** The greatest limit of sequences, for a ring that needs none. */
+    public static final long MAX_LIMIT = 1L << 62;
 
-    private final MethodHandle open, openSeveral, claim, write, publish, close, poll, complete, halt, progress, free, name;
+    /** So many events of two words a poll hands out at most. */
+    public static final int ROOM = 1024;
 
-    /** Loads the library. */
-    @SuppressWarnings("restricted")
-    Disruptor(Path library) {
-        var found = SymbolLookup.libraryLookup(library, Arena.global());
-        // (a pointer comes with how many things lie there)
-        open = call(found, "open", JAVA_LONG, JAVA_LONG, ADDRESS, JAVA_LONG, JAVA_LONG, ADDRESS, JAVA_LONG, ADDRESS, JAVA_LONG,
-                JAVA_LONG, ADDRESS, JAVA_LONG);
-        openSeveral = call(found, "open_several", JAVA_LONG, JAVA_LONG, ADDRESS, JAVA_LONG, JAVA_LONG, ADDRESS, JAVA_LONG,
-                JAVA_LONG, ADDRESS, JAVA_LONG, JAVA_LONG, ADDRESS, JAVA_LONG);
-        claim = call(found, "claim", ADDRESS, JAVA_LONG, JAVA_LONG, ADDRESS, JAVA_LONG);
-        write = call(found, "write", ADDRESS, JAVA_LONG, JAVA_LONG, ADDRESS, JAVA_LONG);
-        publish = call(found, "publish", ADDRESS, JAVA_LONG, JAVA_LONG, JAVA_LONG);
-        close = call(found, "close", ADDRESS, JAVA_LONG);
-        poll = call(found, "poll", ADDRESS, JAVA_LONG, ADDRESS, JAVA_LONG, JAVA_LONG, ADDRESS, JAVA_LONG);
-        complete = call(found, "complete", ADDRESS, JAVA_LONG, JAVA_LONG);
-        halt = call(found, "halt", ADDRESS, JAVA_LONG);
-        progress = call(found, "progress", ADDRESS, JAVA_LONG, ADDRESS, JAVA_LONG);
-        free = Linker.nativeLinker()
-                .downcallHandle(found.findOrThrow("disruptor_free_at"), FunctionDescriptor.ofVoid(ADDRESS, JAVA_LONG));
-        name = Linker.nativeLinker().downcallHandle(
-                found.findOrThrow("disruptor_name_at"), FunctionDescriptor.of(JAVA_LONG, JAVA_INT, ADDRESS, JAVA_LONG));
+    private static final int BAD_LENGTH = 66;
+
+    private final List<S> senders;
+    private final List<R> receivers;
+    private final Halter halter;
+
+    private Disruptor(ByteBuffer ring, int senders, IntFunction<S> sender, int handlers, IntFunction<R> receiver) {
+        this.senders = ends(0, senders, sender);
+        this.receivers = ends(senders, handlers, receiver);
+        this.halter = new Halter(ring, senders + handlers);
     }
 
-    @SuppressWarnings("restricted")
-    private static MethodHandle call(SymbolLookup found, String name, MemoryLayout... arguments) {
-        return Linker.nativeLinker()
-                .downcallHandle(found.findOrThrow("disruptor_" + name + "_at"), FunctionDescriptor.of(JAVA_INT, arguments));
+    private static <E extends End> List<E> ends(int first, int count, IntFunction<E> end) {
+        return IntStream.range(first, first + count).mapToObj(end).collect(Collectors.toUnmodifiableList());
     }
 
-    /** A call was refused; the number says why. */
-    static final class Refusal extends RuntimeException {
-        private static final long serialVersionUID = 1;
-        final int number;
-
-        private Refusal(int number, String name) {
-            super(name);
-            this.number = number;
-        }
-    }
-
-    /** The ends of a ring: its senders, a receiver for each handler, and the halter. */
-    record Ends(List<Sender> senders, List<Receiver> receivers, Halter halter) {
-        Sender sender() {
-            return senders.getFirst();
-        }
-    }
-
-    /** How far an end came: what the sender of one claimed and published, or what a receiver took and completed. */
-    record Counts(long begun, long done) {}
-
-    /** What is done with an event; `end` is true where it is the last of its batch. */
-    interface Handler {
-        void onEvent(long first, long second, long sequence, boolean end);
-    }
-
-    /** Opens a ring of one sender. Handler k follows those whose bits are in the k-th mask. */
-    Ends open(long size, long... upstreams) {
-        return open(size, MAX_LIMIT, 1, false, upstreams);
-    }
-
-    /** Opens a ring of so many senders. */
-    Ends openSeveral(long size, int senders, long... upstreams) {
-        return open(size, MAX_LIMIT, senders, true, upstreams);
-    }
-
-    private Ends open(long size, long limit, int senders, boolean several, long[] upstreams) {
+    /**
+     * Opens a ring of one sender, whose events have two words.
+     *
+     * @param size how many slots it has: a power of two from 1 to 65536
+     * @param limit how many sequences may be claimed in all
+     * @param upstreams a mask for each of its handlers, 1 to 16: the bits of those handlers before it that it follows
+     */
+    public static Disruptor<WordSender, WordReceiver> open(long size, long limit, long... upstreams) {
         int handlers = upstreams.length;
-        var arena = Arena.ofAuto();
-        var masks = arena.allocateFrom(JAVA_LONG, upstreams);
-        var sending = arena.allocate(HANDLE * senders, HANDLE);
-        var receiving = arena.allocate(HANDLE * handlers, HANDLE);
-        var halting = arena.allocate(HANDLE, HANDLE);
-        long places = handlers;
-        check(several
-                ? () -> (int) openSeveral.invokeExact(size, limit, masks, places, places, sending, (long) senders, (long) senders,
-                        receiving, places, places, halting, 1L)
-                : () -> (int) open.invokeExact(size, limit, masks, places, places, sending, 1L, receiving, places, places, halting, 1L));
-        return new Ends(
-                IntStream.range(0, senders).mapToObj(k -> new Sender(handle(sending, k))).toList(),
-                IntStream.range(0, handlers).mapToObj(k -> new Receiver(handle(receiving, k))).toList(),
-                new Halter(handle(halting, 0)));
+        var ring = memoryOf(1, upstreams);
+        var made = new Disruptor<>(
+                ring, 1, k -> new WordSender(ring, k, size), handlers, k -> new WordReceiver(ring, k, size));
+        check(DisruptorNative.open(DisruptorNative.address(ring), size, limit, handlers));
+        return made;
     }
 
-    private static MemorySegment handle(MemorySegment handles, int k) {
-        return handles.asSlice(HANDLE * k, HANDLE);
+    /** Opens a ring of several senders, 1 to 16. Nobody closes it: halt it once all senders are done. */
+    public static Disruptor<WordSender, WordReceiver> openSeveral(
+            long size, long limit, int senders, long... upstreams) {
+        int count = Math.max(senders, 0);
+        int handlers = upstreams.length;
+        var ring = memoryOf(count, upstreams);
+        var made = new Disruptor<>(
+                ring, count, k -> new WordSender(ring, k, size), handlers, k -> new WordReceiver(ring, k, size));
+        check(DisruptorNative.openSeveral(DisruptorNative.address(ring), size, limit, count, handlers));
+        return made;
     }
 
-    /** A call of the library, which answers 0 or the number of a refusal. */
-    private interface Call {
-        int make() throws Throwable;
+    /**
+     * Opens a ring of one sender, whose events have so many bytes, zeros at first. The library never gives their memory
+     * back: open such a ring once for a program, and not again and again.
+     */
+    public static Disruptor<ByteSender, ByteReceiver> openBytes(long size, long limit, int length, long... upstreams) {
+        int handlers = upstreams.length;
+        var ring = memoryOf(1, upstreams);
+        var made = new Disruptor<>(
+                ring,
+                1,
+                k -> new ByteSender(ring, k, size, length),
+                handlers,
+                k -> new ByteReceiver(ring, k, size, length));
+        check(DisruptorNative.openBytes(DisruptorNative.address(ring), size, limit, length, handlers));
+        return made;
     }
 
-    private void check(Call call) {
-        int number = made(call);
-        if (number != 0) {
-            throw new Refusal(number, name(number));
+    /** Makes the memory of a ring: a bell, a handle for each of its ends, all zeros, and the masks. */
+    private static ByteBuffer memoryOf(int senders, long[] upstreams) {
+        int ends = Math.addExact(Math.addExact(senders, upstreams.length), 1);
+        int masks = Math.multiplyExact(DisruptorNative.LINE, Math.addExact(ends, 1));
+        var ring = DisruptorNative.memory(Math.addExact(masks, Long.BYTES * upstreams.length));
+        ring.position(masks);
+        for (long mask : upstreams) {
+            ring.putLong(mask);
+        }
+        return ring;
+    }
+
+    private static void check(int refused) {
+        if (refused != 0) {
+            throw new DisruptorException(refused);
         }
     }
 
-    private static int made(Call call) {
-        try {
-            return call.make();
-        } catch (Throwable thrown) {
-            throw thrown instanceof RuntimeException known ? known : new IllegalStateException(thrown);
-        }
+    /** Returns the sender of a ring that has one, or else the first. */
+    public S sender() {
+        return senders.get(0);
     }
 
-    private String name(int number) {
-        try (var arena = Arena.ofConfined()) {
-            var text = arena.allocate(64);
-            int length = made(() -> (int) (long) name.invokeExact(number, text, text.byteSize()));
-            return new String(text.asSlice(0, length).toArray(JAVA_BYTE), StandardCharsets.US_ASCII);
-        }
+    public List<S> senders() {
+        return senders;
+    }
+
+    /** Returns the receiver of each handler, in the order of their masks. */
+    public List<R> receivers() {
+        return receivers;
+    }
+
+    public Halter halter() {
+        return halter;
+    }
+
+    /** Closes all ends, and so lets the ring go. */
+    @Override
+    public void close() {
+        senders.forEach(End::close);
+        receivers.forEach(End::close);
+        halter.close();
     }
 
     /** An end of a ring. */
-    abstract class End implements AutoCloseable {
-        final MemorySegment handle;
-        final Arena own = Arena.ofAuto();
+    public abstract static class End implements AutoCloseable {
+        final ByteBuffer memory;
+        final long at;
+        /* Kept, since the handle of the end and the bell lie there. */
+        private final ByteBuffer ring;
 
-        End(MemorySegment handle) {
-            this.handle = handle;
+        /** The k-th of a ring, which waits for so many events at most, and hands over so many bytes in one call. */
+        End(ByteBuffer ring, int k, long most, int bytes) {
+            this.ring = ring;
+            memory = DisruptorNative.memory(Math.addExact(DisruptorNative.EVENTS, bytes));
+            at = DisruptorNative.address(memory);
+            DisruptorNative.prepare(at, DisruptorNative.address(ring), k, most);
         }
 
-        /** Says how far the end came. */
-        Counts progress() {
-            var counts = own.allocate(COUNTS, 8);
-            check(() -> (int) progress.invokeExact(handle, 1L, counts, 1L));
-            return new Counts(counts.get(JAVA_LONG, 0), counts.get(JAVA_LONG, 8));
+        final synchronized long progress(int which) {
+            check(DisruptorNative.progress(at));
+            return memory.getLong(which);
         }
 
-        /** Lets the end go; the last one lets the ring go. */
+        /** The memory of an event of so many bytes. */
+        final ByteBuffer event(int length) {
+            return memory.duplicate().limit(DisruptorNative.EVENTS + length).position(DisruptorNative.EVENTS).slice();
+        }
+
+        /**
+         * Waits a little, after a call that found nothing: by pauses at first, then by yielding the processor, and in
+         * the end asleep (on Linux) until another end of the ring changes something, ten milliseconds at most. No
+         * interrupt ends it. One thread at a time waits by an end.
+         */
+        public void await() {
+            // Without the lock: a thread that waits again at once would hardly ever leave it to another.
+            DisruptorNative.await(at);
+            Reference.reachabilityFence(this);
+        }
+
+        /** Lets the end go, and with the last one the ring. Its calls are refused then, but for this one. */
         @Override
-        public void close() {
-            made(() -> {
-                free.invokeExact(handle, 1L);
-                return 0;
-            });
+        public synchronized void close() {
+            DisruptorNative.free(at);
         }
     }
 
     /** An end that claims, writes and publishes. */
-    final class Sender extends End {
-        private final MemorySegment lo = own.allocate(JAVA_LONG);
-        private final MemorySegment event = own.allocate(EVENT, 8);
+    public abstract static class Sender extends End {
+        /** No sequence: a final handler has not completed the events in the slots. */
+        public static final int NO_ROOM = -1;
 
-        private Sender(MemorySegment handle) {
-            super(handle);
+        /** No sequence: another sender claimed meanwhile. */
+        public static final int CONTENDED = -16;
+
+        Sender(ByteBuffer ring, int k, long most, int bytes) {
+            super(ring, k, most, bytes);
         }
 
-        /** Claims n sequences, and returns the first. */
-        long claim(long n) {
-            check(() -> (int) claim.invokeExact(handle, 1L, n, lo, 1L));
-            return lo.get(JAVA_LONG, 0);
+        /** Claims the next n sequences. Returns the first of them, or {@link #NO_ROOM} or {@link #CONTENDED}. */
+        public synchronized long tryClaim(long n) {
+            int refused = DisruptorNative.claim(at, n);
+            if (refused == -NO_ROOM || refused == -CONTENDED) {
+                return -refused;
+            }
+            check(refused);
+            return memory.getLong(DisruptorNative.LO);
         }
 
-        /** Claims n sequences as soon as there is room for them, and returns the first. */
-        long claimWaiting(long n) {
+        /** Claims the next n sequences as soon as there is room for them, and returns the first. */
+        public long claim(long n) {
             while (true) {
-                try {
-                    return claim(n);
-                } catch (Refusal refusal) {
-                    if (refusal.number != NO_ROOM && refusal.number != CONTENDED) {
-                        throw refusal;
-                    }
-                    Thread.yield();
+                long lo = tryClaim(n);
+                if (lo >= 0) {
+                    return lo;
+                }
+                if (lo == NO_ROOM) {
+                    await();
                 }
             }
-        }
-
-        void write(long sequence, long first, long second) {
-            event.set(JAVA_LONG, 0, first);
-            event.set(JAVA_LONG, 8, second);
-            check(() -> (int) write.invokeExact(handle, 1L, sequence, event, 1L));
         }
 
         /** Publishes the sequences from lo to hi, both among them. */
-        void publish(long lo, long hi) {
-            check(() -> (int) publish.invokeExact(handle, 1L, lo, hi));
+        public synchronized void publish(long lo, long hi) {
+            check(DisruptorNative.publish(at, lo, hi));
         }
 
-        /** Says that no event comes any more: for the sender of a ring that has one. */
-        void end() {
-            check(() -> (int) close.invokeExact(handle, 1L));
+        /** Closes the ring of one sender: no event comes any more. It may be repeated. */
+        public synchronized void closeRing() {
+            check(DisruptorNative.close(at));
+        }
+
+        /** Returns how many sequences the sender of a ring of one claimed. */
+        public long claimed() {
+            return progress(DisruptorNative.COUNTS_BEGUN);
+        }
+
+        /** Returns how many events the sender of a ring of one published. */
+        public long published() {
+            return progress(DisruptorNative.COUNTS_DONE);
         }
     }
 
-    /** The end of a handler, which receives every event after those that it follows. */
-    final class Receiver extends End {
-        private static final int ROOM = 256;
-        private final MemorySegment events = own.allocate(EVENT * ROOM, 8);
-        private final MemorySegment offer = own.allocate(OFFER, 8);
-
-        private Receiver(MemorySegment handle) {
-            super(handle);
+    /** A sender of events of two words. */
+    public static final class WordSender extends Sender {
+        private WordSender(ByteBuffer ring, int k, long size) {
+            super(ring, k, size, 0);
         }
 
-        /** Shows a handler every event, and completes it, until the ring is drained. */
-        void showAll(Handler handler) {
-            while (true) {
-                int kind = poll();
-                if (kind == DRAINED) {
-                    return;
+        /** Writes the event of a sequence that is claimed and not published, in place of one written before. */
+        public synchronized void write(long sequence, long first, long second) {
+            check(DisruptorNative.write(at, sequence, first, second));
+        }
+    }
+
+    /** A sender of events of bytes. */
+    public static final class ByteSender extends Sender {
+        private final int length;
+        private final ByteBuffer event;
+
+        private ByteSender(ByteBuffer ring, int k, long size, int length) {
+            super(ring, k, size, length);
+            this.length = length;
+            event = event(length);
+        }
+
+        /**
+         * Writes the event of a sequence that is claimed and not published, in place of one written before: an array of
+         * just as many bytes as events have.
+         */
+        public synchronized void write(long sequence, byte[] bytes) {
+            check(bytes.length == length ? 0 : BAD_LENGTH);
+            event.clear().put(bytes);
+            check(DisruptorNative.writeBytes(at, sequence, length));
+        }
+
+        /** The same from the next bytes of a buffer, whose position moves past them. */
+        public synchronized void write(long sequence, ByteBuffer bytes) {
+            check(bytes.remaining() >= length ? 0 : BAD_LENGTH);
+            int start = bytes.position();
+            int limit = bytes.limit();
+            event.clear().put(bytes.limit(start + length));
+            bytes.limit(limit).position(start);
+            check(DisruptorNative.writeBytes(at, sequence, length));
+            bytes.position(start + length);
+        }
+    }
+
+    /** The end of a handler, which receives every event after those handlers that it follows. */
+    public abstract static class Receiver extends End {
+        /** No event yet: a handler before has not completed it, or one of several senders not published its claim. */
+        public static final int GATING = -1;
+
+        /** No event: nothing more is published. */
+        public static final int IDLE = -2;
+
+        /** No event, for good: the ring is closed, or of several senders halted, and the handler took every event. */
+        public static final int DRAINED = -3;
+
+        Receiver(ByteBuffer ring, int k, long most, int bytes) {
+            super(ring, k, most, bytes);
+        }
+
+        /** What a poll answers that was refused by this number, or 0. */
+        final int polled(int refused) {
+            check(refused);
+            int kind = memory.getInt(DisruptorNative.OFFER_KIND);
+            return kind == 0 ? (int) memory.getLong(DisruptorNative.OFFER_COUNT) : -kind;
+        }
+
+        /** Returns the sequence of the first event that the last poll handed out. */
+        public long first() {
+            return memory.getLong(DisruptorNative.OFFER_FIRST);
+        }
+
+        /** Returns whether the last poll handed out all events that were available. */
+        public boolean isEnd() {
+            return memory.getInt(DisruptorNative.OFFER_END) == 1;
+        }
+
+        /** Completes all events below a sequence, so that those who follow may take them. */
+        public synchronized void complete(long upto) {
+            check(DisruptorNative.complete(at, upto));
+        }
+
+        /** Returns how many events the handler took. */
+        public long taken() {
+            return progress(DisruptorNative.COUNTS_BEGUN);
+        }
+
+        /** Returns how many events the handler completed. */
+        public long completed() {
+            return progress(DisruptorNative.COUNTS_DONE);
+        }
+    }
+
+    /** A receiver of events of two words. */
+    public static final class WordReceiver extends Receiver {
+        private final LongBuffer words;
+
+        private WordReceiver(ByteBuffer ring, int k, long size) {
+            super(ring, k, Math.min(size, ROOM), 2 * Long.BYTES * ROOM);
+            words = event(2 * Long.BYTES * ROOM).order(ByteOrder.nativeOrder()).asLongBuffer();
+        }
+
+        /**
+         * Takes the next events to the front of an array, two words each: as many as it has room for, and {@link #ROOM}
+         * at most. Returns how many came, or {@link #GATING}, {@link #IDLE} or {@link #DRAINED}.
+         */
+        public synchronized int poll(long[] events) {
+            int count = polled(DisruptorNative.poll(at, Math.min(events.length / 2, ROOM)));
+            if (count > 0) {
+                words.clear().get(events, 0, 2 * count);
+            }
+            return count;
+        }
+
+        /**
+         * Shows a handler each event until the ring is drained, and completes batch by batch. What the handler throws
+         * ends this, and its batch is not completed.
+         */
+        public void run(WordHandler handler) {
+            var events = new long[2 * ROOM];
+            for (int count = poll(events); count != DRAINED; count = poll(events)) {
+                if (count < 0) {
+                    await();
+                    continue;
                 }
-                if (kind == BATCH) {
-                    show(handler, offer.get(JAVA_LONG, 8), offer.get(JAVA_LONG, 16));
-                } else {
-                    Thread.yield();
+                long first = first();
+                for (int k = 0; k < count; k++) {
+                    handler.onEvent(events[2 * k], events[2 * k + 1], first + k, k + 1 == count);
                 }
+                complete(first + count);
             }
         }
+    }
 
-        private int poll() {
-            check(() -> (int) poll.invokeExact(handle, 1L, events, (long) ROOM, (long) ROOM, offer, 1L));
-            return offer.get(JAVA_INT, 0);
+    /** A receiver of events of bytes. */
+    public static final class ByteReceiver extends Receiver {
+        private final int length;
+        private final ByteBuffer event;
+
+        private ByteReceiver(ByteBuffer ring, int k, long size, int length) {
+            super(ring, k, size, length);
+            this.length = length;
+            event = event(length);
         }
 
-        private void show(Handler handler, long first, long count) {
-            for (long k = 0; k < count; k++) {
-                long at = EVENT * k;
-                handler.onEvent(events.get(JAVA_LONG, at), events.get(JAVA_LONG, at + 8), first + k, k + 1 == count);
+        /**
+         * Takes the next events, so many at most. Each can be read until it is completed. Returns how many came, or
+         * {@link #GATING}, {@link #IDLE} or {@link #DRAINED}.
+         */
+        public synchronized int poll(long most) {
+            return polled(DisruptorNative.pollBytes(at, most));
+        }
+
+        /** Reads an event that is taken and not completed, into an array of just as many bytes as events have. */
+        public synchronized void read(long sequence, byte[] into) {
+            check(into.length == length ? 0 : BAD_LENGTH);
+            check(DisruptorNative.readBytes(at, sequence, length));
+            event.clear().get(into);
+        }
+
+        /** The same into the next bytes of a buffer, whose position moves past them. */
+        public synchronized void read(long sequence, ByteBuffer into) {
+            check(into.remaining() >= length ? 0 : BAD_LENGTH);
+            check(DisruptorNative.readBytes(at, sequence, length));
+            into.put(event.clear());
+        }
+
+        /**
+         * Shows a handler each event until the ring is drained, and completes batch by batch, each of so many at most.
+         * What the handler throws ends this, and its batch is not completed.
+         */
+        public void run(long most, ByteHandler handler) {
+            ByteBuffer shown = ByteBuffer.allocateDirect(length);
+            for (int count = poll(most); count != DRAINED; count = poll(most)) {
+                if (count < 0) {
+                    await();
+                    continue;
+                }
+                long first = first();
+                for (int k = 0; k < count; k++) {
+                    read(first + k, shown.clear());
+                    handler.onEvent(shown.flip(), first + k, k + 1 == count);
+                }
+                complete(first + count);
             }
-            check(() -> (int) complete.invokeExact(handle, 1L, first + count));
         }
     }
 
     /** An end that halts the ring from any thread. */
-    final class Halter extends End {
-        private Halter(MemorySegment handle) {
-            super(handle);
+    public static final class Halter extends End {
+        private Halter(ByteBuffer ring, int k) {
+            super(ring, k, 1, 0);
         }
 
-        /** Nobody claims from then on. */
-        void halt() {
-            check(() -> (int) halt.invokeExact(handle, 1L));
+        /**
+         * Halts the ring: nobody claims from then on. Handlers of one sender are told that the ring is drained only
+         * once it has closed it, those of several once they took all that is claimed.
+         */
+        public synchronized void halt() {
+            check(DisruptorNative.halt(at));
         }
+    }
+
+    /** What is done with an event of two words; {@code isLast} where it is the last one of its batch. */
+    public interface WordHandler {
+        void onEvent(long first, long second, long sequence, boolean isLast);
+    }
+
+    /** What is done with an event of bytes, which lies between position and limit of a buffer until this returns. */
+    public interface ByteHandler {
+        void onEvent(ByteBuffer event, long sequence, boolean isLast);
     }
 }
