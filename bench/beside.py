@@ -8,18 +8,18 @@
     bench/beside.py widths             events of 1, 2, 8 and 16 words, on one thread
     bench/beside.py producers          1 to 16 producers behind a lock
     bench/beside.py senders            1 to 16 senders of one ring; three of them are LMAX's `sequencer`
-    bench/beside.py languages          the rings of words from C beside ours, channels and LMAX, with `--library`
+    bench/beside.py languages          the rings from C beside ours, channels and LMAX, with `--library`
     bench/beside.py few                two topologies on threads, for fewer processors than ends (`taskset`)
 
 The others are the rings of bench/plain/exchanges, which `rustc` builds, and LMAX's own, where `javac` and
 the library are there (Debian's package libdisruptor-java; `--lmax JAR` names another place): `lmax` claims
 by `next`, which parks where there is no room, and `lmax-try` by `tryNext`, again and again. On threads
-`ours` is the ring over words, `memory` that over plain memory, and `c` the rings of words from C, where
-`--library FOLDER` names what `make lib` left. All run in turns, `--turns N` times (three without it), each
-for `--rounds N` rounds of `--seconds S`, of which the one in the middle counts; the best of a program's
-turns is taken. `--under WORDS` starts each run by these words, as 'chrt -r 10' (other work on the machine
-then counts for less) or 'taskset -c 0,1'. `--record FILE` also writes the rates to a file, as those of
-bench/measured, which bench/plots.py draws.
+`ours` is the ring over words, which has one sender, `memory` those over plain memory, and `c` the rings of
+words and of several senders from C, where `--library FOLDER` names what `make lib` left. All run in turns,
+`--turns N` times (three without it), each for `--rounds N` rounds of `--seconds S`, of which the one in the
+middle counts; the best of a program's turns is taken. `--under WORDS` starts each run by these words, as
+'chrt -r 10' (other work on the machine then counts for less) or 'taskset -c 0,1'. `--record FILE` also
+writes the rates to a file, as those of bench/measured, which bench/plots.py draws.
 """
 
 import argparse
@@ -144,8 +144,8 @@ def producers(programs):
 
 
 def senders(programs):
-    """The rings with several senders beside plain words, and LMAX's with several producers."""
-    kinds = programs.of(("ours", "memory", "c", "words", "channel", "lmax", "lmax-try"))
+    """The ring with several senders beside plain words, and LMAX's with several producers."""
+    kinds = programs.of(("memory", "c", "words", "channel", "lmax", "lmax-try"))
     print_head(["senders", "events a claim"] + kinds)
     for count in (1, 2, 3, 4, 8, 16):
         for claim in (1, 10, 100):
@@ -154,10 +154,13 @@ def senders(programs):
 
 def languages(programs):
     """What a call from C costs, beside what other programs have."""
-    kinds = programs.of(("ours", "memory", "c", "channel", "lmax", "lmax-try"))
-    print_head(["topology"] + kinds)
-    for topology in ("unicast", "unicast-b10", "diamond", "diamond-b10", "senders3-unicast", "senders3-unicast-b10"):
-        print_row(topology, programs, kinds, topology, 1024)
+    kinds = ("memory", "c", "channel", "lmax", "lmax-try")
+    of_one = ("unicast", "unicast-b10", "diamond", "diamond-b10")
+    for kinds, topologies in ((("ours", *kinds), of_one), (kinds, ("senders3-unicast", "senders3-unicast-b10"))):
+        kinds = programs.of(kinds)
+        print_head(["topology"] + kinds)
+        for topology in topologies:
+            print_row(topology, programs, kinds, topology, 1024)
 
 
 def few(programs):

@@ -35,7 +35,7 @@ MOST_EVENTS = 1_000_000
 
 def programs(lmax, folder):
     """How each is started, before the number of events and the gap."""
-    found = {f"{exchange} {way}": [*OURS, exchange, way] for exchange in ("plain", "ring", "senders") for way in ("spinning", "yielding", "parking")}
+    found = {f"{exchange} {way}": [*OURS, exchange, way] for exchange in ("plain", "ring", "plain-senders") for way in ("spinning", "yielding", "parking")}
     channels = os.path.join(folder, "latency")
     subprocess.run(["rustc", "--edition", "2021", "-O", "-o", channels, CHANNELS], check=True)
     found["channels"] = [channels]

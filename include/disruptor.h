@@ -181,10 +181,7 @@ static inline uint32_t disruptor_open_several(uint64_t size, uint64_t limit, con
 /* Opens a ring of bytes: one of one sender, as disruptor_open does, whose events have `bytes` bytes each, zeros at first. Its
  * sender writes by disruptor_write_bytes, and a handler takes by disruptor_poll_bytes and reads by disruptor_read_bytes; all
  * other calls are the same. An event is copied into the ring once, and out of it by each handler that reads it. Refusals: those
- * of disruptor_open.
- *
- * Its events' memory, `size` times `bytes` and a little more, is not given back when its ends are freed. So open such a ring once
- * for a program, and not again and again. */
+ * of disruptor_open. */
 static inline uint32_t disruptor_open_bytes(uint64_t size, uint64_t limit, size_t bytes, const uint64_t *upstreams, size_t handlers,
                                             disruptor_sender *sender, disruptor_receiver *receivers, size_t count,
                                             disruptor_halter *halter) {
@@ -203,7 +200,7 @@ static inline uint32_t disruptor_before(uint64_t *upstreams, size_t handlers, si
 }
 
 /* Frees what a handle of any kind has. It is closed then, and may be opened again, though its bytes are not all zeros. A ring
- * is let go with its last end, all but the events of a ring of bytes. A null pointer is let be. */
+ * is let go with its last end. A null pointer is let be. */
 static inline void disruptor_free(void *handle) {
     size_t there = disruptor_there(handle, 8, sizeof(disruptor_sender), 1);
     disruptor_free_at(disruptor_or_nothing(handle, there), there);

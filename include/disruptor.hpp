@@ -251,7 +251,7 @@ inline ring open(std::uint64_t size, const std::vector<std::uint64_t> &upstreams
     return made;
 }
 
-// Opens a ring of bytes, whose memory for events stays: once for a program, and not again and again.
+// Opens a ring of bytes.
 template <typename T>
 ring_of<T> open_of(std::uint64_t size, const std::vector<std::uint64_t> &upstreams, std::uint64_t limit = DISRUPTOR_MAX_LIMIT) {
     const disruptor::bell bell = std::make_shared<disruptor_bell>();

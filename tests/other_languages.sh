@@ -51,8 +51,8 @@ warns=(-Wall -Wextra -Werror -I"$top/include")
 c=(-std=c11 -O2 "${warns[@]}")
 guard=(-g -fsanitize=address,undefined -fno-sanitize-recover=all)
 
-# A ring of bytes keeps its events' memory, and one of too many asks for more than there is.
-keeps=(env ASAN_OPTIONS=detect_leaks=0:allocator_may_return_null=1)
+# A ring of too many bytes asks for more memory than there is.
+lacks=(env ASAN_OPTIONS=allocator_may_return_null=1)
 
 # What each program in C prints.
 orders='each handler had every order, whole'
@@ -66,7 +66,7 @@ try_c() { # WHAT WORD..
     shift
     for program in ring senders bell refusals bytes refusals_of_bytes; do
         run=("$room/$program")
-        [[ $program != *bytes ]] || run=("${keeps[@]}" "${run[@]}")
+        [[ $program != refusals_of_bytes ]] || run=("${lacks[@]}" "${run[@]}")
         try "C $program$what" "${prints[$program]}" \
             cc "${c[@]}" "$@" -o "$room/$program" "$top/examples/c/$program.c" "$library/libdisruptor.a" -lpthread -- "${run[@]}"
     done

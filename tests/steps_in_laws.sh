@@ -14,7 +14,7 @@ others_in() {
     local src=$1
     grep -rnE "$calls" "$src" --include='*.rt' | grep -vE "^$src/(laws/|laws\.rt:|tests/|tests\.rt:)"
     grep -rnE "$ends" "$src" --include='*.rt' |
-        grep -vE "^$src/((opening|settled|finishing|laws/settling)\.rt:|laws\.rt:[0-9]+:pub(\(crate\))? mod settling;)"
+        grep -vE "^$src/((opening|settled|finishing|over|laws/settling)\.rt:|laws\.rt:[0-9]+:pub(\(crate\))? mod settling;)"
     find "$src/laws" "$src/laws.rt" -name '*.rt' -exec awk -v calls="$calls" '
         FNR == 1 || /(^| )fn / { steps = 0 }
         { steps += gsub(calls, "&") }
@@ -27,7 +27,7 @@ others_in() {
 
 # (The tokens of plain memory are exchanged in slots that an end has in hand, which is no step.)
 others=$(
-    for ring in dr_ring dr_senders; do others_in crates/$ring/src; done
+    others_in crates/dr_ring/src
     for ring in dr_plain dr_plain_senders; do others_in crates/$ring/src; done | grep -v '[.]exchange('
 )
 if [ -n "$others" ]; then

@@ -76,10 +76,7 @@ public final class Disruptor<S extends Disruptor.Sender, R extends Disruptor.Rec
         return made;
     }
 
-    /**
-     * Opens a ring of one sender, whose events have so many bytes, zeros at first. The library never gives their memory
-     * back: open such a ring once for a program, and not again and again.
-     */
+    /** Opens a ring of one sender, whose events have so many bytes, zeros at first. */
     public static Disruptor<ByteSender, ByteReceiver> openBytes(long size, long limit, int length, long... upstreams) {
         int handlers = upstreams.length;
         var ring = memoryOf(1, upstreams);

@@ -239,7 +239,7 @@ pub fn open_several(size: u64, limit: u64, upstreams: &[u64], senders: usize) ->
     Ok((sending.into_iter().map(|sender| Sender(sender, PhantomData)).collect(), received(receiving), Halter(halter)))
 }
 
-/// Opens a ring of one sender, whose events are `N` bytes each, zeros at first. Their memory is not given back.
+/// Opens a ring of one sender, whose events are `N` bytes each, zeros at first.
 pub fn open_bytes<const N: usize>(size: u64, limit: u64, upstreams: &[u64]) -> Result<(Sender<[u8; N]>, Vec<Receiver<[u8; N]>>, Halter), Refusal> {
     let (mut sender, mut halter) = (Handle::NEW, Handle::NEW);
     let mut receivers: Vec<Handle> = upstreams.iter().map(|_| Handle::NEW).collect();

@@ -3,9 +3,9 @@
 
     tests/hostile/leaks.py CALLS
 
-CALLS is `disruptor_hostile` as LLVM built it. Each of its cases, but for those of a ring that keeps its events, ends with all
-memory given back, or still to be reached. Where there is no valgrind the script says so, and looks for nothing. It prints a
-line for each failure, and then a count; its status is 0 where none failed.
+CALLS is `disruptor_hostile` as LLVM built it. Each of its cases ends with all memory given back, or still to be reached.
+Where there is no valgrind the script says so, and looks for nothing. It prints a line for each failure, and then a count; its
+status is 0 where none failed.
 """
 
 import os
@@ -16,8 +16,6 @@ import sys
 from refused import CALLS, TAKING_NONE
 
 LOST = 99
-# A ring over plain memory keeps its events where its ends are dropped, and `finish` does not bring them together.
-KEEPING = {"plain", "plain-ends", "plain-senders-ends"}
 VALGRIND = ["valgrind", "--quiet", "--leak-check=full", "--errors-for-leak-kinds=definite,possible", f"--error-exitcode={LOST}"]
 
 
@@ -35,7 +33,7 @@ def main():
     if not shutil.which("valgrind"):
         print("no valgrind: no leaks looked for")
         return 0
-    held = [is_whole(calls, case) for case in (*CALLS, *TAKING_NONE) if case not in KEEPING]
+    held = [is_whole(calls, case) for case in (*CALLS, *TAKING_NONE)]
     print(f"{calls}: {len(held)} cases looked through for leaks, {held.count(False)} failed")
     return 0 if all(held) else 1
 

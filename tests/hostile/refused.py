@@ -20,7 +20,8 @@ from collections import Counter, namedtuple
 from run import HERE, NO_MEMORY, WAYS, Ran, merged_like
 
 # The calls of the library, and those of them that take no memory once something is open.
-CALLS = ("builder", "build", "open", "record", "ring", "plain", "plain-senders", "run", "call", "audit")
+CALLS = ("builder", "build", "open", "record", "ring", "plain", "plain-dropped", "plain-senders", "plain-senders-dropped", "run")
+CALLS += ("call", "audit", "scripts")
 TAKING_NONE = ("core", "many", "ends", "plain-ends", "plain-senders-ends", "settled", "kept", "parts")
 
 DIAMOND = """ring,2,single
@@ -76,6 +77,8 @@ OF_ONE = OPERATIONS.replace("2,transfer", "0,transfer")
 # How many threads a replay of OPERATIONS starts: one for each of three handlers, and by lock one for each of the
 # producers 0, 1 and 2.
 THREADS = {"ring": 3, "lock": 6}
+# And how many a run of two scripts through two handlers does.
+THREADS_OF_SCRIPTS = 4
 
 Met = namedtuple("Met", "ran requests refused synced")
 
@@ -203,14 +206,16 @@ def refuse_in_replay_of_one(refusing, program):
     refusing.judge("replay of one producer by lock, out of memory", plain.status == 0 and kinds["no-memory"], kinds)
 
 
-def refuse_threads(refusing, program):
-    """Where a thread cannot be started, the program says so as where memory runs out, and ends."""
+def refuse_threads(refusing, program, calls):
+    """Where a thread cannot be started, the program says so as where memory runs out, and ends, and so does a run in one call."""
     file = refusing.file("threads.csv", OPERATIONS)
     for way, threads in THREADS.items():
         words = [program, "replay", "--by", way, "--size", "1", file]
         kind_of = kind_by_lock if way == "lock" else kind_of_replay
         kinds = refusing.refuse_each(f"replay by {way}, a thread", words, kind_of, threads=1)
         refusing.judge(f"replay by {way}, how many threads", kinds == {"no-memory": threads}, kinds)
+    kinds = refusing.refuse_each("calls of case scripts, a thread", [calls, "scripts"], kind_of_calls, threads=1)
+    refusing.judge("calls of case scripts, how many threads", kinds == {"made again": THREADS_OF_SCRIPTS}, kinds)
 
 
 def refuse_in_calls(refusing, calls):
@@ -244,7 +249,7 @@ def main():
         refuse_in_drive(refusing, program)
         refuse_in_replays(refusing, program)
         refuse_in_replay_of_one(refusing, program)
-        refuse_threads(refusing, program)
+        refuse_threads(refusing, program, calls)
         refuse_in_calls(refusing, calls)
         refuse_all_once_open(refusing, calls)
         write_to_the_disk(refusing, program)

@@ -19,8 +19,8 @@ const WAYS: [(&str, &str); 9] = [
     ("core-", "-b10"),
     ("", "-b10"),
     ("plain-", "-b10"),
-    ("senders1-", "-b10"),
-    ("senders3-", "-b10"),
+    ("plain-senders1-", "-b10"),
+    ("plain-senders3-", "-b10"),
     ("lock1-", "-b10"),
     ("lock3-", "-b10"),
 ];
@@ -38,7 +38,7 @@ const OTHERS: [&str; 8] = [
 ];
 
 /// Names of no topology.
-const UNKNOWN: [&str; 24] = [
+const UNKNOWN: [&str; 25] = [
     "",
     "core",
     "core-",
@@ -57,10 +57,11 @@ const UNKNOWN: [&str; 24] = [
     "lock17-unicast",
     "lock2-unicast-step",
     "lock2",
-    "senders0-unicast",
-    "senders17-unicast",
-    "senders3-unicast-step",
-    "senders3",
+    "senders3-unicast",
+    "plain-senders0-unicast",
+    "plain-senders17-unicast",
+    "plain-senders3-unicast-step",
+    "plain-senders3",
     "Diamond",
     "unicorn",
 ];

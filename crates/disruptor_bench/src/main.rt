@@ -1,6 +1,6 @@
 //! Measures the exchanges: events a second through a core on one thread, through a ring with a thread
-//! for each end, over atomic words with one sender or several or over plain memory, and through a core
-//! behind a lock with a thread for each producer and each handler.
+//! for each end, over atomic words with one sender or over plain memory with one or several, and through
+//! a core behind a lock with a thread for each producer and each handler.
 //!
 //! `disruptor_bench TOPOLOGY SIZE SECONDS ROUNDS` runs a topology over a ring of SIZE slots for about
 //! SECONDS in each of ROUNDS rounds, and prints the round in the middle:
@@ -16,7 +16,6 @@ mod measured;
 mod one_thread;
 mod plain;
 mod plain_senders;
-mod senders;
 mod sum;
 mod threads;
 mod topology;
@@ -94,7 +93,6 @@ fn round(
         Exchange::Core(_) => Err(Fault::USAGE),
         Exchange::Ring => threads::round(rt, alloc, order),
         Exchange::Plain(width) => plain::round(rt, alloc, order, width),
-        Exchange::Senders(senders) => senders::round(rt, alloc, order, senders),
         Exchange::PlainSenders(senders) => plain_senders::round(rt, alloc, order, senders),
         Exchange::Lock(producers) => behind_lock::round(rt, alloc, order, producers),
     }

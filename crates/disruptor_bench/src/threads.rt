@@ -119,7 +119,7 @@ fn start_one<O: Outlet<Event> + Drop + Send + 'static>(
 }
 
 /// Starts a thread for each handler.
-pub fn start<O: Outlet<Event> + Drop + Send + 'static>(
+fn start<O: Outlet<Event> + Drop + Send + 'static>(
     rt: &impl Threads,
     alloc: Global,
     receivers: Vec<O>,

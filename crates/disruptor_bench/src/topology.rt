@@ -14,8 +14,6 @@ pub enum Exchange {
     Ring,
     /// The ring over plain memory, of events of such a width, with a thread for each end.
     Plain(Width),
-    /// The ring with so many senders, and a thread for each end.
-    Senders(u64),
     /// The ring over plain memory with so many senders, and a thread for each end.
     PlainSenders(u64),
     /// The core behind a lock, with so many producers, and a thread for each of them and for each handler.
@@ -95,10 +93,6 @@ impl Exchange {
             let (producers, rest) = producers_before(rest)?;
             return Some((Exchange::Lock(producers), rest));
         }
-        if let Some(rest) = name.strip_prefix("senders") {
-            let (senders, rest) = producers_before(rest)?;
-            return Some((Exchange::Senders(senders), rest));
-        }
         Some((Exchange::Ring, name))
     }
 
@@ -108,7 +102,6 @@ impl Exchange {
             Exchange::Core(width) => write!(f, "core{width}-"),
             Exchange::Ring => Ok(()),
             Exchange::Plain(width) => write!(f, "plain{width}-"),
-            Exchange::Senders(senders) => write!(f, "senders{senders}-"),
             Exchange::PlainSenders(senders) => write!(f, "plain-senders{senders}-"),
             Exchange::Lock(producers) => write!(f, "lock{producers}-"),
         }
@@ -134,7 +127,6 @@ impl fmt::Display for Exchange {
             Exchange::Core(_) => "core",
             Exchange::Ring => "ring",
             Exchange::Plain(_) => "plain",
-            Exchange::Senders(_) => "senders",
             Exchange::PlainSenders(_) => "plain-senders",
             Exchange::Lock(_) => "lock",
         })

@@ -40,7 +40,6 @@ enum Way {
     Ring,
     Plain,
     Senders,
-    PlainSenders,
     Lock,
 }
 
@@ -55,7 +54,6 @@ impl Way {
             Way::Ring => over_ring::one_sender(rt, alloc, random),
             Way::Plain => over_ring::over_plain_memory(rt, alloc, random),
             Way::Senders => over_ring::several_senders(rt, alloc, random),
-            Way::PlainSenders => over_ring::several_over_plain_memory(rt, alloc, random),
             Way::Lock => by_lock::round(rt, alloc, random),
         }
     }
@@ -101,12 +99,9 @@ fn run<R: Runtime + Alloc<A = Global> + Threads + Wait + Sync>(rt: &R) -> Result
     let ring = Way::Ring.rounds(rt, alloc, seed, count)?;
     let plain = Way::Plain.rounds(rt, alloc, seed, count)?;
     let senders = Way::Senders.rounds(rt, alloc, seed, count)?;
-    let both = Way::PlainSenders.rounds(rt, alloc, seed, count)?;
     let lock = Way::Lock.rounds(rt, alloc, seed, count)?;
     println!(rt; "{count} rounds")?;
-    eprintln!(rt;
-        "by ring {ring}\nby plain {plain}\nby senders {senders}\nby plain senders {both}\nby lock {lock}"
-    )?;
+    eprintln!(rt; "by ring {ring}\nby plain {plain}\nby senders {senders}\nby lock {lock}")?;
     Ok(())
 }
 

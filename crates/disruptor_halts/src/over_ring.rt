@@ -1,4 +1,4 @@
-//! Rounds over the rings: of one sender and of several, over words and over plain memory.
+//! Rounds over the rings: of one sender over words, and of one and of several over plain memory.
 
 use crate::ends::{Halting, Producing, Taking};
 use crate::fault::Fault;
@@ -11,8 +11,8 @@ use crate::signs::Signs;
 use crate::stretch::Stretch;
 use crate::told::Told;
 use dr_meaning::MAX_LIMIT;
+use dr_plain_senders::senders_ring;
 use dr_ring::{Halter, Receiver, Sender, ring};
-use dr_senders::senders_ring;
 use dr_seq::Event;
 use std::alloc::Global;
 use std::sync::Wait;
@@ -47,22 +47,6 @@ impl Producing for dr_plain::Sender<Event> {
             Ok(()) => Ok(()),
             Err(_) => Err(Fault::WrongReply),
         }
-    }
-}
-
-impl Producing for dr_senders::Sender {
-    fn send(&mut self, sending: &mut Sending) -> Result<Stretch, Fault> {
-        sending.send(self)
-    }
-
-    fn may_halt(&mut self, random: &mut Random) {
-        if random.below(MOST_BEFORE_LEAVING) == 0 {
-            self.halt();
-        }
-    }
-
-    fn end(&mut self) -> Result<(), Fault> {
-        Ok(())
     }
 }
 
@@ -111,16 +95,6 @@ impl Taking for dr_plain::Receiver<Event> {
     }
 }
 
-impl Taking for dr_senders::Receiver {
-    fn receive(&mut self, receiving: &mut Receiving, signs: &Signs) -> Result<Stretch, Fault> {
-        receiving.receive(self, signs)
-    }
-
-    fn may_leave(&mut self, random: &mut Random, signs: &Signs) -> Result<Stretch, Fault> {
-        Ok(leave(random, signs))
-    }
-}
-
 impl Taking for dr_plain_senders::Receiver<Event> {
     fn receive(&mut self, receiving: &mut Receiving, signs: &Signs) -> Result<Stretch, Fault> {
         receiving.receive(self, signs)
@@ -140,12 +114,6 @@ impl Halting for Halter {
 impl Halting for dr_plain::Halter<Event> {
     fn halt(&mut self) {
         dr_plain::Halter::halt(self);
-    }
-}
-
-impl Halting for dr_senders::Halter {
-    fn halt(&mut self) {
-        dr_senders::Halter::halt(self);
     }
 }
 
@@ -199,23 +167,6 @@ fn open_over_plain_memory(
     })
 }
 
-fn open_with_several(
-    alloc: Global,
-    random: &mut Random,
-) -> Result<Opened<dr_senders::Sender, dr_senders::Receiver, dr_senders::Halter>, Fault> {
-    let size = any_size(random)?;
-    let graph = graph(alloc, random)?;
-    let count = random.below(MOST_SENDERS).saturating_add(1) as usize;
-    let (senders, receivers, halter) = senders_ring(alloc, &graph, size, MAX_LIMIT, count)?;
-    Ok(Opened {
-        inlets: senders,
-        outlets: receivers,
-        halter,
-        slots: size.get(),
-        in_order: false,
-    })
-}
-
 // The ends of a ring of events with several senders.
 type SomeSender = dr_plain_senders::Sender<Event>;
 
@@ -223,7 +174,7 @@ type SomeReceiver = dr_plain_senders::Receiver<Event>;
 
 type SomeHalter = dr_plain_senders::Halter<Event>;
 
-fn open_with_several_over_plain_memory(
+fn open_with_several(
     alloc: Global,
     random: &mut Random,
 ) -> Result<Opened<SomeSender, SomeReceiver, SomeHalter>, Fault> {
@@ -231,9 +182,8 @@ fn open_with_several_over_plain_memory(
     let graph = graph(alloc, random)?;
     let count = random.below(MOST_SENDERS).saturating_add(1) as usize;
     let events = vec![in alloc; Event::NONE; size.get() as usize]?;
-    let (senders, receivers, halter) = dr_plain_senders::senders_ring(
-        alloc, &graph, size, MAX_LIMIT, count, events,
-    )?;
+    let made = senders_ring(alloc, &graph, size, MAX_LIMIT, count, events);
+    let (senders, receivers, halter) = made?;
     Ok(Opened {
         inlets: senders,
         outlets: receivers,
@@ -263,22 +213,12 @@ pub fn over_plain_memory<R: Threads + Wait + Sync>(
     told(rt, alloc, opened, random)
 }
 
-/// Runs a ring of several senders, which may halt it too.
+/// Runs a ring of several senders over plain memory, which may halt it too.
 pub fn several_senders<R: Threads + Wait + Sync>(
     rt: &R,
     alloc: Global,
     random: &mut Random,
 ) -> Result<Told, Fault> {
     let opened = open_with_several(alloc, random)?;
-    told(rt, alloc, opened, random)
-}
-
-/// Runs a ring of several senders over plain memory, which may halt it too.
-pub fn several_over_plain_memory<R: Threads + Wait + Sync>(
-    rt: &R,
-    alloc: Global,
-    random: &mut Random,
-) -> Result<Told, Fault> {
-    let opened = open_with_several_over_plain_memory(alloc, random)?;
     told(rt, alloc, opened, random)
 }

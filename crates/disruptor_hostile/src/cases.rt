@@ -7,13 +7,18 @@ use crate::core_calls::{tell_opened, tell_run};
 use crate::fault::Fault;
 use crate::parts::tell_parts;
 use crate::plain_calls::{tell_plain, tell_plain_ends};
+use crate::plain_dropping::tell_plain_dropped;
 use crate::plain_senders_calls::tell_plain_senders_ends;
+use crate::plain_senders_dropping::tell_plain_senders_dropped;
 use crate::plain_senders_making::tell_plain_senders;
 use crate::recording::{tell_calls, tell_recorded};
 use crate::ring_calls::tell_ring;
+use crate::scripts::tell_scripts;
 use crate::settling::tell_settled;
 use crate::taking_none::{tell_core, tell_ends, tell_kept, tell_many};
 use std::alloc::Global;
+use std::sync::Wait;
+use std::thread::Threads;
 
 /// What is called.
 #[derive(Clone, Copy)]
@@ -27,12 +32,18 @@ pub enum Case {
     Ring,
     /// A ring over plain memory.
     Plain,
+    /// Rings over plain memory whose ends are dropped, one by one.
+    PlainDropped,
     /// One with several senders, over events of which each is dropped once.
     PlainSenders,
+    /// Such rings whose ends are dropped, one by one.
+    PlainSendersDropped,
     /// `run`, at a gap between two producers.
     Run,
     Call,
     Audit,
+    /// A run in one call, with a thread for each of two handlers and of two scripts.
+    Scripts,
     /// Every call of cores that are open.
     Core,
     /// A poll of many events.
@@ -52,17 +63,20 @@ pub enum Case {
 }
 
 impl Case {
-    pub const ALL: [Case; 18] = [
+    pub const ALL: [Case; 20] = [
         Case::Builder,
         Case::Build,
         Case::Open,
         Case::Record,
         Case::Ring,
         Case::Plain,
+        Case::PlainDropped,
         Case::PlainSenders,
+        Case::PlainSendersDropped,
         Case::Run,
         Case::Call,
         Case::Audit,
+        Case::Scripts,
         Case::Core,
         Case::Many,
         Case::Ends,
@@ -82,10 +96,13 @@ impl Case {
             Case::Record => "record",
             Case::Ring => "ring",
             Case::Plain => "plain",
+            Case::PlainDropped => "plain-dropped",
             Case::PlainSenders => "plain-senders",
+            Case::PlainSendersDropped => "plain-senders-dropped",
             Case::Run => "run",
             Case::Call => "call",
             Case::Audit => "audit",
+            Case::Scripts => "scripts",
             Case::Core => "core",
             Case::Many => "many",
             Case::Ends => "ends",
@@ -108,7 +125,11 @@ impl Case {
     }
 }
 
-fn tell_once<R: Print>(rt: &R, alloc: Global, case: Case) -> Result<(), Fault> {
+fn tell_once<R: Print + Threads + Wait + Copy + Send + 'static>(
+    rt: &R,
+    alloc: Global,
+    case: Case,
+) -> Result<(), Fault> {
     match case {
         Case::Builder => tell_builder(rt, alloc),
         Case::Build => tell_built(rt, alloc),
@@ -116,10 +137,13 @@ fn tell_once<R: Print>(rt: &R, alloc: Global, case: Case) -> Result<(), Fault> {
         Case::Record => tell_recorded(rt, alloc),
         Case::Ring => tell_ring(rt, alloc),
         Case::Plain => tell_plain(rt, alloc),
+        Case::PlainDropped => tell_plain_dropped(rt, alloc),
         Case::PlainSenders => tell_plain_senders(rt, alloc),
+        Case::PlainSendersDropped => tell_plain_senders_dropped(rt, alloc),
         Case::Run => tell_run(rt, alloc),
         Case::Call => tell_calls(rt, alloc),
         Case::Audit => tell_audits(rt, alloc),
+        Case::Scripts => tell_scripts(*rt, alloc),
         Case::Core => tell_core(rt, alloc),
         Case::Many => tell_many(rt, alloc),
         Case::Ends => tell_ends(rt, alloc),
@@ -133,7 +157,11 @@ fn tell_once<R: Print>(rt: &R, alloc: Global, case: Case) -> Result<(), Fault> {
 
 /// Makes the calls of a case. But for the builder's, which ends by a call that spends the builder, they are made again
 /// where memory runs out: it can do so before the first line alone.
-pub fn tell<R: Print>(rt: &R, alloc: Global, case: Case) -> Result<(), Fault> {
+pub fn tell<R: Print + Threads + Wait + Copy + Send + 'static>(
+    rt: &R,
+    alloc: Global,
+    case: Case,
+) -> Result<(), Fault> {
     if matches!(case, Case::Builder) {
         return tell_once(rt, alloc, case);
     }

@@ -1,7 +1,7 @@
-//! Calls of the library, each answer a line, for runs in which requests for memory are refused.
+//! Calls of the library, each answer a line, for runs in which requests for memory, or starts of threads, are refused.
 //!
 //! `disruptor_hostile CASE` makes the calls of a case, and `disruptor_hostile all` those of every case.
-//! Where a call answers that memory ran out, a line `no-memory` says so, and it is made again.
+//! Where a call answers that memory ran out, or a thread was lacking, a line `no-memory` says so, and it is made again.
 #![tactic(auto)]
 
 mod again;
@@ -13,10 +13,13 @@ mod fault;
 mod graphs;
 mod parts;
 mod plain_calls;
+mod plain_dropping;
 mod plain_senders_calls;
+mod plain_senders_dropping;
 mod plain_senders_making;
 mod recording;
 mod ring_calls;
+mod scripts;
 mod settling;
 mod taking_none;
 mod telling;
@@ -27,8 +30,13 @@ use std::alloc::Global;
 use std::env;
 use std::process::ExitCode;
 use std::rt::Runtime;
+use std::sync::Wait;
+use std::thread::Threads;
 
-fn tell_all<R: Print>(rt: &R, alloc: Global) -> Result<(), Fault> {
+fn tell_all<R: Print + Threads + Wait + Copy + Send + 'static>(
+    rt: &R,
+    alloc: Global,
+) -> Result<(), Fault> {
     for case in Case::ALL {
         let name = case.name();
         println!(rt; "case {name}")?;
@@ -37,7 +45,9 @@ fn tell_all<R: Print>(rt: &R, alloc: Global) -> Result<(), Fault> {
     Ok(())
 }
 
-fn run(rt: &(impl Runtime + Alloc<A = Global>)) -> Result<(), Fault> {
+fn run<R: Runtime + Alloc<A = Global> + Threads + Wait + Copy + Send + 'static>(
+    rt: &R,
+) -> Result<(), Fault> {
     let alloc = rt.alloc();
     let words: Vec<String> = env::args(rt)?.skip(1).collect(alloc)?;
     match words.as_slice() {

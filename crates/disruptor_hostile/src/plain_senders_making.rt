@@ -1,4 +1,4 @@
-//! A ring over plain memory with several senders is made. Where memory runs out, each of its events is
+//! Rings over plain memory with several senders are made. Where memory runs out, each event of a ring is
 //! dropped once.
 
 ghost use Rattle.std.specs.Prelude.{IfOk};
@@ -37,12 +37,12 @@ pub fn opened<T: Drop>(alloc: Global, graph: &Graph, events: Vec<T>) -> Result<E
 
 /// An event that has a part in a number, in which nobody else has one but who keeps the numbers.
 #[derive(Drop)]
-struct Counted {
+pub struct Counted {
     number: Arc<u64>,
 }
 
 /// The numbers of four events.
-fn four_numbers(alloc: Global) -> Result<Vec<Arc<u64>>, AllocError> {
+pub fn four_numbers(alloc: Global) -> Result<Vec<Arc<u64>>, AllocError> {
     let mut numbers = Vec::new(alloc);
     for number in 4..8u64 {
         numbers.push(Arc::new(alloc, number)?)?;
@@ -56,7 +56,7 @@ fn event_of(number: &Arc<u64>) -> Result<Counted, AllocError> {
 }
 
 /// An event for each number.
-fn events_of(alloc: Global, numbers: &[Arc<u64>]) -> Result<Vec<Counted>, AllocError> {
+pub fn events_of(alloc: Global, numbers: &[Arc<u64>]) -> Result<Vec<Counted>, AllocError> {
     let mut events = Vec::new(alloc);
     for number in numbers {
         events.push(event_of(number)?)?;
@@ -65,7 +65,7 @@ fn events_of(alloc: Global, numbers: &[Arc<u64>]) -> Result<Vec<Counted>, AllocE
 }
 
 /// Whether each event was dropped once.
-fn are_dropped(numbers: &[Arc<u64>]) -> bool {
+pub fn are_dropped(numbers: &[Arc<u64>]) -> bool {
     for number in numbers {
         if Arc::strong_count(number) != 1 {
             return false;
@@ -82,7 +82,7 @@ fn opened_with(alloc: Global, graph: &Graph, numbers: &[Arc<u64>]) -> Result<End
 }
 
 /// The ends of a ring over an event for each number. Where there is none, the events are dropped.
-fn opened_over(alloc: Global, graph: &Graph, numbers: &[Arc<u64>]) -> Result<Ends<Counted>, Fault>
+pub fn opened_over(alloc: Global, graph: &Graph, numbers: &[Arc<u64>]) -> Result<Ends<Counted>, Fault>
     ensures { IfOk result (λ ends. AreAllEnds ends.senders.items ends.receivers.items ends.halter) }
 {
     match opened_with(alloc, graph, numbers) {
@@ -104,23 +104,26 @@ fn tell_event<R: Print>(rt: &R, event: Option<Counted>) -> Result<(), Fault> {
     }
 }
 
-/// Uses two of the events that came back.
-fn tell_two<R: Print>(
+/// Uses so many of the events that came back.
+fn tell_some<R: Print>(
     rt: &R,
     settled: &Settled<Counted>,
     events: &mut Values<Counted>,
+    count: usize,
 ) -> Result<(), Fault> {
     tell_both(rt, settled.claimed(), settled.handlers())?;
-    tell_event(rt, events.next())?;
-    tell_event(rt, events.next())
+    for _ in 0..count {
+        tell_event(rt, events.next())?;
+    }
+    Ok(())
 }
 
-/// Brings the ends of a ring together, uses two of the events that come back, and drops the others.
-fn tell_back<R: Print>(rt: &R, ends: Ends<Counted>) -> Result<(), Fault>
+/// Brings the ends of a ring together, uses so many of the events that come back, and drops the others.
+fn tell_back<R: Print>(rt: &R, ends: Ends<Counted>, count: usize) -> Result<(), Fault>
     requires { AreAllEnds ends.senders.items ends.receivers.items ends.halter }
 {
     let (settled, mut events) = finish(ends.senders, ends.receivers, ends.halter);
-    tell_two(rt, &settled, &mut events)
+    tell_some(rt, &settled, &mut events, count)
 }
 
 fn tell_ring_over<R: Print>(
@@ -128,29 +131,31 @@ fn tell_ring_over<R: Print>(
     alloc: Global,
     graph: &Graph,
     numbers: &[Arc<u64>],
+    count: usize,
 ) -> Result<(), Fault> {
     let ends = opened_over(alloc, graph, numbers)?;
-    tell_back(rt, ends)?;
+    tell_back(rt, ends, count)?;
     tell_about(rt, "dropped", are_dropped(numbers))
 }
 
-fn tell_ring_of<R: Print>(
+fn tell_rings_of<R: Print>(
     rt: &R,
     alloc: Global,
     graph: &Graph,
     numbers: &[Arc<u64>],
 ) -> Result<(), Fault> {
-    again!(rt, tell_ring_over(rt, alloc, graph, numbers));
+    again!(rt, tell_ring_over(rt, alloc, graph, numbers, 4));
+    again!(rt, tell_ring_over(rt, alloc, graph, numbers, 2));
     tell_graph(rt, graph)
 }
 
-fn tell_ring<R: Print>(rt: &R, alloc: Global, graph: &Graph) -> Result<(), Fault> {
+fn tell_rings<R: Print>(rt: &R, alloc: Global, graph: &Graph) -> Result<(), Fault> {
     let numbers = four_numbers(alloc)?;
-    tell_ring_of(rt, alloc, graph, numbers.as_slice())
+    tell_rings_of(rt, alloc, graph, numbers.as_slice())
 }
 
-/// Makes a ring, and brings its ends together.
+/// Makes rings, and brings the ends of each together.
 pub fn tell_plain_senders<R: Print>(rt: &R, alloc: Global) -> Result<(), Fault> {
     let graph = diamond(alloc)?;
-    tell_ring(rt, alloc, &graph)
+    tell_rings(rt, alloc, &graph)
 }

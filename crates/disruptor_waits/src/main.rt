@@ -12,8 +12,8 @@
 //! `idle STRATEGY SECONDS` leaves the same handlers without an event for so long, for who measures what that costs.
 //!
 //! `latency EXCHANGE STRATEGY EVENTS NANOS` sends an event each so many nanoseconds through `ring`, `plain` or
-//! `senders`, and prints how many nanoseconds each took through three handlers. `--check` runs a little of each but `idle`,
-//! and prints nothing that a clock decides. A strategy is `yielding`, `spinning` or `parking`.
+//! `plain-senders`, and prints how many nanoseconds each took through three handlers. `--check` runs a little of each but
+//! `idle`, and prints nothing that a clock decides. A strategy is `yielding`, `spinning` or `parking`.
 #![tactic(auto)]
 
 mod clock;

@@ -9,17 +9,17 @@ use std::num::NonZeroU64;
 pub enum Exchange {
     Ring,
     Plain,
-    Senders,
+    PlainSenders,
 }
 
 impl Exchange {
-    pub const ALL: [Exchange; 3] = [Exchange::Ring, Exchange::Plain, Exchange::Senders];
+    pub const ALL: [Exchange; 3] = [Exchange::Ring, Exchange::Plain, Exchange::PlainSenders];
 
     fn name(self) -> &'static str {
         match self {
             Exchange::Ring => "ring",
             Exchange::Plain => "plain",
-            Exchange::Senders => "senders",
+            Exchange::PlainSenders => "plain-senders",
         }
     }
 
@@ -27,7 +27,7 @@ impl Exchange {
         match word {
             "ring" => Some(Exchange::Ring),
             "plain" => Some(Exchange::Plain),
-            "senders" => Some(Exchange::Senders),
+            "plain-senders" => Some(Exchange::PlainSenders),
             _ => None,
         }
     }

@@ -10,13 +10,15 @@ use Rattle.dr_ring.specs.Meaning.Records.{claimed, halter_halted}
 use Rattle.dr_ring.specs.Calls.Ends.{SenderEnd, ReceiverEnd, HalterEnd, HasStored}
 use Rattle.dr_ring.specs.Calls.Sending.{ClaimCall, WriteCall, PublishCall, CloseCall, ClosesOnceDone}
 use Rattle.dr_ring.specs.Calls.Receiving.{PollCall, CompleteCall}
-use Rattle.dr_senders.specs.declared.claiming.ClaimFault.{ClaimFault}
-use Rattle.dr_senders.specs.declared.record.Step.TheVariants as steps_of_several
-use Rattle.dr_senders.specs.Meaning.Records as records_of_several
-use Rattle.dr_senders.specs.Calls.Ends as several
-use Rattle.dr_senders.specs.Calls.Sending as claims_of_several
-use Rattle.dr_senders.specs.Calls.Writing as writes_of_several
-use Rattle.dr_senders.specs.Calls.Receiving as polls_of_several
+use Rattle.dr_plain_senders.specs.declared.claiming.ClaimFault.{ClaimFault}
+use Rattle.dr_plain_senders.specs.declared.record.Step.TheVariants as steps_of_several
+use Rattle.dr_plain_senders.specs.Meaning.Records as records_of_several
+use Rattle.dr_plain_senders.specs.Calls.Ends as several
+use Rattle.dr_plain_senders.specs.Calls.Sending as claims_of_several
+use Rattle.dr_plain_senders.specs.Calls.Writing as writes_of_several
+use Rattle.dr_plain_senders.specs.Calls.Publishing as publications_of_several
+use Rattle.dr_plain_senders.specs.Calls.Receiving as completions_of_several
+use Rattle.dr_plain_senders.specs.Calls.Outlets as polls_of_several
 use Rattle.dr_plain.specs.declared.record.Step.TheVariants as steps_of_bytes
 use Rattle.dr_plain.specs.declared.record.ReceiverRecord.{ReceiverRecord}
 use Rattle.dr_plain.specs.Meaning.Records as records_of_bytes
@@ -34,18 +36,18 @@ use Rattle.dr_c.specs.Places.{Whether}
 
 -- A call of a sender, which answers C by the number of its own answer; another end is refused, and stays as it was.
 abbrev pub OfSender : {A F : Type 0} → (Result A F → ℕ) → End → End → ℕ → Type 0 → (SenderEnd → SenderEnd → Result A Refusal → Type 0)
-    → (several.SenderEnd → several.SenderEnd → Result A F → Type 0) → Type 0
+    → (several.SenderEnd Event → several.SenderEnd Event → Result A F → Type 0) → Type 0
 OfSender {A} number_of (Sender s) end' number Same Call OfSeveral = (s' : SenderEnd) × (answer : Result A Refusal) × (end' ≡ Sender s') × (number ≡ told answer) × Call s s' answer
 OfSender {A} {F} number_of (SenderOfSeveral s) end' number Same Call OfSeveral =
-    (s' : several.SenderEnd) × (answer : Result A F) × (end' ≡ SenderOfSeveral s') × (number ≡ number_of answer) × OfSeveral s s' answer
+    (s' : several.SenderEnd Event) × (answer : Result A F) × (end' ≡ SenderOfSeveral s') × (number ≡ number_of answer) × OfSeveral s s' answer
 OfSender number_of other end' number Same Call OfSeveral = (end' ≡ other) × (number ≡ wrong_end) × Same
 
 -- the same of a receiver
 abbrev pub OfReceiver : {A : Type 0} → End → End → ℕ → Type 0 → (ReceiverEnd → ReceiverEnd → Result A Refusal → Type 0)
-    → (several.ReceiverEnd → several.ReceiverEnd → Result A Refusal → Type 0) → Type 0
+    → (several.ReceiverEnd Event → several.ReceiverEnd Event → Result A Refusal → Type 0) → Type 0
 OfReceiver {A} (Receiver r) end' number Same Call OfSeveral = (r' : ReceiverEnd) × (answer : Result A Refusal) × (end' ≡ Receiver r') × (number ≡ told answer) × Call r r' answer
 OfReceiver {A} (ReceiverOfSeveral r) end' number Same Call OfSeveral =
-    (r' : several.ReceiverEnd) × (answer : Result A Refusal) × (end' ≡ ReceiverOfSeveral r') × (number ≡ told answer) × OfSeveral r r' answer
+    (r' : several.ReceiverEnd Event) × (answer : Result A Refusal) × (end' ≡ ReceiverOfSeveral r') × (number ≡ told answer) × OfSeveral r r' answer
 OfReceiver other end' number Same Call OfSeveral = (end' ≡ other) × (number ≡ wrong_end) × Same
 
 -- a call of a sender of bytes: each event has as many as before
@@ -59,12 +61,14 @@ OfReader {A} r end' number Call = (r' : plain.ReceiverEnd (List ℕ)) × (answer
 
 -- a call that a sender of bytes has too
 abbrev pub OfEachSender : {A F : Type 0} → (Result A F → ℕ) → End → End → ℕ → Type 0 → (SenderEnd → SenderEnd → Result A Refusal → Type 0)
-    → (several.SenderEnd → several.SenderEnd → Result A F → Type 0) → (plain.SenderEnd (List ℕ) → plain.SenderEnd (List ℕ) → Result A Refusal → Type 0) → Type 0
+    → (several.SenderEnd Event → several.SenderEnd Event → Result A F → Type 0)
+    → (plain.SenderEnd (List ℕ) → plain.SenderEnd (List ℕ) → Result A Refusal → Type 0) → Type 0
 OfEachSender number_of (SenderOfBytes w) end' number Same Call OfSeveral OfBytes = OfWriter w end' number OfBytes
 OfEachSender number_of other end' number Same Call OfSeveral OfBytes = OfSender number_of other end' number Same Call OfSeveral
 
 abbrev pub OfEachReceiver : {A : Type 0} → End → End → ℕ → Type 0 → (ReceiverEnd → ReceiverEnd → Result A Refusal → Type 0)
-    → (several.ReceiverEnd → several.ReceiverEnd → Result A Refusal → Type 0) → (plain.ReceiverEnd (List ℕ) → plain.ReceiverEnd (List ℕ) → Result A Refusal → Type 0) → Type 0
+    → (several.ReceiverEnd Event → several.ReceiverEnd Event → Result A Refusal → Type 0)
+    → (plain.ReceiverEnd (List ℕ) → plain.ReceiverEnd (List ℕ) → Result A Refusal → Type 0) → Type 0
 OfEachReceiver (ReceiverOfBytes r) end' number Same Call OfSeveral OfBytes = OfReader r end' number OfBytes
 OfEachReceiver other end' number Same Call OfSeveral OfBytes = OfReceiver other end' number Same Call OfSeveral
 
@@ -72,7 +76,8 @@ OfEachReceiver other end' number Same Call OfSeveral OfBytes = OfReceiver other 
 abbrev pub HaltsBy : End → End → ℕ → Type 0
 HaltsBy (Halter h) end' number = (h' : HalterEnd) × (end' ≡ Halter h') × (number ≡ 0) × HasStored h HalterHalts (halter_halted h.knows) h'
 HaltsBy (HalterOfSeveral h) end' number =
-    (h' : several.HalterEnd) × (found : ℕ) × (end' ≡ HalterOfSeveral h') × (number ≡ 0) × several.HasStored h steps_of_several.HalterHalts (records_of_several.halter_halted h.knows found) h'
+    (h' : several.HalterStand Event) × (found : ℕ) × (end' ≡ HalterOfSeveral h') × (number ≡ 0)
+    × several.HasStored h steps_of_several.HalterHalts (records_of_several.halter_halted h.knows found) h.hand h'
 HaltsBy (HalterOfBytes h) end' number =
     (h' : plain.HalterStand (List ℕ)) × (end' ≡ HalterOfBytes h') × (number ≡ 0) × plain.HasStored h steps_of_bytes.HalterHalts (records_of_bytes.halter_halted h.knows) h.hand h'
 HaltsBy other end' number = (end' ≡ other) × (number ≡ wrong_end)
@@ -85,11 +90,13 @@ IsFirst (Err fault) lo lo' = lo' ≡ lo
 abbrev pub ClaimsBy : ℕ → ℕ → ℕ → ℕ → End → End → Type 0
 ClaimsBy n lo lo' number end end' =
     OfEachSender {F = ClaimFault} told_of_claim end end' number (lo' ≡ lo) (λ s s' answer. ClaimCall s n s' answer × IsFirst answer lo lo')
-    (λ s s' answer. claims_of_several.ClaimCall s n s' answer × IsFirst answer lo lo') (λ s s' answer. sends_of_bytes.ClaimCall s n s' answer × IsFirst answer lo lo')
+    (λ s s' answer. claims_of_several.SenderClaimCall s n s' answer × IsFirst answer lo lo')
+    (λ s s' answer. sends_of_bytes.ClaimCall s n s' answer × IsFirst answer lo lo')
 
 abbrev pub WritesBy : ℕ → Event → ℕ → End → End → Type 0
 WritesBy sequence event number end end' =
-    OfSender {F = Refusal} told end end' number (Unit {0}) (λ s s' answer. WriteCall s sequence event s' answer) (λ s s' answer. writes_of_several.WriteCall s sequence event s' answer)
+    OfSender {F = Refusal} told end end' number (Unit {0}) (λ s s' answer. WriteCall s sequence event s' answer)
+    (λ s s' answer. writes_of_several.WriteCall s sequence event s' answer)
 
 -- A sender of bytes writes as many as each of its events has, in the place of what lay there.
 abbrev pub WritesBytesBy : ℕ → List ℕ → ℕ → End → End → Type 0
@@ -100,7 +107,8 @@ WritesBytesBy sequence bytes number other end' = (end' ≡ other) × (number ≡
 
 abbrev pub PublishesBy : ℕ → ℕ → ℕ → End → End → Type 0
 PublishesBy lo hi number end end' =
-    OfEachSender {F = Refusal} told end end' number (Unit {0}) (λ s s' answer. PublishCall s lo hi s' answer) (λ s s' answer. writes_of_several.PublishCall s lo hi s' answer)
+    OfEachSender {F = Refusal} told end end' number (Unit {0}) (λ s s' answer. PublishCall s lo hi s' answer)
+    (λ s s' answer. publications_of_several.PublishCall s lo hi s' answer)
     (λ s s' answer. sends_of_bytes.PublishCall s lo hi s' answer)
 
 -- only a ring of one sender is closed: one of several ends with its halt
@@ -124,7 +132,7 @@ IsOffer (Err refusal) offer offer' = offer' ≡ offer
 abbrev pub PollsBy : List Event → List Event → Offer → Offer → ℕ → End → End → Type 0
 PollsBy out out' offer offer' number end end' =
     OfReceiver end end' number ((out' ≡ out) × (offer' ≡ offer)) (λ r r' answer. PollCall r out r' out' answer × IsOffer answer offer offer')
-    (λ r r' answer. polls_of_several.PollCall r out r' out' answer × IsOffer answer offer offer')
+    (λ r r' answer. polls_of_several.PollIntoCall r out r' out' answer × IsOffer answer offer offer')
 
 -- a receiver of bytes takes events, and reads each until it completes it
 abbrev pub PollsBytesBy : ℕ → Offer → Offer → ℕ → End → End → Type 0
@@ -145,7 +153,8 @@ ReadsBytesBy sequence into into' number other = (number ≡ wrong_end) × (into'
 
 abbrev pub CompletesBy : ℕ → ℕ → End → End → Type 0
 CompletesBy upto number end end' =
-    OfEachReceiver end end' number (Unit {0}) (λ r r' answer. CompleteCall r upto r' answer) (λ r r' answer. polls_of_several.CompleteCall r upto r' answer)
+    OfEachReceiver end end' number (Unit {0}) (λ r r' answer. CompleteCall r upto r' answer)
+    (λ r r' answer. completions_of_several.CompleteCall r upto r' answer)
     (λ r r' answer. polls_of_bytes.CompleteCall r upto r' answer)
 
 -- How far an end came: what a sender claimed and published, what a receiver took and completed. One of several senders does not count what it published, and a halter counts nothing.

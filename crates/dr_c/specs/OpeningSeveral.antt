@@ -1,8 +1,11 @@
 -- How a ring of several senders comes into handles.
-use Rattle.std.specs.Prelude.{◌≡◌, ℕ, Bool, ◌||◌, is_some, Option, Some, List, Result, Ok, Err, length, map}
+use Rattle.std.specs.Prelude.{◌≡◌, ℕ, Bool, ◌||◌, is_some, Option, Some, List, Result, Ok, Err, length, map, replicate}
 use Rattle.std.specs.List.{list_any}
-use Rattle.dr_senders.specs.Calls.Ends.{SenderEnd, ReceiverEnd, HalterEnd}
-use Rattle.dr_senders.specs.Calls.Making.{AreFreshEnds}
+use denote.RawPtr.{Ptr}
+use Rattle.dr_seq.specs.declared.event.Event.{Event}
+use Rattle.dr_seq.specs.Event.{no_event}
+use Rattle.dr_plain_senders.specs.Calls.Ends.{SenderEnd, ReceiverEnd, HalterStand}
+use Rattle.dr_plain_senders.specs.Calls.Making.{AreFreshEnds}
 use Rattle.dr_c.specs.declared.end.End.{End}
 use Rattle.dr_c.specs.declared.end.End.TheVariants.{SenderOfSeveral, ReceiverOfSeveral, HalterOfSeveral}
 use Rattle.dr_c.specs.declared.handle.Handle.{Handle}
@@ -10,18 +13,20 @@ use Rattle.dr_c.specs.declared.open_fault.OpenFault.{OpenFault}
 use Rattle.dr_c.specs.OpenFault.{IsFine, IsWhy}
 use Rattle.dr_c.specs.Opening.{FollowsMasks, ends_in, has, told_of_opening}
 
--- the ends of a new ring of a size, a limit, masks and so many senders
-pub record AreOpened (size limit : ℕ) (masks : List ℕ) (senders : ℕ) (ss : List SenderEnd) (rs : List ReceiverEnd) (h : HalterEnd) : Type 0 where
+-- the ends of a new ring of a size, a limit, masks and so many senders, whose events are of zeros
+pub record AreOpened (size limit : ℕ) (masks : List ℕ) (senders : ℕ) (ss : List (SenderEnd Event)) (rs : List (ReceiverEnd Event)) (h : HalterStand Event)
+    : Type 0 where
   pub graph : List (List ℕ)
   pub all : length graph ≡ length masks
   pub follows : FollowsMasks graph masks
-  pub fresh : AreFreshEnds (record { upstreams = graph; size = size; limit = limit; senders = senders }) ss rs h
+  pub strip : Ptr
+  pub fresh : AreFreshEnds (record { upstreams = graph; size = size; limit = limit; senders = senders; strip = strip; begun = replicate size no_event }) ss rs h
 
 -- a new ring's ends are in handles
 pub record OpensBy (size limit : ℕ) (masks : List ℕ) (count : ℕ) (senders receivers : List (Option End)) (halter : Option End) : Type 0 where
-  pub ss : List SenderEnd
-  pub rs : List ReceiverEnd
-  pub h : HalterEnd
+  pub ss : List (SenderEnd Event)
+  pub rs : List (ReceiverEnd Event)
+  pub h : HalterStand Event
   pub opened : AreOpened size limit masks count ss rs h
   pub sends : senders ≡ map has (map SenderOfSeveral ss)
   pub receives : receivers ≡ map has (map ReceiverOfSeveral rs)

@@ -3,6 +3,7 @@
 use crate::bytes::Bytes;
 use crate::writer::Writer;
 use dr_ring::{Halter, Receiver, Sender};
+use dr_seq::Event;
 
 /// An end of a ring of one sender, of several, or of bytes.
 #[derive(Drop)]
@@ -10,9 +11,9 @@ pub enum End {
     Sender(Sender),
     Receiver(Receiver),
     Halter(Halter),
-    SenderOfSeveral(dr_senders::Sender),
-    ReceiverOfSeveral(dr_senders::Receiver),
-    HalterOfSeveral(dr_senders::Halter),
+    SenderOfSeveral(dr_plain_senders::Sender<Event>),
+    ReceiverOfSeveral(dr_plain_senders::Receiver<Event>),
+    HalterOfSeveral(dr_plain_senders::Halter<Event>),
     SenderOfBytes(Writer),
     ReceiverOfBytes(dr_plain::Receiver<Bytes>),
     HalterOfBytes(dr_plain::Halter<Bytes>),

@@ -12,18 +12,19 @@ use crate::graph::graph;
 use crate::handle::Handle;
 use crate::open_fault::OpenFault;
 use crate::opening::{are_open, as_many, boxed, fill, free_all};
-use dr_senders::{Halter, Receiver, Sender, senders_ring};
+use dr_plain_senders::{Halter, Receiver, Sender, senders_ring};
+use dr_seq::Event;
 use std::alloc::Global;
 
 // The ends of a ring, or what refuses it.
-#[tactic(auto, using(crate::proofs::Opened::no_memory))]
+#[tactic(auto, using(crate::proofs::Opened::no_memory, crate::proofs::OpenedSeveral::opened_by))]
 fn ends(
     alloc: Global,
     size: u64,
     limit: u64,
     masks: &[u64],
     senders: usize,
-) -> Result<(Vec<Sender>, Vec<Receiver>, Halter), OpenFault>
+) -> Result<(Vec<Sender<Event>>, Vec<Receiver<Event>>, Halter<Event>), OpenFault>
     ensures made { IfOk result (λ made. AreOpened size limit masks.now senders made.0.items made.1.items made.2) }
     ensures fine { IfOk result (λ made. IsFine false (length masks.now) senders size limit masks.now) }
     ensures refused { IfErr result (λ fault. IsWhy false (length masks.now) senders size limit masks.now fault) }
@@ -35,8 +36,11 @@ fn ends(
     let Ok(graph) = graph(alloc, masks) else {
         return Err(OpenFault::NoMemory);
     };
+    let Ok(events) = vec![in alloc; Event::NONE; size.get() as usize] else {
+        return Err(OpenFault::NoMemory);
+    };
     // (the senders and the limit are good ones by now)
-    match senders_ring(alloc, &graph, size, limit, senders) {
+    match senders_ring(alloc, &graph, size, limit, senders, events) {
         Ok(ends) => Ok(ends),
         Err(_) => Err(OpenFault::NoMemory),
     }
@@ -51,9 +55,9 @@ fn is_one_open(senders: &[Handle], receivers: &[Handle], halter: &Handle) -> boo
 fn fill_both(
     alloc: Global,
     senders: &mut [Handle],
-    ss: Vec<Sender>,
+    ss: Vec<Sender<Event>>,
     receivers: &mut [Handle],
-    rs: Vec<Receiver>,
+    rs: Vec<Receiver<Event>>,
 ) -> Result<(), OpenFault>
     ensures { OnOk result ((ends_in senders.new ≡ map has (map SenderOfSeveral ss.items)) × (ends_in receivers.new ≡ map has (map ReceiverOfSeveral rs.items))) }
 {

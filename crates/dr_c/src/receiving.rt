@@ -7,7 +7,7 @@ use crate::batch::Offer;
 use crate::bytes::Bytes;
 use crate::end::End;
 use crate::numbers::{BAD_LENGTH, NOT_IN_HAND, WRONG_END, number};
-use dr_meaning::Polled;
+use dr_meaning::{Outlet, Polled};
 use dr_plain::Receiver;
 use dr_seq::Event;
 
@@ -40,12 +40,12 @@ pub fn poll(end: &mut End, out: &mut [Event], offer: &mut Offer) -> u32
             }
             Err(refusal) => refusal.number(),
         },
-        End::ReceiverOfSeveral(receiver) => match receiver.poll_into(out) {
+        End::ReceiverOfSeveral(receiver) => match Outlet::poll_into(receiver, out) {
             Ok(polled) => {
                 *offer = offer_of(polled);
                 0
             }
-            Err(refusal) => refusal.number(),
+            Err(trouble) => trouble.number(),
         },
         _ => WRONG_END,
     }

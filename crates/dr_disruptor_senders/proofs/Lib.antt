@@ -9,3 +9,4 @@ pub mod Untroubled
 pub mod Polled
 pub mod Ready
 pub mod Settled
+pub mod Crossing

@@ -5,11 +5,10 @@ use Rattle.std.proofs.lemmas.List.{append-nil}
 use mathlib.Core.Option.{some, some-injective, some-ne-none}
 use lib.ListN.{get_elem?}
 use Rattle.dr_seq.specs.declared.event.Event.{Event}
-use Rattle.dr_seq.specs.Rounds.{entry_of}
 use Rattle.dr_meaning.specs.Meaning.Transcript.{Transcript}
 use Rattle.dr_runs.proofs.Elements.{each_set}
 use Rattle.dr_plain_senders.specs.Meaning.Shape.{Shape, IsShape}
-use Rattle.dr_plain_senders.specs.Meaning.Words.{claim_word, claimed_in, halted_from, mark_word, count_word}
+use Rattle.dr_plain_senders.specs.Meaning.Words.{claim_word, claimed_in, halted_from, mark_word, mark_bit, flipped, count_word}
 use Rattle.dr_plain_senders.specs.declared.record.Stage.{Stage}
 use Rattle.dr_plain_senders.specs.declared.record.Own.{Own}
 use Rattle.dr_plain_senders.specs.declared.record.SenderRecord.{SenderRecord}
@@ -19,10 +18,10 @@ use Rattle.dr_plain_senders.specs.declared.record.Step.TheVariants.{SenderLooksA
 use Rattle.dr_plain_senders.specs.declared.record.Step.TheVariants.{ReceiverLooksAtCount, ReceiverCompletes, HalterHalts}
 use Rattle.dr_plain_senders.specs.Meaning.Records.{fresh_stage, fresh_own, published, own_after, brought, sender_looked, mark_found, claimed_from}
 use Rattle.dr_plain_senders.specs.Meaning.Rule.{World, KeepsRule}
-use Rattle.dr_plain_senders.specs.Meaning.Steps.{Happens, sender_knows, sender_claims}
+use Rattle.dr_plain_senders.specs.Meaning.Steps.{Happens, PublishesOne, sender_knows, sender_claims}
 use Rattle.dr_plain_senders.specs.Meaning.Moments.{Runs, new_world}
 use Rattle.dr_plain_senders.proofs.Places.{word_at, claimed_low}
-use Rattle.dr_plain_senders.proofs.Keeps.{keeps_step}
+use Rattle.dr_plain_senders.proofs.Keeps.{along_all, keeps_step}
 use Rattle.dr_plain_senders.proofs.Beginning.{kept_new_world, sender_fresh}
 
 -- The sequences of one sender.
@@ -117,7 +116,7 @@ AreOwn w = (p : ℕ) (r : SenderRecord Event) → get_elem? w.senders p ≡ some
 knows : (w : World Event) (p : ℕ) (r r' : SenderRecord Event) → get_elem? w.senders p ≡ some r → r'.own ≡ r.own → AreOwn w → AreOwn (sender_knows w p r')
 knows w p r r' at same own = each_set (λ q x. x.own ≡ own_from 0 q w.stages) w.senders p r' (same ∙ own p r at) (λ q x ne there. own q x there)
 
-claims : (k : Shape) (w : World Event) (p c n : ℕ) (r : SenderRecord Event) → get_elem? w.senders p ≡ some r → KeepsRule k w
+claims : (k : Shape Event) (w : World Event) (p c n : ℕ) (r : SenderRecord Event) → get_elem? w.senders p ≡ some r → KeepsRule k w
     → c + n ≤ k.limit → word_at w.words claim_word ≡ c → AreOwn w
     → AreOwn (sender_claims w p r c n)
 claims k w p c n r at K limit here own =
@@ -138,7 +137,7 @@ claims k w p c n r at K limit here own =
     ∙ ap (λ (l : List (Own Event)). own_from 0 q w.stages ++ l) (own_others (0 + length w.stages) q p n (λ e. ne (sym e)))
     ∙ append-nil (own_from 0 q w.stages)))
 
-claims_or_looks : (k : Shape) (w : World Event) (p c n : ℕ) (r : SenderRecord Event) → get_elem? w.senders p ≡ some r → KeepsRule k w → c + n ≤ k.limit
+claims_or_looks : (k : Shape Event) (w : World Event) (p c n : ℕ) (r : SenderRecord Event) → get_elem? w.senders p ≡ some r → KeepsRule k w → c + n ≤ k.limit
     → AreOwn w
     → AreOwn (if word_at w.words claim_word == c then sender_claims w p r c n else sender_knows w p (sender_looked r claim_word (word_at w.words claim_word)))
 claims_or_looks k w p c n r at K limit own =
@@ -158,14 +157,18 @@ brings w words p s r t further at there mine still own =
     (ap (map (own_after s further)) (own p r at) ∙ ap (λ (n : ℕ). map (own_after n further) (own_from 0 p w.stages)) (sym z) ∙ sym (own_brings 0 p s w.stages t further there mine still))
     (λ q x ne is. own q x is ∙ sym (own_else 0 q s w.stages t (further t) there (λ e. ne (sym e ∙ mine)) (λ e. ne (sym e ∙ still))))
 
-owns_step : (k : Shape) (s : Step Event) (w u : World Event) → Happens k s w u → KeepsRule k w → AreOwn w → AreOwn u
+owns_one : (k : Shape Event) (p s : ℕ) (event : Event) (w u : World Event) → PublishesOne k p s event w u → KeepsRule k w → AreOwn w → AreOwn u
+owns_one k p s event w u H K own =
+    let is = (K.sent p H.0 H.1).own H.2.1.0 (own_of s H.2.0) H.2.1.1 in
+    subst AreOwn (sym H.2.3.2)
+    (brings w (set w.words (mark_word k s) (flipped (word_at w.words (mark_word k s)) (mark_bit k s) 1)) p s H.0 H.2.0 (published H.2.3.0) H.1 is.1 is.0 is.0 own)
+
+owns_step : (k : Shape Event) (s : Step Event) (w u : World Event) → Happens k s w u → KeepsRule k w → AreOwn w → AreOwn u
 owns_step k (SenderLooksAtClaims p) w u H K own = subst AreOwn (sym H.2) (knows w p H.0 (sender_looked H.0 claim_word (word_at w.words claim_word)) H.1 refl own)
 owns_step k (SenderLooksAtCount p f) w u H K own = subst AreOwn (sym H.2.1) (knows w p H.0 (sender_looked H.0 (count_word f) (word_at w.words (count_word f))) H.1 refl own)
 owns_step k (SenderClaims p c n) w u H K own = subst AreOwn (sym H.2.2) (claims_or_looks k w p c n H.0 H.1 K H.2.1.limit own)
-owns_step k (SenderPublishes p s events) w u H K own =
-    let is = (K.sent p H.0 H.1).own H.2.1.0 (own_of s H.2.0) H.2.1.1 in
-    subst AreOwn (sym H.2.3.2) (brings w (set w.words (mark_word k s) (entry_of k.size s)) p s H.0 H.2.0 (published H.2.3.0) H.1 is.1 is.0 is.0 own)
-owns_step k (SenderLooksAtMark p s) w u H K own = subst AreOwn (sym H.2) (knows w p H.0 (mark_found H.0 (mark_word k s) (word_at w.words (mark_word k s))) H.1 refl own)
+owns_step k (SenderPublishes p s events) w u H K own = along_all k p AreOwn (owns_one k p) s events w u H.1 K own
+owns_step k (SenderLooksAtMark p s) w u H K own = subst AreOwn (sym H.2) (knows w p H.0 (mark_found H.0 s (word_at w.words (mark_word k s))) H.1 refl own)
 owns_step k (SenderHalts p) w u H K own =
     subst AreOwn (sym H.2) (knows w p H.0 (sender_looked H.0 claim_word (halted_from (word_at w.words claim_word))) H.1 refl own)
 owns_step k (ReceiverLooksAtClaims h) w u H K own = subst AreOwn (sym H.2) own
@@ -174,10 +177,10 @@ owns_step k (ReceiverLooksAtCount h c room) w u H K own = subst AreOwn (sym H.2.
 owns_step k (ReceiverCompletes h n) w u H K own = subst AreOwn (sym H.2.2) own
 owns_step k HalterHalts w u H K own = subst AreOwn (sym H) own
 
-owns_runs : (k : Shape) (steps : List (Step Event)) (es : Transcript Event) (w u : World Event) → Runs k steps es w u → KeepsRule k w → AreOwn w → AreOwn u
+owns_runs : (k : Shape Event) (steps : List (Step Event)) (es : Transcript Event) (w u : World Event) → Runs k steps es w u → KeepsRule k w → AreOwn w → AreOwn u
 owns_runs k [] es w u R K own = subst AreOwn R.1 own
 owns_runs k (s ∷ steps) es w u R K own = owns_runs k steps R.1 R.0 u R.4 (keeps_step k s w R.0 R.2 K) (owns_step k s w R.0 R.2 K own)
 
-pub are_own : (k : Shape) (steps : List (Step Event)) (es : Transcript Event) (u : World Event) → IsShape k → Runs k steps es (new_world k) u → AreOwn u
+pub are_own : (k : Shape Event) (steps : List (Step Event)) (es : Transcript Event) (u : World Event) → IsShape k → Runs k steps es (new_world k) u → AreOwn u
 are_own k steps es u shape R =
     owns_runs k steps es (new_world k) u R (kept_new_world Event k shape) (λ p r at. ap (λ (x : SenderRecord Event). x.own) (sender_fresh 0 k.senders p r at))

@@ -1,14 +1,12 @@
 -- What a worker's polls handed out, by the answers of a receiver.
-use Rattle.std.proofs.Common.{◌≡◌, ◌≤◌, ◌<◌, ◌+◌, ◌-◌, ℕ, Bool, List, [], ◌∷◌, ◌++◌, length, take, All, Ok, Err, inl, inr}
+use Rattle.std.proofs.Common.{◌≡◌, ◌≤◌, ◌<◌, ◌+◌, ℕ, Bool, List, [], ◌∷◌, ◌++◌, length, take, All, Ok, Err, inl, inr}
 use Rattle.std.proofs.Common.{refl, sym, ap, ◌∙◌, subst, arith, append_assoc, length-append}
 use Rattle.std.specs.Prelude.{Contains, slice_index}
 use Rattle.std.proofs.Math.Seq.{get_or-append_seam}
-use Rattle.std.proofs.lemmas.Bool.{cases_lt}
 use Rattle.std.proofs.lemmas.List.{append-nil}
 use mathlib.Core.Option.{some}
 use lib.ListN.{get_elem?}
 use Rattle.dr_seq.specs.declared.event.Event.{Event}
-use Rattle.dr_seq.specs.Rounds.{entry_of}
 use Rattle.dr_graph.specs.Meaning.Graph.{upstreams_of}
 use Rattle.dr_meaning.proofs.Leasts.{least_of-le}
 use Rattle.dr_meaning.specs.declared.command.Polled.TheVariants.{Batch, Drained, Gating, Idle}
@@ -20,10 +18,12 @@ use Rattle.dr_runs.specs.declared.look.Look.{Look}
 use Rattle.dr_runs.specs.Looks.{look, offered_by}
 use Rattle.dr_runs.proofs.Elements.{at_index}
 use Rattle.dr_plain_senders.specs.declared.record.Lent.{Lent}
+use Rattle.dr_plain_senders.specs.declared.record.MarkLook.{MarkLook}
+use Rattle.dr_plain_senders.specs.Meaning.Records.{mark_look}
 use Rattle.dr_plain_senders.specs.declared.record.ReceiverRecord.{ReceiverRecord}
 use Rattle.dr_plain_senders.specs.Meaning.Rule.{KeepsRule, World}
 use Rattle.dr_plain_senders.specs.Meaning.Shape.{Shape, handlers_of}
-use Rattle.dr_plain_senders.specs.Meaning.Words.{claim_word, claimed_in, count_word, mark_word}
+use Rattle.dr_plain_senders.specs.Meaning.Words.{claim_word, claimed_in, count_word, marked_from}
 use Rattle.dr_plain_senders.specs.Calls.Ends.{EndPlace, ReceiverEnd, count_looks, mark_looks, receiver_place}
 use Rattle.dr_plain_senders.specs.Calls.Outlets.{receiver_does}
 use Rattle.dr_plain_senders.specs.Calls.Receiving.{LooksInOrder, PollLooks, WalksTo, looked_round, offer, ups_of, walk_end}
@@ -36,24 +36,24 @@ use Rattle.dr_disruptor_senders.proofs.Marks.{IsWithin, MarksWithin}
 -- What a receiver saw.
 
 -- it found no mark of a sequence from this on, and nothing more completed by its upstreams
-pub record SawAtMost (n : ℕ) (k : Shape) (ups : List ℕ) (r : ReceiverRecord Event) : Type 0 where
-  pub marks : (before after : List Look) (x : Look) → r.marks ≡ before ++ x ∷ after → IsWithin k n x
+pub record SawAtMost (n : ℕ) (k : Shape Event) (ups : List ℕ) (r : ReceiverRecord Event) : Type 0 where
+  pub marks : (before after : List MarkLook) (x : MarkLook) → r.marks ≡ before ++ x ∷ after → IsWithin k n x
   pub counts : (u : ℕ) (before after : List Look) (x : Look) → Contains ups u → r.looks ≡ before ++ x ∷ after → x.word ≡ count_word u → x.value ≤ n
 
 -- what stands there
-seam : (before after : List Look) (x : Look) → get_elem? (before ++ x ∷ after) (length before) ≡ some x
+seam : {A : Type 0} (before after : List A) (x : A) → get_elem? (before ++ x ∷ after) (length before) ≡ some x
 seam before after x =
     let many : length (before ++ x ∷ after) ≡ length before + length (x ∷ after) = length-append before (x ∷ after) in
     at_index (before ++ x ∷ after) (length before) x (omega arith) (sym (get_or-append_seam before x after x))
 
-pub saw_claimed : (k : Shape) (w : World Event) (h : ℕ) (r : ReceiverRecord Event) → get_elem? w.receivers h ≡ some r → KeepsRule k w → MarksWithin k w
+pub saw_claimed : (k : Shape Event) (w : World Event) (h : ℕ) (r : ReceiverRecord Event) → get_elem? w.receivers h ≡ some r → KeepsRule k w → MarksWithin k w
     → SawAtMost (length w.stages) k (ups_of k r) r
 saw_claimed k w h r at K all =
     let was = K.received h r at in
     let inside = handler_inside k w h r at K in
     record {
       marks = λ before after x is.
-          all h r at (length before) x (ap (λ (l : List Look). get_elem? l (length before)) is ∙ seam before after x);
+          all h r at (length before) x (ap (λ (l : List MarkLook). get_elem? l (length before)) is ∙ seam before after x);
       counts = λ u before after x has is word.
           let past = was.looks (length before) x (ap (λ (l : List Look). get_elem? l (length before)) is ∙ seam before after x) in
           let up : u < handlers_of k = upstream_inside k K.shape.graph h u inside (subst (λ (m : ℕ). Contains (upstreams_of k.upstreams m) u) was.number has) in
@@ -66,12 +66,12 @@ saw_claimed k w h r at K all =
     }
 
 -- so did it before it looked on
-before_it : (n : ℕ) (k : Shape) (ups : List ℕ) (r r' : ReceiverRecord Event) (marks looks : List Look)
+before_it : (n : ℕ) (k : Shape Event) (ups : List ℕ) (r r' : ReceiverRecord Event) (marks : List MarkLook) (looks : List Look)
     → r'.marks ≡ r.marks ++ marks → r'.looks ≡ r.looks ++ looks
     → SawAtMost n k ups r' → SawAtMost n k ups r
 before_it n k ups r r' marks looks marked grew saw = record {
   marks = λ before after x is.
-      saw.marks before (after ++ marks) x (marked ∙ ap (λ (l : List Look). l ++ marks) is ∙ append_assoc before (x ∷ after) marks);
+      saw.marks before (after ++ marks) x (marked ∙ ap (λ (l : List MarkLook). l ++ marks) is ∙ append_assoc before (x ∷ after) marks);
   counts = λ u before after x has is word.
       saw.counts u before (after ++ looks) x has (grew ∙ ap (λ (l : List Look). l ++ looks) is ∙ append_assoc before (x ∷ after) looks) word;
 }
@@ -79,7 +79,7 @@ before_it n k ups r r' marks looks marked grew saw = record {
 -- a call only adds to what a receiver saw, which stays at its place
 record LookedOn (a b : ReceiverEnd Event) : Type 0 where
   place : receiver_place b ≡ receiver_place a
-  found : List Look
+  found : List MarkLook
   marks : b.knows.marks ≡ a.knows.marks ++ found
   more : List Look
   looks : b.knows.looks ≡ a.knows.looks ++ more
@@ -125,44 +125,30 @@ looked_on a b (CompletesBelow upto (Err (Refused r))) is = same_record a b is.0 
 
 -- What its barrier offered.
 
-walked_on : (size end s : ℕ) (marks : List ℕ) (upto : ℕ) → WalksTo size end s marks upto → s ≤ upto
-walked_on size end s [] upto W = let a = W.1 in omega arith
-walked_on size end s (m ∷ ms) upto W = elim W.1 [
-  | inl here ↦ (let rest = walked_on size end (s + 1) ms upto here.1 in omega arith)
-  | inr stop ↦ (let at = stop.2 in omega arith)
-]
-
--- a walk that came further found the mark of the last sequence before its end
-walked_last : (k : Shape) (end s : ℕ) (marks : List ℕ) (upto : ℕ) → WalksTo k.size end s marks upto → s < upto
-    → (before after : List Look) × (mark_looks k s marks ≡ before ++ look (mark_word k (upto - 1)) (entry_of k.size (upto - 1)) ∷ after)
-walked_last k end s [] upto W less = let a = W.1 in absurd (omega arith)
-walked_last k end s (m ∷ ms) upto W less = elim W.1 [
-  | inl here ↦ elim (cases_lt (s + 1) upto) [
-    | inl more ↦
-        let rest = walked_last k end (s + 1) ms upto here.1 more in
-        (look (mark_word k s) m ∷ rest.0, rest.1, ap (λ (l : List Look). look (mark_word k s) m ∷ l) rest.2)
-    | inr last ↦
-        let on = walked_on k.size end (s + 1) ms upto here.1 in
-        let same : s ≡ upto - 1 = omega arith in
-        let is : m ≡ entry_of k.size (upto - 1) = here.0 ∙ ap (entry_of k.size) same in
-        ([], mark_looks k (s + 1) ms, λ i. look (mark_word k (same i)) (is i) ∷ mark_looks k (s + 1) ms)
-  ]
-  | inr stop ↦ (let at = stop.2 in absurd (omega arith))
+-- a walk came as far as its last look tells
+walked_last : (k : Shape Event) (end s m : ℕ) (marks : List ℕ) (upto : ℕ) → WalksTo k end s (m ∷ marks) upto
+    → (before after : List MarkLook) × (x : MarkLook) × (mark_looks k s (m ∷ marks) ≡ before ++ x ∷ after) × (upto ≡ x.sequence + marked_from k x.sequence x.found)
+walked_last k end s m [] upto W = ([], [], mark_look s m, refl, elim W.1 [ inl here ↦ here.1.1 | inr stop ↦ stop.2 ])
+walked_last k end s m (next ∷ ms) upto W = elim W.1 [
+  | inl here ↦
+      let rest = walked_last k end (s + marked_from k s m) next ms upto here.1 in
+      (mark_look s m ∷ rest.0, rest.1, rest.2, ap (λ (l : List MarkLook). mark_look s m ∷ l) rest.3, rest.4)
+  | inr stop ↦ (let no = stop.1 in absurd (cc))
 ]
 
 -- no sequence is offered that was not published
-walk_within : (n : ℕ) (k : Shape) (ups : List ℕ) (old r : ReceiverRecord Event) (end : ℕ) (marks : List ℕ) (upto : ℕ)
-    → WalksTo k.size end (length old.received) marks upto → r.marks ≡ old.marks ++ mark_looks k (length old.received) marks
+walk_within : (n : ℕ) (k : Shape Event) (ups : List ℕ) (old r : ReceiverRecord Event) (end : ℕ) (marks : List ℕ) (upto : ℕ)
+    → WalksTo k end (length old.received) marks upto → r.marks ≡ old.marks ++ mark_looks k (length old.received) marks
     → length old.received < upto → SawAtMost n k ups r → upto ≤ n
-walk_within n k ups old r end marks upto W is on saw =
-    let last = walked_last k end (length old.received) marks upto W on in
-    let x : Look = look (mark_word k (upto - 1)) (entry_of k.size (upto - 1)) in
-    let all : r.marks ≡ (old.marks ++ last.0) ++ x ∷ last.1 =
-    is ∙ ap (λ (l : List Look). old.marks ++ l) last.2 ∙ sym (append_assoc old.marks last.0 (x ∷ last.1)) in
-    let low : upto - 1 < n = saw.marks (old.marks ++ last.0) last.1 x all (upto - 1) refl refl in
+walk_within n k ups old r end [] upto W is on saw = let at = W.1 in absurd (omega arith)
+walk_within n k ups old r end (m ∷ marks) upto W is on saw =
+    let last = walked_last k end (length old.received) m marks upto W in
+    let all : r.marks ≡ (old.marks ++ last.0) ++ last.2 ∷ last.1 =
+    is ∙ ap (λ (l : List MarkLook). old.marks ++ l) last.3 ∙ sym (append_assoc old.marks last.0 (last.2 ∷ last.1)) in
+    let low = saw.marks (old.marks ++ last.0) last.1 last.2 all in let at = last.4 in
     omega arith
 
-offered : (n : ℕ) (k : Shape) (claims upto : ℕ) (r : ReceiverRecord Event) (old : List Look) (ups counts : List ℕ) → length counts ≡ length ups
+offered : (n : ℕ) (k : Shape Event) (claims upto : ℕ) (r : ReceiverRecord Event) (old : List Look) (ups counts : List ℕ) → length counts ≡ length ups
     → r.looks ≡ old ++ look claim_word claims ∷ count_looks ups counts → (ups ≡ [] → upto ≤ n) → SawAtMost n k ups r → offered_by upto counts ≤ n
 offered n k claims upto r old [] [] many is within saw = within refl
 offered n k claims upto r old [] (c ∷ counts) many is within saw = absurd (omega arith)
@@ -179,7 +165,7 @@ by_marks upto [] [] many none = refl
 by_marks upto [] (c ∷ counts) many none = absurd (omega arith)
 by_marks upto (u ∷ ups) counts many none = absurd (let all = ap length none in omega arith)
 
-offer_within : (n room : ℕ) (k : Shape) (old r : ReceiverRecord Event) (seen : PollLooks) → LooksInOrder k old room seen
+offer_within : (n room : ℕ) (k : Shape Event) (old r : ReceiverRecord Event) (seen : PollLooks) → LooksInOrder k old room seen
     → r.marks ≡ old.marks ++ mark_looks k (length old.received) seen.marks
     → r.looks ≡ old.looks ++ look claim_word seen.claims ∷ count_looks (ups_of k old) seen.counts
     → length old.received < offer seen → SawAtMost n k (ups_of k old) r → offer seen ≤ n
@@ -194,7 +180,7 @@ offer_within n room k old r seen order marked grew further saw =
 
 -- the upstreams of a receiver that stays at its place
 stays_among : (a b : ReceiverEnd Event) → LookedOn a b → ups_of b.plan b.knows ≡ ups_of a.plan a.knows
-stays_among a b on = ap (λ (q : EndPlace). upstreams_of q.1.upstreams q.2) on.place
+stays_among a b on = ap (λ (q : EndPlace Event). upstreams_of q.1.upstreams q.2) on.place
 
 module _ (room n : ℕ) where
   abbrev Saw : ReceiverEnd Event → Type 0
@@ -204,7 +190,7 @@ module _ (room n : ℕ) where
   saw_after : (a b : ReceiverEnd Event) (call : OutletCall Event) → receiver_does a call b → Saw b → SawAtMost n a.plan (ups_of a.plan a.knows) b.knows
   saw_after a b call is saw =
       let on = looked_on a b call is in
-      subst (λ (k : Shape). SawAtMost n k (ups_of a.plan a.knows) b.knows) (ap (λ (q : EndPlace). q.1) on.place)
+      subst (λ (k : Shape Event). SawAtMost n k (ups_of a.plan a.knows) b.knows) (ap (λ (q : EndPlace Event). q.1) on.place)
       (subst (λ (us : List ℕ). SawAtMost n b.plan us b.knows) (stays_among a b on) saw)
 
   before_call : (a b : ReceiverEnd Event) (call : OutletCall Event) → receiver_does a call b → Saw b → Saw a

@@ -70,7 +70,7 @@ halted_back ss rs t t' halts all =
     let ring = sym halts.1.0.0 in
     let plan = sym halts.1.0.1 in
     record {
-      senders = all.senders ∙ ap (λ (k : Shape). k.senders) plan;
+      senders = all.senders ∙ ap (λ (k : Shape Event). k.senders) plan;
       receivers = all.receivers ∙ ap handlers_of plan;
       each_sender = λ p e at. all.each_sender p e at ∙ (λ i. (ring i, plan i, p));
       each_receiver = λ h e at. all.each_receiver h e at ∙ (λ i. (ring i, plan i, h));

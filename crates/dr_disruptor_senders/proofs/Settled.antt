@@ -100,11 +100,11 @@ fine_at endings j e fine at = ap (λ (x : Ended). x.fault) (sym (value_at ending
 -- Of all of them.
 
 -- what is so of a sender, and what is so of it too where its sequences rise and are published
-abbrev pub Tells : Shape → (ℕ → SenderEnd Event → Sent → Type 0) → (ℕ → SenderEnd Event → Sent → Type 0) → Type 0
+abbrev pub Tells : Shape Event → (ℕ → SenderEnd Event → Sent → Type 0) → (ℕ → SenderEnd Event → Sent → Type 0) → Type 0
 Tells k sends more = (ring : TableId) (p : ℕ) (back : Sent) → sends p (new_sender ring k p) back
     → Rise (sequences back.sender.knows.own) → AreOut back.sender.knows.own → more p (new_sender ring k p) back
 
-module _ {A : Type 0} (goes : Relation Event A) (k : Shape) (sends more : ℕ → SenderEnd Event → Sent → Type 0) (tells : Tells k sends more)
+module _ {A : Type 0} (goes : Relation Event A) (k : Shape Event) (sends more : ℕ → SenderEnd Event → Sent → Type 0) (tells : Tells k sends more)
     (starts : List A) (ran : Ran A)
     (ss : List (SenderEnd Event)) (rs : List (ReceiverEnd Event)) (t : HalterStand Event) (ws : List (Worker A)) (sent : List Sent)
     (shape : IsShape k) (fresh : AreFreshEnds k ss rs t) (ends : map given_end ws ≡ rs) (begun : map given_handler ws ≡ starts)
@@ -128,7 +128,7 @@ module _ {A : Type 0} (goes : Relation Event A) (k : Shape) (sends more : ℕ �
   plan = joined.halts.1.0.1 ∙ ap (λ (e : HalterStand Event). e.plan) fresh.halter
 
   runs : Runs k joined.run.steps joined.run.entries (new_world k) w
-  runs = subst (λ (q : Shape). Runs q joined.run.steps joined.run.entries (new_world q) w) plan joined.run.runs
+  runs = subst (λ (q : Shape Event). Runs q joined.run.steps joined.run.entries (new_world q) w) plan joined.run.runs
 
   K : KeepsRule k w
   K = keeps_runs k joined.run.steps joined.run.entries (new_world k) w runs (kept_new_world Event k shape)
@@ -137,7 +137,7 @@ module _ {A : Type 0} (goes : Relation Event A) (k : Shape) (sends more : ℕ �
   within = marks_within k joined.run.steps joined.run.entries w shape runs
 
   settles : Settles k w
-  settles = subst (λ (q : Shape). Settles q w) plan joined.run.settles
+  settles = subst (λ (q : Shape Event). Settles q w) plan joined.run.settles
 
   -- the senders
 
@@ -225,11 +225,11 @@ module _ {A : Type 0} (goes : Relation Event A) (k : Shape) (sends more : ℕ �
   all_polled h p =
       let e = p.back.outlet in
       let calls = p.serving.calls in
-      let plan_of : e.plan ≡ k = ap (λ (q : EndPlace). q.1) p.serving.place in
+      let plan_of : e.plan ≡ k = ap (λ (q : EndPlace Event). q.1) p.serving.place in
       let saw : SawAtMost (length events) k (ups_of k e.knows) e.knows =
       subst (λ (n : ℕ). SawAtMost n k (ups_of k e.knows) e.knows) (sym (length-map w.stages shown)) (saw_claimed k w h e.knows (at_world h p) K within) in
       polled 256 (length events) (new_receiver ring k h) e calls.calls calls.lead calls.holds.order
-      (subst (λ (q : Shape). SawAtMost (length events) q (ups_of q e.knows) e.knows) (sym plan_of) saw)
+      (subst (λ (q : Shape Event). SawAtMost (length events) q (ups_of q e.knows) e.knows) (sym plan_of) saw)
 
   -- what each sender published
   own_is : AreOwn w
@@ -282,7 +282,7 @@ module _ {A : Type 0} (goes : Relation Event A) (k : Shape) (sends more : ℕ �
   }
 
 -- so it is of what is joined, where all senders' workers gave something back
-pub came : {A : Type 0} (goes : Relation Event A) (k : Shape) (sends more : ℕ → SenderEnd Event → Sent → Type 0) (starts : List A) (ran : Ran A)
+pub came : {A : Type 0} (goes : Relation Event A) (k : Shape Event) (sends more : ℕ → SenderEnd Event → Sent → Type 0) (starts : List A) (ran : Ran A)
     (r : Result (Vec Sent) AllocError)
     (ss : List (SenderEnd Event)) (rs : List (ReceiverEnd Event)) (made begun after : HalterStand Event) (ws : List (Worker A))
     → Tells k sends more → IsShape k → AreFreshEnds k ss rs made → begun ≡ made
@@ -294,7 +294,7 @@ came goes k sends more starts ran r ss rs made begun after ws tells shape fresh 
     (subst (λ (t : HalterStand Event). IsJoined goes ws v.items t ran) (same ∙ was) joined))
 
 -- a script's worker published the first of it, as many as it sent
-pub tells_scripts : (k : Shape) (scripts : List (List Event)) → Tells k (SendsScript k.size scripts) (PublishesScript k.size scripts)
+pub tells_scripts : (k : Shape Event) (scripts : List (List Event)) → Tells k (SendsScript k.size scripts) (PublishesScript k.size scripts)
 tells_scripts k scripts = λ ring p back is rises out.
     let (script, at, sending) = is in (
       script,
@@ -304,12 +304,12 @@ tells_scripts k scripts = λ ring p back is rises out.
     )
 
 -- a closure's sender did what its contract says
-pub tells_feeds : {F : Type 0} (k : Shape) (gives : F → SenderEnd Event → Option WorkFault → SenderEnd Event → Type 0) (feeds : List F)
+pub tells_feeds : {F : Type 0} (k : Shape Event) (gives : F → SenderEnd Event → Option WorkFault → SenderEnd Event → Type 0) (feeds : List F)
     → Tells k (SendsFeed gives feeds) (SendsFeed gives feeds)
 tells_feeds k gives feeds = λ ring p back is rises out. is
 
 -- without a fault all scripts are sent
-pub went_whole : {A : Type 0} (goes : Relation Event A) (k : Shape) (scripts : List (List Event)) (starts : List A) (ran : Ran A) → k.senders ≡ length scripts
+pub went_whole : {A : Type 0} (goes : Relation Event A) (k : Shape Event) (scripts : List (List Event)) (starts : List A) (ran : Ran A) → k.senders ≡ length scripts
     → IsRanOver (PublishesScript k.size scripts) goes k starts ran
     → AreFine ran.endings.items → (events : List Event) × AllWentThroughMerge goes scripts starts ran.handlers.items events
 went_whole goes k scripts starts ran many is fine =

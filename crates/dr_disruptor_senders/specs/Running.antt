@@ -39,10 +39,10 @@ abbrev pub LeavesNoneOpen : SenderEnd Event → Type 0
 LeavesNoneOpen e = (i : ℕ) (o : Own Event) → get_elem? e.knows.own i ≡ some o → is_published o.stage ≡ true
 
 -- a sender of a ring of this shape, as it was made, and a receiver
-abbrev pub new_sender : TableId → Shape → ℕ → SenderEnd Event
+abbrev pub new_sender : TableId → Shape Event → ℕ → SenderEnd Event
 new_sender ring k p = sender_at ring k (fresh_sender p)
 
-abbrev pub new_receiver : TableId → Shape → ℕ → ReceiverEnd Event
+abbrev pub new_receiver : TableId → Shape Event → ℕ → ReceiverEnd Event
 new_receiver ring k h = receiver_at ring k (fresh_receiver h)
 
 -- the ends that came together are these
@@ -52,7 +52,7 @@ pub record AreSettled {A : Type 0} (ran : Ran A) (ss : List (SenderEnd Event)) (
   pub halter : ran.settled.halter.value ≡ t
 
 -- what came of a new ring of this shape, where this is so of the place of each sender, of the sender, and of what the thread that sent by it gave back
-pub record IsRanOver {A : Type 0} (sends : ℕ → SenderEnd Event → Sent → Type 0) (goes : Relation Event A) (k : Shape) (starts : List A)
+pub record IsRanOver {A : Type 0} (sends : ℕ → SenderEnd Event → Sent → Type 0) (goes : Relation Event A) (k : Shape Event) (starts : List A)
     (ran : Ran A) : Type 0 where
   -- what the threads gave back, and the halter, which halted the ring once
   pub senders : List Sent
@@ -82,11 +82,11 @@ PublishesScript size scripts p given back =
     (script : List Event) × (get_elem? scripts p ≡ some script) × (sending : Sending size script given back) × (events_of back.sender ≡ take sending.sent script)
 
 -- so it is of a new ring of this shape, whose events lie somewhere
-abbrev pub IsRanBy : {A : Type 0} → (ℕ → SenderEnd Event → Sent → Type 0) → Relation Event A → (Ptr → Shape) → List A → Ran A → Type 0
+abbrev pub IsRanBy : {A : Type 0} → (ℕ → SenderEnd Event → Sent → Type 0) → Relation Event A → (Ptr → Shape Event) → List A → Ran A → Type 0
 IsRanBy sends goes shape starts ran = (strip : Ptr) × IsRanOver sends goes (shape strip) starts ran
 
 -- and what came of scripts, each sent by a worker of its own
-abbrev pub IsRan : {A : Type 0} → Relation Event A → (Ptr → Shape) → List (List Event) → List A → Ran A → Type 0
+abbrev pub IsRan : {A : Type 0} → Relation Event A → (Ptr → Shape Event) → List (List Event) → List A → Ran A → Type 0
 IsRan goes shape scripts starts ran = (strip : Ptr) × IsRanOver (PublishesScript (shape strip).size scripts) goes (shape strip) starts ran
 
 -- what a run's handlers' workers gave back, once the ring was halted, and how all ends came together

@@ -1,11 +1,12 @@
 -- What the workers of handlers and of senders promise, and what they gave back.
-use Rattle.std.specs.Prelude.{◌≡◌, ◌≢◌, ℕ, ◌+◌, ◌^◌, ◌≤◌, ◌/◌, ◌==◌, max, Bool, if◌then◌else◌, List, [], ◌∷◌, length, Option, Some, IfNone}
+use Rattle.std.specs.Prelude.{◌≡◌, ◌≢◌, ℕ, ◌+◌, ◌^◌, ◌≤◌, ◌/◌, ◌==◌, max, Bool, if◌then◌else◌, List, [], ◌∷◌, length, Option, Some, IfNone, replicate}
 use Rattle.std.specs.Global.{Vec}
 use mathlib.Core.Option.{some}
 use lib.ListN.{get_elem?}
 use denote.RawPtr.{Ptr}
 use Rattle.std.specs.declared.thread.PromisedHandle.{PromisedHandle}
 use Rattle.dr_seq.specs.declared.event.Event.{Event}
+use Rattle.dr_seq.specs.Event.{no_event}
 use Rattle.dr_meaning.specs.declared.mode.Mode.TheVariants.{Multi}
 use Rattle.dr_meaning.specs.Calls.Calling.{SomeCalls}
 use Rattle.dr_meaning.specs.Calls.Ends.{Received}
@@ -29,9 +30,9 @@ use Rattle.dr_disruptor_senders.specs.declared.sending.FeedsPromise.{FeedsPromis
 use Rattle.dr_disruptor_senders.specs.declared.sending.SendsPromise.{SendsPromise}
 use Rattle.dr_disruptor_senders.specs.declared.sending.Sent.{Sent}
 
--- a ring of a graph, so many slots and so many senders, for as many sequences as there may be, whose events lie there
-abbrev pub shape_of : List (List ℕ) → ℕ → ℕ → Ptr → Shape
-shape_of upstreams size senders strip = record { upstreams = upstreams; size = size; limit = 2 ^ 62; senders = senders; strip = strip }
+-- a ring of a graph, so many slots and so many senders, for as many sequences as there may be, whose events lie there, at first of zeros
+abbrev pub shape_of : List (List ℕ) → ℕ → ℕ → Ptr → Shape Event
+shape_of upstreams size senders strip = record { upstreams = upstreams; size = size; limit = 2 ^ 62; senders = senders; strip = strip; begun = replicate size no_event }
 
 -- of a graph of so many handlers, where so many handlers and scripts were given: that the handlers differ, then that no ring has so many senders, and else a lack of memory or of a thread
 abbrev pub refusal_of : ℕ → ℕ → ℕ → RunFault

@@ -65,8 +65,7 @@ fn wind_up<R: Threads, H: Handler<Event> + Drop>(
 ///
 /// It is refused with `Handlers` where there are not as many handlers as the graph has, with `Senders` where there
 /// are no scripts or more than 16, and with `Memory` where a thread could not be started. Where memory runs out, or
-/// a sender's thread cannot be started, what was done is lost. A ring that was made for a run that is then refused keeps
-/// its memory.
+/// a sender's thread cannot be started, what was done is lost.
 pub fn run_scripts<
     R: Threads + Wait + Copy + Send + 'static,
     H: Handler<Event> + Drop + Send + 'static,

@@ -10,5 +10,7 @@ use Rattle.dr_meaning.proofs.Causes.{none_join, none_of_stretch}
 -- an end that shows nothing may publish any stretch below 2^62
 pub silent : (lo hi : ℕ) → nat_lt hi lo ≡ false → nat_le (2 ^ 62) hi ≡ false → PublishAnswers {E = Event} None lo hi (Ok tt)
 silent lo hi ordered claimed =
-    let stretch = none_of_stretch MayHold MayFail (λ s. sequence_causes (end_sequence_tests {E = Event} None s)) lo (hi + 1 - lo) (λ k l. (refl, (refl, (refl, tt)))) in
-    (refl, (ordered, (claimed, none_join MayHold MayFail (flat_map (λ s. sequence_causes (end_sequence_tests {E = Event} None s)) (range_with_len lo (hi + 1 - lo))) _ stretch (refl, tt))))
+    let stretch = none_of_stretch MayHold MayFail (λ s. sequence_causes (end_sequence_tests {E = Event} None s)) lo (hi + 1 - lo)
+    (λ k l. (refl, (refl, (refl, tt)))) in
+    let causes = flat_map (λ s. sequence_causes (end_sequence_tests {E = Event} None s)) (range_with_len lo (hi + 1 - lo)) in
+    (refl, (ordered, (claimed, none_join MayHold MayFail causes _ stretch (refl, tt))))

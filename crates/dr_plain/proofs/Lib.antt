@@ -31,6 +31,7 @@ pub mod Gathering
 pub mod Ending
 pub mod Returning
 pub mod Handed
+pub mod Departed
 pub mod Rounds
 pub mod Rowing
 pub mod Tokens

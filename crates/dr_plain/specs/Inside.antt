@@ -13,3 +13,4 @@ pub mod Lending
 pub mod Polling
 pub mod Gathering
 pub mod Finishing
+pub mod Leaving

@@ -1,28 +1,63 @@
 //! All ends of a ring come together, and its events come back.
 
-ghost use Rattle.std.specs.Prelude.{◌≡◌, length, map, Some};
+ghost use Rattle.std.specs.Prelude.{◌≡◌, ◌<◌, List, length, map, slice_set, Some};
 ghost use Rattle.std.specs.Arc.{arc_value};
-ghost use Rattle.dr_runs.specs.Gathering.{Gathers};
+ghost use Rattle.dr_cells.specs.Tokens.{IsAll};
+ghost use Rattle.dr_cells.specs.declared.token.Token.{Token as TokenValue};
+ghost use Rattle.dr_runs.specs.Gathering.{Gathers, IsInView, ViewRan};
+ghost use Rattle.dr_runs.specs.Seats.{both_views};
+ghost use Rattle.dr_runs.specs.declared.view.View.{View};
+ghost use Rattle.dr_plain.specs.declared.record.EndRecord.{EndRecord};
+ghost use Rattle.dr_plain.specs.declared.record.Step.{Step};
 ghost use Rattle.dr_plain.specs.Meaning.Records.{claimed as claimed_of};
 ghost use Rattle.dr_plain.specs.Meaning.Settling.{Settles};
 ghost use Rattle.dr_plain.specs.Calls.Settling.{AreAllEnds, IsHalterOf, HasRun, handler_counts};
-ghost use Rattle.dr_plain.specs.Inside.Seats.{IsAtTable, ring_ends};
+ghost use Rattle.dr_plain.specs.Calls.Ends.{SenderEnd, ReceiverEnd, HalterStand};
+ghost use Rattle.dr_plain.specs.Inside.Fits.{PartsFit, cells_of};
+ghost use Rattle.dr_plain.specs.Inside.Seats.{IsAtTable, ring_ends, exchange};
 ghost use Rattle.dr_plain.specs.Inside.Gathering.{AreOfRing, receiver_known};
-ghost use Rattle.dr_plain.specs.Inside.Finishing.{AreHandsOf};
+ghost use Rattle.dr_plain.specs.Inside.Finishing.{AreHandsOf, AreKept, HasAllEnds};
 
+use crate::body::RingBody;
 use crate::dealt::{put_at, whole_row};
-use crate::laws::{Halter, RingBody, RingSeat, moments, settling};
+use crate::laws::{Halter, RingSeat, Words, moments, settling};
+use crate::left::ReceiverLeft;
+use crate::plan::Plan;
 use crate::receiver::Receiver;
 use crate::reclaiming::reclaim;
 use crate::sender::Sender;
 use crate::settled::{HandlerCounts, Settled};
-use dr_cells::{Token, Values};
+use dr_cells::{Cells, Row, Token, Values};
 use std::alloc::Global;
 use std::marker::Brand;
 use std::sync::Arc;
 
-// A receiver's seat comes to the sender's, and its counts and tokens to their places.
-fn gather<T>(
+/// A receiver's seat comes to the sender's, and its counts and tokens to their places.
+pub(crate) fn receive<T>(
+    words: &Words<T>,
+    seat: &mut RingSeat<T>,
+    receiver: ReceiverLeft<T>,
+    place: usize,
+    counts: &mut Vec<HandlerCounts>,
+    hands: &mut Vec<Vec<Token<T>>>,
+)
+    requires table { (seat.old.table_id ≡ words.now.table_id) × (receiver.ring ≡ words.now.table_id) × (0 < words.now.table_id.words) }
+    requires place { (place < length counts.old.items) × (place < length hands.old.items) }
+    ensures seat { (seat.new.table_id ≡ seat.old.table_id) × (seat.new.me.1 ≡ seat.old.me.1) }
+    ensures view { (own : View (EndRecord T) (Step T)) × IsInView ring_ends own (receiver_known receiver) × (seat.new.me.0 ≡ both_views seat.old.me.0 own) }
+    ensures counts { counts.new.items ≡ slice_set counts.old.items place (handler_counts receiver.knows) }
+    ensures hands { (parts : List (TokenValue T)) × PartsFit receiver.knows parts × (map (λ hand. hand.items) hands.new.items ≡ slice_set (map (λ hand. hand.items) hands.old.items) place parts) }
+{
+    counts[place] = HandlerCounts {
+        taken: receiver.taken,
+        completed: receiver.completed,
+    };
+    put_at(hands, place, receiver.parts);
+    settling::take_in(words, seat, receiver.seat);
+}
+
+// All receivers come so.
+fn gather<T: Drop>(
     ring: &Arc<RingBody<T>, Global>,
     seat: &mut RingSeat<T>,
     mut receivers: Vec<Receiver<T>>,
@@ -40,14 +75,34 @@ fn gather<T>(
 {
     while let Some(receiver) = receivers.pop() {
         let place = receivers.len();
-        counts[place] = HandlerCounts {
-            taken: receiver.taken,
-            completed: receiver.completed,
-        };
-        put_at(hands, place, receiver.parts);
-        let station = receiver.station;
-        settling::take_in(&ring.table.shared, seat, station.seat);
+        let (_, _, left) = receiver.into_left();
+        receive(&ring.table.shared, seat, left, place, counts, hands);
     }
+}
+
+/// The seat that stands for all ends takes what lies in the slots, and ends the ring: each cell is
+/// whole again.
+pub(crate) fn take_back<T>(
+    words: &Words<T>,
+    plan: &Plan<T>,
+    mut seat: RingSeat<T>,
+    counts: &Vec<HandlerCounts>,
+    hands: Vec<Vec<Token<T>>>,
+    claimed: u64,
+    published: u64,
+    cells: Cells<T>,
+    tokens: Vec<Token<T>>,
+) -> Row<T>
+    requires table { (seat.table_id ≡ words.now.table_id) × (0 < words.now.table_id.words) }
+    requires cells { cells.ptr ≡ plan.now.strip }
+    requires together { (s : SenderEnd T) × (es : List (ReceiverEnd T)) × (t : HalterStand T) × (plan.now ≡ s.knows.plan) × HasAllEnds seat.me.0 s es t × AreKept s es claimed published tokens.items counts.now.items (map (λ hand. hand.items) hands.items) }
+    ensures ran { ViewRan (exchange words.now.key) seat.me.0 }
+    ensures all { IsAll cells.ptr (length tokens.items) result }
+    ensures events { map (λ event. Some event) result.items ≡ cells_of tokens.items }
+{
+    settling::take_all::<T, Brand>(words, &mut seat);
+    let tokens = reclaim(words, plan, seat, counts, hands, claimed, published, tokens);
+    whole_row(cells, tokens)
 }
 
 /// Brings all ends of a ring together, and gives its events back: of each cell what was last written
@@ -58,7 +113,7 @@ fn gather<T>(
 /// the ring drained; no handler took more than its upstreams completed; and no more is claimed
 /// than a round beyond what each final handler completed. There is one run of all ends that came
 /// to what they know, in which each end stored exactly what it did, and its transcript is lawful.
-pub fn finish<T>(
+pub fn finish<T: Drop>(
     sender: Sender<T>,
     receivers: Vec<Receiver<T>>,
     halter: Halter<T>,
@@ -72,29 +127,29 @@ pub fn finish<T>(
     ensures run { HasRun sender receivers.items halter }
     ensures events { map (λ event. Some event) result.1 ≡ sender.cells }
 {
-    let station = sender.station;
-    let mut seat = station.seat;
-    let mut counts = sender.counts;
-    let mut hands = sender.hands;
-    settling::take_in(&station.ring.table.shared, &mut seat, halter.seat);
-    gather(&station.ring, &mut seat, receivers, &mut counts, &mut hands);
-    settling::take_all::<T, Brand>(&station.ring.table.shared, &mut seat);
-    moments::<T>();
-    let tokens = reclaim(
-        &station.ring.table.shared,
-        &station.ring.plan,
+    let (ring, sends) = sender.into_left();
+    let (_, halts) = halter.into_left();
+    let mut seat = sends.seat;
+    let mut counts = sends.counts;
+    let mut hands = sends.hands;
+    settling::take_in(&ring.table.shared, &mut seat, halts.seat);
+    gather(&ring, &mut seat, receivers, &mut counts, &mut hands);
+    let row = take_back(
+        &ring.table.shared,
+        &ring.plan,
         seat,
         &counts,
         hands,
-        sender.claimed,
-        sender.published,
-        sender.tokens,
+        sends.claimed,
+        sends.published,
+        sends.strip.cells,
+        sends.tokens,
     );
-    let row = whole_row(sender.strip.cells, tokens);
+    moments::<T>();
     let settled = Settled {
-        claimed: sender.claimed,
-        published: sender.published,
+        claimed: sends.claimed,
+        published: sends.published,
         handlers: counts,
     };
-    (settled, sender.strip.close(row))
+    (settled, sends.strip.close(row))
 }

@@ -58,13 +58,6 @@ pub type RingTable<T> = Table<Token<T>, View<T>, Plan<T>, RingRule, Global>;
 /// What an end steps with.
 pub type RingSeat<T> = Seat<Token<T>, View<T>>;
 
-/// What all ends of a ring share: its table, and what it was made for.
-#[derive(Drop)]
-pub(crate) struct RingBody<T> {
-    pub(crate) table: RingTable<T>,
-    pub(crate) plan: Plan<T>,
-}
-
 /// A number that a step names, for its proof alone.
 pub trait Names {
     ghost number: { ℕ };

@@ -2,6 +2,7 @@
 //! on a thread of its own. An event lies once in memory, and tokens of it travel.
 #![tactic(auto)]
 
+mod body;
 mod claiming;
 mod dealt;
 pub mod events;
@@ -9,9 +10,11 @@ mod exchanges;
 pub mod finishing;
 pub mod inlet;
 pub mod laws;
+mod left;
 mod lending;
 mod opening;
 mod outlets;
+mod over;
 mod plan;
 mod polling;
 pub mod receiver;

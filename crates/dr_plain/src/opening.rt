@@ -14,8 +14,9 @@ ghost use Rattle.dr_plain.specs.Inside.Making.{AreFreshStands, IsPrepared};
 ghost use Rattle.dr_plain.specs.Calls.Settling.{AreAllEnds, IsHalterOf};
 ghost use Rattle.dr_plain.specs.Calls.Making.{at_ring, AreFreshEnds, fault_of};
 
+use crate::body::RingBody;
 use crate::dealt::{blanks, deal, empty_hands};
-use crate::laws::{Halter, ReceiverStation, RingBody, RingSeat, RingTable, SenderStation};
+use crate::laws::{Halter, ReceiverStation, RingSeat, RingTable, SenderStation};
 use crate::plan::Plan;
 use crate::receiver::Receiver;
 use crate::record::View;
@@ -25,6 +26,7 @@ use atomic_table::Split;
 use dr_cells::{Cells, Row, Strip, Token};
 use dr_graph::Graph;
 use dr_meaning::is_valid_limit;
+use dr_places::Places;
 use dr_runs::{RingFault, Written};
 use dr_seq::{GateCache, Size};
 use std::alloc::{AllocError, Global};
@@ -42,7 +44,7 @@ impl<T> Split<View<T>> for Cut {
 }
 
 // The receivers, each with its seat. `rest` stands for them all.
-fn receivers<T>(
+fn receivers<T: Drop>(
     alloc: Global,
     ring: &Arc<RingBody<T>, Global>,
     mut rest: RingSeat<T>,
@@ -75,8 +77,30 @@ fn receivers<T>(
     Ok(receivers)
 }
 
+// The body of a ring, with empty places in which its ends leave what they hold.
+fn body<T: Drop>(
+    alloc: Global,
+    table: RingTable<T>,
+    plan: Plan<T>,
+) -> Result<Arc<RingBody<T>, Global>, AllocError>
+    requires { table.shared.key ≡ plan }
+    ensures { IfOk result (λ ring. ((arc_value ring).table ≡ table) × ((arc_value ring).plan ≡ plan)) }
+{
+    let senders = Places::new(alloc, 1, &table.shared)?;
+    let receivers = Places::new(alloc, plan.handlers(), &table.shared)?;
+    let halters = Places::new(alloc, 1, &table.shared)?;
+    let body = RingBody {
+        table,
+        plan,
+        senders,
+        receivers,
+        halters,
+    };
+    Ok(Arc::new(alloc, body)?)
+}
+
 // The stations of a ring for a plan, with its receivers.
-fn stations<T>(
+fn stations<T: Drop>(
     alloc: Global,
     plan: Plan<T>,
 ) -> Result<(SenderStation<T>, Vec<Receiver<T>>, Halter<T>), AllocError>
@@ -88,7 +112,7 @@ fn stations<T>(
     let Ok((table, mut seat)) = RingTable::new(alloc, words.as_slice(), slots, &plan) else {
         return Err(AllocError);
     };
-    let ring = Arc::new(alloc, RingBody { table, plan })?;
+    let ring = body(alloc, table, plan)?;
     let mut second = ring.table.shared.split_seat::<Cut>(&mut seat);
     let others = ring.table.shared.split_seat::<Cut>(&mut second);
     let receivers = receivers(alloc, &ring, others)?;
@@ -115,7 +139,7 @@ struct Prepared<T> {
     hands: Vec<Vec<Token<T>>>,
 }
 
-fn prepare<T>(
+fn prepare<T: Drop>(
     alloc: Global,
     graph: &Graph,
     size: Size,

@@ -2,17 +2,23 @@
 
 ghost use Rattle.std.specs.Prelude.{◌≡◌, ◌<◌, ◌^◌, length, IfSome, IfNone};
 ghost use Rattle.dr_runs.specs.Looks.{looks_counted};
+ghost use Rattle.std.specs.Arc.{arc_value};
+ghost use Rattle.dr_plain.specs.Meaning.Shape.{handlers_of};
 ghost use Rattle.dr_plain.specs.Calls.Receiving.{PollCall, CompleteCall, ReadsInHand, IsNotInHand};
+ghost use Rattle.dr_plain.specs.Inside.Leaving.{BelongsReceiver};
 
+use crate::body::RingBody;
 use crate::laws::ReceiverStation;
+use crate::left::ReceiverLeft;
 use dr_cells::Token;
 use dr_meaning::{Polled, Refusal};
 use dr_runs::nothing_offered;
+use std::alloc::Global;
 use std::marker::Model;
+use std::sync::Arc;
 
 /// The end of one handler, which receives every event after its upstreams. No call waits or takes
 /// memory.
-#[derive(Drop)]
 pub struct Receiver<T> {
     pub(crate) station: ReceiverStation<T>,
     pub(crate) taken: u64,
@@ -119,5 +125,41 @@ impl<T> Receiver<T> {
         ensures { result ≡ looks_counted self.now.knows.looks }
     {
         self.station.looks
+    }
+
+    // All that it has, with its number and the ring.
+    pub(crate) fn into_left(self) -> (Arc<RingBody<T>, Global>, usize, ReceiverLeft<T>)
+        ensures ring { BelongsReceiver (arc_value result.0).table.shared.table_id result.1 self }
+        ensures number { result.1 < handlers_of (arc_value result.0).plan }
+        ensures left { result.2 ≡ self }
+    {
+        let Receiver {
+            station,
+            taken,
+            completed,
+            parts,
+        } = self;
+        let ReceiverStation {
+            ring,
+            seat,
+            number,
+            looks: _,
+        } = station;
+        let left = ReceiverLeft {
+            seat,
+            taken,
+            completed,
+            parts,
+        };
+        (ring, number, left)
+    }
+}
+
+/// It leaves what it holds in the ring, without waiting or taking memory. With the last end the events
+/// are dropped, and all memory of the ring is free.
+impl<T: Drop> Drop for Receiver<T> {
+    fn drop(self) {
+        let (ring, number, left) = self.into_left();
+        drop(ring.receivers.leave(number, left));
     }
 }

@@ -3,19 +3,24 @@
 ghost use Rattle.std.specs.Prelude.{◌≡◌, length};
 ghost use Rattle.dr_runs.specs.Looks.{looks_counted};
 ghost use Rattle.dr_plain.specs.Meaning.Records.{claimed as claimed_by};
+ghost use Rattle.std.specs.Arc.{arc_value};
 ghost use Rattle.dr_plain.specs.Calls.Sending.{ClaimCall, WriteCall, PublishCall, CloseCall};
+ghost use Rattle.dr_plain.specs.Inside.Leaving.{BelongsSender};
 
+use crate::body::RingBody;
 use crate::dealt::{put_at, write_in};
 use crate::laws::SenderStation;
+use crate::left::SenderLeft;
 use crate::settled::HandlerCounts;
 use dr_cells::{Strip, Token};
 use dr_meaning::{Claimed, Refusal};
 use dr_runs::Written;
 use dr_seq::GateCache;
+use std::alloc::Global;
 use std::marker::{Brand, Model};
+use std::sync::Arc;
 
 /// The one end that claims, writes and publishes. No call waits or takes memory.
-#[derive(Drop)]
 pub struct Sender<T> {
     pub(crate) station: SenderStation<T>,
     pub(crate) claimed: u64,
@@ -152,6 +157,41 @@ impl<T> Sender<T> {
     {
         self.station.looks
     }
+
+    // All that it has, and the ring.
+    pub(crate) fn into_left(self) -> (Arc<RingBody<T>, Global>, SenderLeft<T>)
+        ensures ring { BelongsSender (arc_value result.0).table.shared.table_id (arc_value result.0).plan self }
+        ensures left { result.1 ≡ self }
+    {
+        let Sender {
+            station,
+            claimed,
+            published,
+            gate,
+            written,
+            tokens,
+            counts,
+            hands,
+            strip,
+        } = self;
+        let SenderStation {
+            ring,
+            seat,
+            looks: _,
+        } = station;
+        let left = SenderLeft {
+            seat,
+            claimed,
+            published,
+            gate,
+            written,
+            tokens,
+            counts,
+            hands,
+            strip,
+        };
+        (ring, left)
+    }
 }
 
 impl<T: Drop> Sender<T> {
@@ -175,5 +215,14 @@ impl<T: Drop> Sender<T> {
         write_in(&mut token, self.strip.cells, place, event);
         put_at(&mut self.tokens, place, token);
         Ok(())
+    }
+}
+
+/// It leaves what it holds in the ring, without waiting or taking memory. With the last end the events
+/// are dropped, and all memory of the ring is free.
+impl<T: Drop> Drop for Sender<T> {
+    fn drop(self) {
+        let (ring, left) = self.into_left();
+        drop(ring.senders.leave(0, left));
     }
 }

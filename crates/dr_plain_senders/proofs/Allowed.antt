@@ -1,8 +1,8 @@
 -- Each kind of step is allowed.
-use Rattle.std.proofs.Common.{◌≡◌, ℕ, ◌+◌, ◌-◌, ◌*◌, ◌^◌, ◌<◌, ◌≤◌, inl, inr, Bool, true, false, ◌==◌, if◌then◌else◌, List, [], ◌∷◌, ◌++◌, length, get_or, set, replicate, None, sym, refl, ap, ◌∙◌, subst, arith}
-use Rattle.std.specs.Prelude.{Contains, bit_or}
+use Rattle.std.proofs.Common.{◌≡◌, ℕ, ◌+◌, ◌-◌, ◌*◌, ◌^◌, ◌<◌, ◌≤◌, inl, inr, Bool, true, false, ◌==◌, if◌then◌else◌, List, [], ◌∷◌, ◌++◌, length, get_or, set, replicate, sym, refl, ap, ◌∙◌, subst, arith}
+use Rattle.std.specs.Prelude.{Contains, bit_or, bit_xor}
 use Rattle.std.proofs.lemmas.Bool.{cases_eq, cases_lt, eq-eqb, ne_eqb, lt-ltb, le-ltb}
-use Rattle.std.proofs.lemmas.List.{length-append, length-replicate}
+use Rattle.std.proofs.lemmas.List.{length-append, length-map, length-replicate}
 use Rattle.std.proofs.lemmas.Nat.{or_block}
 use Rattle.std.proofs.Math.Seq.{drop-append_seam}
 use Rattle.std.specs.Int.Bits.{or_zero_r}
@@ -14,7 +14,6 @@ use prog.Atomic.{either}
 use Rattle.atomic_table.specs.Table.{step, Allows}
 use Rattle.atomic_table.proofs.Lists.{set_here, at_longer}
 use Rattle.dr_cells.specs.declared.token.Token.{Token}
-use Rattle.dr_seq.specs.Rounds.{entry_of}
 use Rattle.dr_graph.specs.Meaning.Graph.{upstreams_of, finals}
 use Rattle.dr_runs.specs.Seats.{end_of, seat_at}
 use Rattle.dr_runs.proofs.Elements.{at_below}
@@ -22,7 +21,7 @@ use Rattle.dr_runs.proofs.Looks.{last_look_le}
 use Rattle.dr_runs.proofs.Offers.{final_inside}
 use Rattle.dr_runs.proofs.Seats.{adds_nothing, adds_one}
 use Rattle.dr_plain_senders.specs.Meaning.Shape.{Shape, handlers_of}
-use Rattle.dr_plain_senders.specs.Meaning.Words.{claim_word, claimed_in, halted_from, halt_bit, count_word, mark_word, mark_start}
+use Rattle.dr_plain_senders.specs.Meaning.Words.{claim_word, claimed_in, halted_from, halt_bit, count_word, mark_word, mark_bit, in_word, mark_start}
 use Rattle.dr_plain_senders.specs.declared.record.Lent.{Lent}
 use Rattle.dr_plain_senders.specs.declared.record.Stage.{Stage}
 use Rattle.dr_plain_senders.specs.declared.record.SenderRecord.{SenderRecord}
@@ -32,19 +31,20 @@ use Rattle.dr_plain_senders.specs.declared.record.EndRecord.TheVariants.{Sends, 
 use Rattle.dr_plain_senders.specs.declared.record.Step.{Step}
 use Rattle.dr_plain_senders.specs.declared.record.Step.TheVariants.{SenderLooksAtClaims, SenderLooksAtCount, SenderClaims, SenderPublishes, SenderLooksAtMark, SenderHalts}
 use Rattle.dr_plain_senders.specs.declared.record.Step.TheVariants.{ReceiverLooksAtClaims, ReceiverLooksAtMark, ReceiverLooksAtCount, ReceiverCompletes, HalterHalts}
-use Rattle.dr_plain_senders.specs.Meaning.Records.{events_of, Owns, published, brought, sender_looked, mark_found, claimed_from, claims_looked, taken_at_mark, mark_looked, taken_at_count, receiver_looked, completed_to, halter_halted, SeesRoom, fresh_stage}
+use Rattle.dr_plain_senders.specs.Meaning.Records.{events_of, Owns, has_published, sender_looked, mark_found, claimed_from, claims_looked, taken_at_mark, mark_looked, taken_at_count, receiver_looked, completed_to, halter_halted, SeesRoom, fresh_stage}
 use Rattle.dr_plain_senders.specs.Meaning.Rule.{World, KeepsRule}
 use Rattle.dr_plain_senders.specs.Meaning.Lying.{Laid, Lies}
-use Rattle.dr_plain_senders.specs.Meaning.Steps.{Happens, sender_knows, sender_claims, sender_publishes, receiver_knows, halted_words}
-use Rattle.dr_plain_senders.specs.Calls.Finds.{FindsMore, FindsClaims, FindsEvents, FindsNext, IsEarlier, FindsMark}
+use Rattle.dr_plain_senders.specs.Meaning.Steps.{Happens, sender_knows, sender_claims, receiver_knows, halted_words}
+use Rattle.dr_plain_senders.specs.Calls.Finds.{FindsMore, FindsClaims, FindsEvents, FindsNext, FindsOwn, IsEarlier}
 use Rattle.dr_plain_senders.specs.Inside.Seats.{End, Hand, Sitting, Tells, ring_ends, Loads, Stores, Ruled, as_sender, as_receiver, as_halter, sender_of, receiver_of, halter_of, IsSender, IsReceiver, IsHalter}
-use Rattle.dr_plain_senders.specs.Inside.Seats.{LayIn, taken_by_claim, given_by_publication, taken_by_poll, given_by_completion, SenderLooked, SenderClaimed, SenderPublished, SenderLookedAtMark, SenderHalted}
+use Rattle.dr_plain_senders.specs.Inside.Seats.{LayIn, LayAsLent, taken_by_claim, given_by_publication, taken_by_poll, given_by_completion, SenderLooked, SenderLookedAtClaims, SenderClaimed, SenderPublished, SenderLookedAtMark, SenderHalted}
 use Rattle.dr_plain_senders.specs.Inside.Seats.{ReceiverLookedAtClaims, ReceiverLookedAtMark, ReceiverLookedAtCount, ReceiverCompleted, HalterHalted}
 use Rattle.dr_plain_senders.proofs.Places.{word_at, claimed_low}
 use Rattle.dr_plain_senders.proofs.Facts.{taken_claimed, handler_inside, upstream_inside, receiver_of_handler, above, near_open, owned}
 use Rattle.dr_plain_senders.proofs.KeepsClaims.{keeps_claims}
-use Rattle.dr_plain_senders.proofs.Barriers.{offers_at_mark, offers_at_count, next_of}
-use Rattle.dr_plain_senders.proofs.Moves.{stays, claim_moves, publication_moves, look_moves, poll_moves, completion_moves}
+use Rattle.dr_plain_senders.proofs.Barriers.{marked_claimed, offers_at_mark, offers_at_count, next_of}
+use Rattle.dr_plain_senders.proofs.Moves.{stays, gives_moves, claim_moves, look_moves, poll_moves, completion_moves}
+use Rattle.dr_plain_senders.proofs.RunMoves.{MayPublish, publishes_many}
 use Rattle.dr_plain_senders.proofs.Seats.{Does, Acts, OthersStand, by_end, but_sender, but_receiver, but_halter}
 
 -- a load stores what was there
@@ -69,15 +69,19 @@ or_top n small =
 
 module _ {T : Type 0} where
   -- a load of a word is allowed, and tells this
-  abbrev pub MayLoad : Shape → ℕ → ℕ → Sitting T → ℕ → Tells T → Type 0
+  abbrev pub MayLoad : Shape T → ℕ → ℕ → Sitting T → ℕ → Tells T → Type 0
   MayLoad k slots id me i tells = Allows (Ruled k) slots id me i (λ n. n) (Loads tells (step slots i 0 0 none) me)
 
   -- a store of n to a word is allowed, is this step, and tells this
-  abbrev pub MayStore : Shape → ℕ → ℕ → Sitting T → ℕ → ℕ → (End T → ℕ → Step T) → Tells T → Type 0
+  abbrev pub MayStore : Shape T → ℕ → ℕ → Sitting T → ℕ → ℕ → (End T → ℕ → Step T) → Tells T → Type 0
   MayStore k slots id me i n stored tells = Allows (Ruled k) slots id me i (λ _. n) (λ _. Stores (λ s. stored) tells (step slots i n 0 none) me n)
 
+  -- the marks of a mask may be flipped in a word, by this step, which tells this
+  abbrev pub MayFlip : Shape T → ℕ → ℕ → Sitting T → ℕ → ℕ → (End T → ℕ → Step T) → Tells T → Type 0
+  MayFlip k slots id me i mask stored tells = Allows (Ruled k) slots id me i (λ n. bit_xor n mask) (Stores (λ s. stored) tells (step slots i mask 0 none) me)
+
   -- the highest bit of a word may be set, by this step, which tells this
-  abbrev pub MayHalt : Shape → ℕ → ℕ → Sitting T → (End T → ℕ → Step T) → Tells T → Type 0
+  abbrev pub MayHalt : Shape T → ℕ → ℕ → Sitting T → (End T → ℕ → Step T) → Tells T → Type 0
   MayHalt k slots id me stored tells =
       Allows (Ruled k) slots id me claim_word (λ n. bit_or n 9223372036854775808) (Stores (λ s. stored) tells (step slots claim_word 9223372036854775808 0 none) me)
 
@@ -92,12 +96,12 @@ module _ {T : Type 0} where
   along_halter P me is p = subst (λ (e : End T). P (seat_at e me.0.pasts)) (sym is) p
 
   -- a sender's look
-  sender_sees : (k : Shape) (w : World T) (r : SenderRecord T) (i : ℕ) → get_elem? w.senders r.number ≡ some r → i < 16 + 16 * handlers_of k → KeepsRule k w
+  sender_sees : (k : Shape T) (w : World T) (r : SenderRecord T) (i : ℕ) → get_elem? w.senders r.number ≡ some r → i < 16 + 16 * handlers_of k → KeepsRule k w
       → FindsMore r.looks i (word_at w.words i)
   sender_sees k w r i at low K = last_look_le (mark_start k) w.words 0 r.looks i (omega arith) (K.sent r.number r at).looks
 
   -- what a step does that changes a sender's record, and no word
-  abbrev sender_learns : (k : Shape) (kind : Step T) (w : World T) (r q : SenderRecord T) (i : ℕ) → get_elem? w.senders r.number ≡ some r → q.number ≡ r.number
+  abbrev sender_learns : (k : Shape T) (kind : Step T) (w : World T) (r q : SenderRecord T) (i : ℕ) → get_elem? w.senders r.number ≡ some r → q.number ≡ r.number
       → Happens k kind w (sender_knows w r.number q) → Does k kind w i (word_at w.words i) (Sends q)
   sender_learns k kind w r q i at same happens = record {
     after = sender_knows w r.number q;
@@ -108,7 +112,7 @@ module _ {T : Type 0} where
   }
 
   -- and a receiver's
-  abbrev receiver_learns : (k : Shape) (kind : Step T) (w : World T) (r q : ReceiverRecord T) (i : ℕ) → get_elem? w.receivers r.number ≡ some r → q.number ≡ r.number
+  abbrev receiver_learns : (k : Shape T) (kind : Step T) (w : World T) (r q : ReceiverRecord T) (i : ℕ) → get_elem? w.receivers r.number ≡ some r → q.number ≡ r.number
       → Happens k kind w (receiver_knows w r.number q) → Does k kind w i (word_at w.words i) (Receives q)
   receiver_learns k kind w r q i at same happens = record {
     after = receiver_knows w r.number q;
@@ -119,11 +123,15 @@ module _ {T : Type 0} where
         (but_receiver w (receiver_knows w r.number q) r q refl refl refl);
   }
 
-  pub sender_looks_at_claims : (k : Shape) {slots : ℕ} (id : ℕ) (me : Sitting T) → IsSender (end_of me) → MayLoad k slots id me claim_word SenderLooked
+  -- what a sender has is claimed
+  finds_own : (k : Shape T) (w : World T) (r : SenderRecord T) → get_elem? w.senders r.number ≡ some r → KeepsRule k w → FindsOwn r (word_at w.words claim_word)
+  finds_own k w r at K z t own = let here = (owned k w r.number r z own.0 t at own.1 K).1 in let inside = at_below w.stages z t here in let claim = K.claim in omega arith
+
+  pub sender_looks_at_claims : (k : Shape T) {slots : ℕ} (id : ℕ) (me : Sitting T) → IsSender (end_of me) → MayLoad k slots id me claim_word SenderLookedAtClaims
   sender_looks_at_claims k {slots = slots} id me is =
       let r = sender_of me.0.ends in let kind = SenderLooksAtClaims r.number in
-      along_sender (λ m. MayLoad k slots id m claim_word SenderLooked) me is
-      (by_end k slots id kind (λ xs. xs) me.0.pasts (Sends r) me.1 claim_word (λ n. n) (SenderLooked (step slots claim_word 0 0 none) (as_sender r me.1))
+      along_sender (λ m. MayLoad k slots id m claim_word SenderLookedAtClaims) me is
+      (by_end k slots id kind (λ xs. xs) me.0.pasts (Sends r) me.1 claim_word (λ n. n) (SenderLookedAtClaims (step slots claim_word 0 0 none) (as_sender r me.1))
       (adds_nothing ring_ends _ kind (λ n. refl))
       (λ w at K small homes lies. let q = sender_looked r claim_word (word_at w.words claim_word) in record {
         mine = Sends q;
@@ -131,10 +139,10 @@ module _ {T : Type 0} where
         does = sender_learns k kind w r q claim_word at refl (r, at, refl);
         hand_after = me.1;
         moves = stays k (sender_knows w r.number q) me.1 homes lies;
-        tells = (refl, sender_sees k w r claim_word at (omega arith) K);
+        tells = (refl, sender_sees k w r claim_word at (omega arith) K, finds_own k w r at K);
       }))
 
-  looks_at_count : (k : Shape) (slots id : ℕ) (me : Sitting T) (f : ℕ) → IsSender (end_of me) → Contains (finals k.upstreams) f → MayLoad k slots id me (count_word f) SenderLooked
+  looks_at_count : (k : Shape T) (slots id : ℕ) (me : Sitting T) (f : ℕ) → IsSender (end_of me) → Contains (finals k.upstreams) f → MayLoad k slots id me (count_word f) SenderLooked
   looks_at_count k slots id me f is has =
       let r = sender_of me.0.ends in let i = count_word f in let kind = SenderLooksAtCount r.number f in
       along_sender (λ m. MayLoad k slots id m i SenderLooked) me is
@@ -149,11 +157,11 @@ module _ {T : Type 0} where
         tells = (refl, sender_sees k w r i at (omega arith) K);
       }))
 
-  pub sender_looks_at_count : (k sh : Shape) {slots : ℕ} (id : ℕ) (me : Sitting T) (i f : ℕ) → k ≡ sh → i ≡ count_word f → IsSender (end_of me) → Contains (finals sh.upstreams) f
+  pub sender_looks_at_count : (k sh : Shape T) {slots : ℕ} (id : ℕ) (me : Sitting T) (i f : ℕ) → k ≡ sh → i ≡ count_word f → IsSender (end_of me) → Contains (finals sh.upstreams) f
       → MayLoad k slots id me i SenderLooked
   sender_looks_at_count k sh {slots = slots} id me i f same here is has =
       subst (λ (i : ℕ). MayLoad k slots id me i SenderLooked) (sym here)
-      (looks_at_count k slots id me f is (subst (λ (p : Shape). Contains (finals p.upstreams) f) (sym same) has))
+      (looks_at_count k slots id me f is (subst (λ (p : Shape T). Contains (finals p.upstreams) f) (sym same) has))
 
   -- an exchange, by whether it finds what it expects
   abbrev exchanged_world : World T → SenderRecord T → ℕ → ℕ → Bool → World T
@@ -163,7 +171,7 @@ module _ {T : Type 0} where
   learned r c n found b = if b then claimed_from r c n else sender_looked r claim_word found
 
   -- what a sender has is claimed before a claim that the exchange gives, and published where the claim takes its cell
-  earlier : (k : Shape) (w : World T) (r : SenderRecord T) (c n z : ℕ) (t : Stage T) → get_elem? w.senders r.number ≡ some r → 0 < n → SeesRoom k r c n
+  earlier : (k : Shape T) (w : World T) (r : SenderRecord T) (c n z : ℕ) (t : Stage T) → get_elem? w.senders r.number ≡ some r → 0 < n → SeesRoom k r c n
       → word_at w.words claim_word ≡ c → Owns r z t → KeepsRule k w
       → IsEarlier k c (c + n) z t
   earlier k w r c n z t at some_one room hit own K =
@@ -178,13 +186,13 @@ module _ {T : Type 0} where
       )
 
   -- what an exchange tells, by whether it finds what it expects
-  abbrev ClaimTells : Shape → SenderRecord T → Hand T → ℕ → ℕ → ℕ → ℕ → Bool → End T → Type 0
+  abbrev ClaimTells : Shape T → SenderRecord T → Hand T → ℕ → ℕ → ℕ → ℕ → Bool → End T → Type 0
   ClaimTells k r hand c n v m b me' =
       (laid : List (Laid T)) × LayIn k c (if b then n else 0) laid
       × (me' ≡ as_sender (learned r c n m b) (taken_by_claim k c laid ++ hand))
-      × FindsMore r.looks claim_word m × (m ≡ c → (z : ℕ) (t : Stage T) → Owns r z t → IsEarlier k c v z t)
+      × FindsMore r.looks claim_word m × (m ≡ c → (z : ℕ) (t : Stage T) → Owns r z t → IsEarlier k c v z t) × LayAsLent k r c laid
 
-  claim_acts : (k : Shape) (w : World T) (r : SenderRecord T) (hand : Hand T) (homes : List (maybe.Option (Token T))) (c n v m : ℕ) → get_elem? w.senders r.number ≡ some r → 0 < n
+  claim_acts : (k : Shape T) (w : World T) (r : SenderRecord T) (hand : Hand T) (homes : List (maybe.Option (Token T))) (c n v m : ℕ) → get_elem? w.senders r.number ≡ some r → 0 < n
       → SeesRoom k r c n → c + n ≡ v → m ≡ word_at w.words claim_word → KeepsRule k w → Lies k w homes
       → Acts k (SenderClaims r.number c n) w claim_word (either (m == c) v m) (Sends r) hand homes (ClaimTells k r hand c n v m (m == c))
   claim_acts k w r hand homes c n v m at some_one room sum here K lies =
@@ -210,7 +218,7 @@ module _ {T : Type 0} where
               };
               hand_after = taken_by_claim k c t.0 ++ hand;
               moves = t.2;
-              tells = (t.0, t.1, refl, seen, before);
+              tells = (t.0, t.1, refl, seen, before, t.3);
             }))
         | inr miss ↦ (let b = ne_eqb m c miss in let q = sender_looked r claim_word m in
             let u = sender_knows w r.number (sender_looked r claim_word (word_at w.words claim_word)) in
@@ -227,103 +235,90 @@ module _ {T : Type 0} where
               };
               hand_after = hand;
               moves = stays k u hand homes lies;
-              tells = ([], record { count = refl; rounds = λ i a at_i. absurd (some-ne-none a (sym at_i)) }, refl, seen, before);
+              tells = ([], record { count = refl; rounds = λ i a at_i. absurd (some-ne-none a (sym at_i)) }, refl, seen, before, λ i s a x l at_i place own out. absurd (some-ne-none a (sym at_i)));
             }))
       ]
 
-  pub sender_claims_more : (k sh : Shape) {slots : ℕ} (id : ℕ) (me : Sitting T) (c n v : ℕ) → k ≡ sh → v ≡ c + n → IsSender (end_of me) → 0 < n
+  pub sender_claims_more : (k sh : Shape T) {slots : ℕ} (id : ℕ) (me : Sitting T) (c n v : ℕ) → k ≡ sh → v ≡ c + n → IsSender (end_of me) → 0 < n
       → SeesRoom sh (sender_of me.0.ends) c n
       → Allows (Ruled k) slots id me claim_word (λ m. either (m == c) v m)
       (Stores (λ s e m. SenderClaims (sender_of e.0).number s.first (s.second - s.first)) (SenderClaimed sh) (step slots claim_word c v none) me)
   sender_claims_more k sh {slots = slots} id me c n v same sum is some_one there =
-      let Goal : Shape → Sitting T → Type 0 = λ p x. Allows (Ruled k) slots id x claim_word (λ m. either (m == c) v m)
+      let Goal : Shape T → Sitting T → Type 0 = λ p x. Allows (Ruled k) slots id x claim_word (λ m. either (m == c) v m)
       (Stores (λ s e m. SenderClaims (sender_of e.0).number s.first (s.second - s.first)) (SenderClaimed p) (step slots claim_word c v none) x) in
       let r = sender_of me.0.ends in let more = v - c in let all : n ≡ more = omega arith in let back : c + more ≡ v = omega arith in
-      let room : SeesRoom k r c more = subst (SeesRoom k r c) all (subst (λ (p : Shape). SeesRoom p r c n) (sym same) there) in
+      let room : SeesRoom k r c more = subst (SeesRoom k r c) all (subst (λ (p : Shape T). SeesRoom p r c n) (sym same) there) in
       let kind = SenderClaims r.number c more in
-      subst (λ (p : Shape). Goal p me) same
+      subst (λ (p : Shape T). Goal p me) same
       (along_sender (Goal k) me is
       (by_end k slots id kind (λ xs. xs ++ kind ∷ []) me.0.pasts (Sends r) me.1 claim_word (λ m. either (m == c) v m)
       (SenderClaimed k (step slots claim_word c v none) (as_sender r me.1))
       (adds_one ring_ends _ kind (λ n. refl))
       (λ w at K small homes lies. claim_acts k w r me.1 homes c more v (word_at w.words claim_word) at (omega arith) room back refl K lies)))
 
-  publishes : (k : Shape) (slots id : ℕ) (me : Sitting T) (s : ℕ) (t : Stage T) (l : Lent T) (rest : Hand T) → IsSender (end_of me) → Owns (sender_of me.0.ends) s t → t.lent ≡ None
-      → me.1 ≡ given_by_publication k s (l ∷ []) ++ rest
-      → MayStore k slots id me (mark_word k s) (entry_of k.size s) (λ e n. SenderPublishes (sender_of e.0).number s (l.event ∷ [])) (SenderPublished k s (l ∷ []))
-  publishes k slots id me s t l rest is own unshown hand =
-      let r = sender_of me.0.ends in let i = mark_word k s in let v = entry_of k.size s in let given = given_by_publication k s (l ∷ []) in
-      let kind = SenderPublishes r.number s (l.event ∷ []) in let tells : Tells T = SenderPublished k s (l ∷ []) in
-      let Goal : Sitting T → Type 0 = λ x. MayStore k slots id x i v (λ e n. SenderPublishes (sender_of e.0).number s (l.event ∷ [])) tells in
+  publishes : (k : Shape T) (slots id : ℕ) (me : Sitting T) (s : ℕ) (lents : List (Lent T)) (rest : Hand T) → IsSender (end_of me) → 0 < length lents → length lents ≤ in_word k s
+      → MayPublish (sender_of me.0.ends) s (length lents) → me.1 ≡ given_by_publication k s lents ++ rest
+      → MayFlip k slots id me (mark_word k s) (2 ^ (mark_bit k s + length lents) - 2 ^ mark_bit k s) (λ e n. SenderPublishes (sender_of e.0).number s (events_of lents)) (SenderPublished k s lents)
+  publishes k slots id me s lents rest is some_one few may hand =
+      let r = sender_of me.0.ends in let i = mark_word k s in let mask : ℕ = 2 ^ (mark_bit k s + length lents) - 2 ^ mark_bit k s in let given = given_by_publication k s lents in
+      let kind = SenderPublishes r.number s (events_of lents) in let tells : Tells T = SenderPublished k s lents in
+      let Goal : Sitting T → Type 0 = λ x. MayFlip k slots id x i mask (λ e n. SenderPublishes (sender_of e.0).number s (events_of lents)) tells in
       along_sender Goal me is
       (subst (λ (c : Hand T). Goal (seat_at (as_sender r c) me.0.pasts)) (sym hand)
-      (by_end k slots id kind (λ xs. xs ++ kind ∷ []) me.0.pasts (Sends r) (given ++ rest) i (λ _. v)
-      (λ _. tells (step slots i v 0 none) (as_sender r (given ++ rest)) v)
+      (by_end k slots id kind (λ xs. xs ++ kind ∷ []) me.0.pasts (Sends r) (given ++ rest) i (λ n. bit_xor n mask)
+      (tells (step slots i mask 0 none) (as_sender r (given ++ rest)))
       (adds_one ring_ends _ kind (λ n. refl))
-      (λ w at K small homes lies. let q = brought r s (published l) in let u = sender_publishes k w r.number r s t l in record {
+      (λ w at K small homes lies. let q = has_published r s lents in let M = publishes_many k w r s lents homes at some_one few may K lies in record {
         mine = Sends q;
         same = refl;
         does = record {
-          after = u;
-          happens = (r, at, (t, own, unshown, (l, refl, refl)));
-          words = refl;
-          stands = set_here w.senders r.number q (at_below w.senders r.number r at);
-          others = but_sender w u r q refl refl refl;
+          after = M.after;
+          happens = ((let many = length-map lents (λ (l : Lent T). l.event) in omega arith), M.happens);
+          words = M.words;
+          stands = ap (λ (xs : List (SenderRecord T)). get_elem? xs r.number) M.senders ∙ set_here w.senders r.number q (at_below w.senders r.number r at);
+          others = but_sender w M.after r q M.senders M.receivers M.halter;
         };
         hand_after = rest;
-        moves = publication_moves k w r.number s own.0 r t l rest homes at own.1 unshown K lies;
+        moves = gives_moves k M.after rest given homes M.lies;
         tells = ap (λ (c : Hand T). as_sender q c) (sym (drop-append_seam given rest));
       })))
 
-  -- one of some
-  one_of : (lents : List (Lent T)) → length lents ≡ 1 → (l : Lent T) × (l ∷ [] ≡ lents)
-  one_of [] one = absurd (omega arith)
-  one_of (l ∷ []) one = (l, refl)
-  one_of (l ∷ m ∷ ls) one = absurd (omega arith)
+  pub sender_publishes_many : (k sh : Shape T) {slots : ℕ} (id : ℕ) (me : Sitting T) (i s m v count : ℕ) (lents : List (Lent T)) (rest : Hand T) → k ≡ sh → s ≡ m → length lents ≡ count
+      → 0 < count → count ≤ in_word sh s → i ≡ mark_word sh s → v ≡ 2 ^ (mark_bit sh s + count) - 2 ^ mark_bit sh s → IsSender (end_of me)
+      → MayPublish (sender_of me.0.ends) s count → me.1 ≡ given_by_publication sh s lents ++ rest
+      → MayFlip k slots id me i v (λ e n. SenderPublishes (sender_of e.0).number m (events_of lents)) (SenderPublished sh m lents)
+  sender_publishes_many k sh {slots = slots} id me i s m v count lents rest same named many some_one few here now is may hand =
+      subst (λ (p : Shape T). count ≤ in_word p s → i ≡ mark_word p s → v ≡ 2 ^ (mark_bit p s + count) - 2 ^ mark_bit p s → me.1 ≡ given_by_publication p s lents ++ rest
+      → MayFlip k slots id me i v (λ e n. SenderPublishes (sender_of e.0).number m (events_of lents)) (SenderPublished p m lents)) same
+      (λ few here now hand. subst (λ (j : ℕ). MayFlip k slots id me i v (λ e n. SenderPublishes (sender_of e.0).number j (events_of lents)) (SenderPublished k j lents)) named
+      (subst (λ (x : ℕ × ℕ). MayFlip k slots id me x.0 x.1 (λ e n. SenderPublishes (sender_of e.0).number s (events_of lents)) (SenderPublished k s lents)) (λ j. (sym here j, sym now j))
+      (subst (λ (n : ℕ). 0 < n → n ≤ in_word k s → MayPublish (sender_of me.0.ends) s n
+      → MayFlip k slots id me (mark_word k s) (2 ^ (mark_bit k s + n) - 2 ^ mark_bit k s) (λ e n. SenderPublishes (sender_of e.0).number s (events_of lents)) (SenderPublished k s lents)) many
+      (λ some_one few may. publishes k slots id me s lents rest is some_one few may hand) some_one few may)))
+      few here now hand
 
-  pub sender_publishes_one : (k sh : Shape) {slots : ℕ} (id : ℕ) (me : Sitting T) (i s m v : ℕ) (t : Stage T) (lents : List (Lent T)) (rest : Hand T) → k ≡ sh → s ≡ m → length lents ≡ 1
-      → i ≡ mark_word sh s → v ≡ entry_of sh.size s → IsSender (end_of me) → Owns (sender_of me.0.ends) s t → t.lent ≡ None
-      → me.1 ≡ given_by_publication sh s lents ++ rest
-      → MayStore k slots id me i v (λ e n. SenderPublishes (sender_of e.0).number m (events_of lents)) (SenderPublished sh m lents)
-  sender_publishes_one k sh {slots = slots} id me i s m v t lents rest same named one here now is own unshown hand =
-      let o = one_of lents one in
-      subst (λ (p : Shape). i ≡ mark_word p s → v ≡ entry_of p.size s → me.1 ≡ given_by_publication p s lents ++ rest
-      → MayStore k slots id me i v (λ e n. SenderPublishes (sender_of e.0).number m (events_of lents)) (SenderPublished p m lents)) same
-      (λ here now hand. subst (λ (j : ℕ). MayStore k slots id me i v (λ e n. SenderPublishes (sender_of e.0).number j (events_of lents)) (SenderPublished k j lents)) named
-      (subst (λ (x : ℕ × ℕ). MayStore k slots id me x.0 x.1 (λ e n. SenderPublishes (sender_of e.0).number s (events_of lents)) (SenderPublished k s lents)) (λ j. (sym here j, sym now j))
-      (subst (λ (ls : List (Lent T)). me.1 ≡ given_by_publication k s ls ++ rest
-      → MayStore k slots id me (mark_word k s) (entry_of k.size s) (λ e n. SenderPublishes (sender_of e.0).number s (events_of ls)) (SenderPublished k s ls)) o.1
-      (λ hand. publishes k slots id me s t o.0 rest is own unshown hand) hand)))
-      here now hand
-
-  -- the mark of a published sequence is there
-  finds_mark : (k : Shape) (w : World T) (r : SenderRecord T) (s : ℕ) → get_elem? w.senders r.number ≡ some r → KeepsRule k w
-      → FindsMark k r s (word_at w.words (mark_word k s))
-  finds_mark k w r s at K t l own shown = K.marked s (l, (t, (owned k w r.number r s own.0 t at own.1 K).1, shown))
-
-  looks_at_mark : (k : Shape) (slots id : ℕ) (me : Sitting T) (s : ℕ) → IsSender (end_of me) → MayLoad k slots id me (mark_word k s) (SenderLookedAtMark k s)
+  looks_at_mark : (k : Shape T) (slots id : ℕ) (me : Sitting T) (s : ℕ) → IsSender (end_of me) → MayLoad k slots id me (mark_word k s) (SenderLookedAtMark s)
   looks_at_mark k slots id me s is =
       let r = sender_of me.0.ends in let i = mark_word k s in let kind = SenderLooksAtMark r.number s in
-      along_sender (λ m. MayLoad k slots id m i (SenderLookedAtMark k s)) me is
-      (by_end k slots id kind (λ xs. xs) me.0.pasts (Sends r) me.1 i (λ n. n) (SenderLookedAtMark k s (step slots i 0 0 none) (as_sender r me.1))
+      along_sender (λ m. MayLoad k slots id m i (SenderLookedAtMark s)) me is
+      (by_end k slots id kind (λ xs. xs) me.0.pasts (Sends r) me.1 i (λ n. n) (SenderLookedAtMark s (step slots i 0 0 none) (as_sender r me.1))
       (adds_nothing ring_ends _ kind (λ n. refl))
-      (λ w at K small homes lies. let q = mark_found r i (word_at w.words i) in record {
+      (λ w at K small homes lies. let q = mark_found r s (word_at w.words i) in record {
         mine = Sends q;
         same = refl;
         does = sender_learns k kind w r q i at refl (r, at, refl);
         hand_after = me.1;
         moves = stays k (sender_knows w r.number q) me.1 homes lies;
-        tells = (refl, finds_mark k w r s at K);
+        tells = refl;
       }))
 
-  pub sender_looks_at_mark : (k sh : Shape) {slots : ℕ} (id : ℕ) (me : Sitting T) (i s m : ℕ) → k ≡ sh → s ≡ m → i ≡ mark_word sh s → IsSender (end_of me)
-      → MayLoad k slots id me i (SenderLookedAtMark sh m)
+  pub sender_looks_at_mark : (k sh : Shape T) {slots : ℕ} (id : ℕ) (me : Sitting T) (i s m : ℕ) → k ≡ sh → s ≡ m → i ≡ mark_word sh s → IsSender (end_of me)
+      → MayLoad k slots id me i (SenderLookedAtMark m)
   sender_looks_at_mark k sh {slots = slots} id me i s m same named here is =
-      subst (λ (p : Shape). i ≡ mark_word p s → MayLoad k slots id me i (SenderLookedAtMark p m)) same
-      (λ here. subst (λ (j : ℕ). MayLoad k slots id me i (SenderLookedAtMark k j)) named
-      (subst (λ (j : ℕ). MayLoad k slots id me j (SenderLookedAtMark k s)) (sym here) (looks_at_mark k slots id me s is))) here
+      subst (λ (j : ℕ). MayLoad k slots id me i (SenderLookedAtMark j)) named
+      (subst (λ (j : ℕ). MayLoad k slots id me j (SenderLookedAtMark s)) (sym (here ∙ ap (λ (p : Shape T). mark_word p s) (sym same))) (looks_at_mark k slots id me s is))
 
-  pub sender_halts : (k : Shape) {slots : ℕ} (id : ℕ) (me : Sitting T) → IsSender (end_of me) → MayHalt k slots id me (λ e n. SenderHalts (sender_of e.0).number) SenderHalted
+  pub sender_halts : (k : Shape T) {slots : ℕ} (id : ℕ) (me : Sitting T) → IsSender (end_of me) → MayHalt k slots id me (λ e n. SenderHalts (sender_of e.0).number) SenderHalted
   sender_halts k {slots = slots} id me is =
       let r = sender_of me.0.ends in let kind = SenderHalts r.number in
       along_sender (λ m. MayHalt k slots id m (λ e n. SenderHalts (sender_of e.0).number) SenderHalted) me is
@@ -346,7 +341,7 @@ module _ {T : Type 0} where
         tells = refl;
       }))
 
-  pub halter_halts : (k : Shape) {slots : ℕ} (id : ℕ) (me : Sitting T) → IsHalter (end_of me) → MayHalt k slots id me (λ e n. HalterHalts) HalterHalted
+  pub halter_halts : (k : Shape T) {slots : ℕ} (id : ℕ) (me : Sitting T) → IsHalter (end_of me) → MayHalt k slots id me (λ e n. HalterHalts) HalterHalted
   halter_halts k {slots = slots} id me is =
       let r = halter_of me.0.ends in
       along_halter (λ m. MayHalt k slots id m (λ e n. HalterHalts) HalterHalted) me is
@@ -368,7 +363,7 @@ module _ {T : Type 0} where
         tells = refl;
       }))
 
-  finds_claims : (k : Shape) (w : World T) (r : ReceiverRecord T) → get_elem? w.receivers r.number ≡ some r → KeepsRule k w → FindsClaims r (word_at w.words claim_word)
+  finds_claims : (k : Shape T) (w : World T) (r : ReceiverRecord T) → get_elem? w.receivers r.number ≡ some r → KeepsRule k w → FindsClaims r (word_at w.words claim_word)
   finds_claims k w r at K =
       let was = K.received r.number r at in let count = K.claim in let taken = taken_claimed k w r.number r at K in (
         last_look_le (mark_start k) w.words 0 r.looks claim_word (omega arith) was.looks,
@@ -376,7 +371,7 @@ module _ {T : Type 0} where
         λ told. (let t = was.told told in let e = t.1 in (t.0, omega arith)),
       )
 
-  pub receiver_looks_at_claims : (k : Shape) {slots : ℕ} (id : ℕ) (me : Sitting T) → IsReceiver (end_of me) → MayLoad k slots id me claim_word ReceiverLookedAtClaims
+  pub receiver_looks_at_claims : (k : Shape T) {slots : ℕ} (id : ℕ) (me : Sitting T) → IsReceiver (end_of me) → MayLoad k slots id me claim_word ReceiverLookedAtClaims
   receiver_looks_at_claims k {slots = slots} id me is =
       let r = receiver_of me.0.ends in let kind = ReceiverLooksAtClaims r.number in
       along_receiver (λ m. MayLoad k slots id m claim_word ReceiverLookedAtClaims) me is
@@ -391,13 +386,12 @@ module _ {T : Type 0} where
         tells = (refl, finds_claims k w r at K);
       }))
 
-  finds_next : (k : Shape) (w : World T) (r : ReceiverRecord T) → get_elem? w.receivers r.number ≡ some r → KeepsRule k w → FindsNext k r (word_at w.words (mark_word k (length r.received)))
-  finds_next k w r at K found =
-      let s = length r.received in let x = K.marks s (omega arith) in let b = at_below w.stages s x.1.0 x.1.1 in let was = K.received r.number r at in
-      let a = above k w K r.number (handler_inside k w r.number r at K) in let c = was.count in
-      ((λ told. let t = (was.told told).1 in absurd (omega arith)), omega arith)
+  finds_next : (k : Shape T) (w : World T) (r : ReceiverRecord T) → get_elem? w.receivers r.number ≡ some r → KeepsRule k w → FindsNext k r (word_at w.words (mark_word k (length r.received)))
+  finds_next k w r at K =
+      let all = marked_claimed k w r.number r at K in let was = K.received r.number r at in let a = above k w K r.number (handler_inside k w r.number r at K) in let c = was.count in
+      ((λ told. let t = (was.told told).1 in omega arith), omega arith)
 
-  looks_at_next : (k : Shape) (slots id : ℕ) (me : Sitting T) (room : ℕ) → IsReceiver (end_of me) → upstreams_of k.upstreams (receiver_of me.0.ends).number ≡ []
+  looks_at_next : (k : Shape T) (slots id : ℕ) (me : Sitting T) (room : ℕ) → IsReceiver (end_of me) → upstreams_of k.upstreams (receiver_of me.0.ends).number ≡ []
       → MayLoad k slots id me (mark_word k (length (receiver_of me.0.ends).received)) (ReceiverLookedAtMark k room)
   looks_at_next k slots id me room is first =
       let r = receiver_of me.0.ends in let i = mark_word k (length r.received) in let kind = ReceiverLooksAtMark r.number room in
@@ -405,7 +399,7 @@ module _ {T : Type 0} where
       (by_end k slots id kind (λ xs. xs) me.0.pasts (Receives r) me.1 i (λ n. n) (ReceiverLookedAtMark k room (step slots i 0 0 none) (as_receiver r me.1))
       (adds_nothing ring_ends _ kind (λ n. refl))
       (λ w at K small homes lies. let found = word_at w.words i in let n = taken_at_mark k r found room in
-      let next = next_of k w r.number n r (offers_at_mark k w r.number room r first K) in let q = mark_looked k r found next.0 in record {
+      let next = next_of k w r.number n r (offers_at_mark k w r.number room r at first K) in let q = mark_looked r found next.0 in record {
         mine = Receives q;
         same = refl;
         does = receiver_learns k kind w r q i at refl (r, at, (first, next.0, next.1, refl));
@@ -414,17 +408,17 @@ module _ {T : Type 0} where
         tells = (next.0, next.1.count, refl, finds_next k w r at K);
       }))
 
-  pub receiver_looks_at_mark : (k sh : Shape) {slots : ℕ} (id : ℕ) (me : Sitting T) (i s room m : ℕ) → k ≡ sh → room ≡ m → s ≡ length (receiver_of me.0.ends).received → i ≡ mark_word sh s
+  pub receiver_looks_at_mark : (k sh : Shape T) {slots : ℕ} (id : ℕ) (me : Sitting T) (i s room m : ℕ) → k ≡ sh → room ≡ m → s ≡ length (receiver_of me.0.ends).received → i ≡ mark_word sh s
       → IsReceiver (end_of me) → upstreams_of sh.upstreams (receiver_of me.0.ends).number ≡ []
       → MayLoad k slots id me i (ReceiverLookedAtMark sh m)
   receiver_looks_at_mark k sh {slots = slots} id me i s room m same named next here is first =
-      subst (λ (p : Shape). i ≡ mark_word p s → upstreams_of p.upstreams (receiver_of me.0.ends).number ≡ [] → MayLoad k slots id me i (ReceiverLookedAtMark p m)) same
+      subst (λ (p : Shape T). i ≡ mark_word p s → upstreams_of p.upstreams (receiver_of me.0.ends).number ≡ [] → MayLoad k slots id me i (ReceiverLookedAtMark p m)) same
       (λ here first. subst (λ (j : ℕ). MayLoad k slots id me i (ReceiverLookedAtMark k j)) named
       (subst (λ (j : ℕ). MayLoad k slots id me j (ReceiverLookedAtMark k room)) (sym (here ∙ ap (mark_word k) next))
       (looks_at_next k slots id me room is first))) here first
 
   -- what a look at an upstream's count finds
-  finds_events : (k : Shape) (w : World T) (r : ReceiverRecord T) (u : ℕ) → get_elem? w.receivers r.number ≡ some r → Contains (upstreams_of k.upstreams r.number) u
+  finds_events : (k : Shape T) (w : World T) (r : ReceiverRecord T) (u : ℕ) → get_elem? w.receivers r.number ≡ some r → Contains (upstreams_of k.upstreams r.number) u
       → KeepsRule k w
       → FindsEvents k r (count_word u) (word_at w.words (count_word u))
   finds_events k w r u at has K =
@@ -437,7 +431,7 @@ module _ {T : Type 0} where
         omega arith,
       )
 
-  looks_upstream : (k : Shape) (slots id : ℕ) (me : Sitting T) (u room : ℕ) → IsReceiver (end_of me) → Contains (upstreams_of k.upstreams (receiver_of me.0.ends).number) u
+  looks_upstream : (k : Shape T) (slots id : ℕ) (me : Sitting T) (u room : ℕ) → IsReceiver (end_of me) → Contains (upstreams_of k.upstreams (receiver_of me.0.ends).number) u
       → MayLoad k slots id me (count_word u) (ReceiverLookedAtCount k room)
   looks_upstream k slots id me u room is has =
       let r = receiver_of me.0.ends in let i = count_word u in let kind = ReceiverLooksAtCount r.number u room in
@@ -455,15 +449,15 @@ module _ {T : Type 0} where
         tells = (next.0, next.1.count, refl, finds_events k w r u at has K);
       }))
 
-  pub receiver_looks_at_count : (k sh : Shape) {slots : ℕ} (id : ℕ) (me : Sitting T) (i u room m : ℕ) → k ≡ sh → room ≡ m → i ≡ count_word u → IsReceiver (end_of me)
+  pub receiver_looks_at_count : (k sh : Shape T) {slots : ℕ} (id : ℕ) (me : Sitting T) (i u room m : ℕ) → k ≡ sh → room ≡ m → i ≡ count_word u → IsReceiver (end_of me)
       → Contains (upstreams_of sh.upstreams (receiver_of me.0.ends).number) u
       → MayLoad k slots id me i (ReceiverLookedAtCount sh m)
   receiver_looks_at_count k sh {slots = slots} id me i u room m same named here is has =
-      subst (λ (p : Shape). Contains (upstreams_of p.upstreams (receiver_of me.0.ends).number) u → MayLoad k slots id me i (ReceiverLookedAtCount p m)) same
+      subst (λ (p : Shape T). Contains (upstreams_of p.upstreams (receiver_of me.0.ends).number) u → MayLoad k slots id me i (ReceiverLookedAtCount p m)) same
       (λ has. subst (λ (j : ℕ). MayLoad k slots id me i (ReceiverLookedAtCount k j)) named
       (subst (λ (j : ℕ). MayLoad k slots id me j (ReceiverLookedAtCount k room)) (sym here) (looks_upstream k slots id me u room is has))) has
 
-  completes : (k : Shape) (slots id : ℕ) (me : Sitting T) (n : ℕ) (rest : Hand T) → IsReceiver (end_of me)
+  completes : (k : Shape T) (slots id : ℕ) (me : Sitting T) (n : ℕ) (rest : Hand T) → IsReceiver (end_of me)
       → (receiver_of me.0.ends).completed ≤ n → n ≤ length (receiver_of me.0.ends).received → me.1 ≡ given_by_completion k (receiver_of me.0.ends) n ++ rest
       → MayStore k slots id me (count_word (receiver_of me.0.ends).number) n (λ e m. ReceiverCompletes (receiver_of e.0).number m) (ReceiverCompleted k)
   completes k slots id me n rest is rises taken hand =
@@ -489,12 +483,12 @@ module _ {T : Type 0} where
         tells = ap (λ (c : Hand T). as_receiver q c) (sym (drop-append_seam given rest));
       })))
 
-  pub receiver_completes : (k sh : Shape) {slots : ℕ} (id : ℕ) (me : Sitting T) (i h n : ℕ) (rest : Hand T) → k ≡ sh → i ≡ count_word h → IsReceiver (end_of me)
+  pub receiver_completes : (k sh : Shape T) {slots : ℕ} (id : ℕ) (me : Sitting T) (i h n : ℕ) (rest : Hand T) → k ≡ sh → i ≡ count_word h → IsReceiver (end_of me)
       → (receiver_of me.0.ends).number ≡ h → (receiver_of me.0.ends).completed ≤ n → n ≤ length (receiver_of me.0.ends).received
       → me.1 ≡ given_by_completion sh (receiver_of me.0.ends) n ++ rest
       → MayStore k slots id me i n (λ e m. ReceiverCompletes (receiver_of e.0).number m) (ReceiverCompleted sh)
   receiver_completes k sh {slots = slots} id me i h n rest same here is own rises taken hand =
-      subst (λ (p : Shape). me.1 ≡ given_by_completion p (receiver_of me.0.ends) n ++ rest
+      subst (λ (p : Shape T). me.1 ≡ given_by_completion p (receiver_of me.0.ends) n ++ rest
       → MayStore k slots id me i n (λ e m. ReceiverCompletes (receiver_of e.0).number m) (ReceiverCompleted p)) same
       (λ hand. subst (λ (j : ℕ). MayStore k slots id me j n (λ e m. ReceiverCompletes (receiver_of e.0).number m) (ReceiverCompleted k)) (sym (here ∙ ap count_word (sym own)))
       (completes k slots id me n rest is rises taken hand)) hand

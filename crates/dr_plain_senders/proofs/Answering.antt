@@ -12,8 +12,9 @@ use Rattle.dr_runs.proofs.Lists.{no_elements}
 use Rattle.dr_runs.proofs.Looks.{no_looks_at}
 use Rattle.dr_runs.proofs.Offers.{not_true, or_true}
 use Rattle.dr_plain_senders.specs.Meaning.Shape.{Shape}
-use Rattle.dr_plain_senders.specs.Meaning.Words.{claim_word, claimed_in, count_word, is_halted}
+use Rattle.dr_plain_senders.specs.Meaning.Words.{claim_word, claimed_in, count_word, is_halted, marked_from}
 use Rattle.dr_plain_senders.specs.declared.record.Lent.{Lent}
+use Rattle.dr_plain_senders.specs.declared.record.MarkLook.{MarkLook}
 use Rattle.dr_plain_senders.specs.declared.record.ReceiverRecord.{ReceiverRecord}
 use Rattle.dr_plain_senders.specs.Meaning.Records.{claims_looked}
 use Rattle.dr_plain_senders.specs.Calls.Ends.{ReceiverStand, count_looks}
@@ -22,10 +23,10 @@ use Rattle.dr_plain_senders.specs.Inside.Fits.{ReceiverFits}
 use Rattle.dr_plain_senders.specs.Inside.Polling.{walked, TakesMarked, TakesPast, TakesOffered, nothing_offered}
 
 -- a walk ends no earlier than it begins
-pub walks_low : (size end s upto : ℕ) (ms : List ℕ) → WalksTo size end s ms upto → s ≤ upto
-walks_low size end s upto [] W = let b = W.1 in omega arith
-walks_low size end s upto (m ∷ ms) W = elim W.1 [
-  | inl hit ↦ (let r = walks_low size end (s + 1) upto ms hit.1 in omega arith)
+pub walks_low : {T : Type 0} (k : Shape T) (end s upto : ℕ) (ms : List ℕ) → WalksTo k end s ms upto → s ≤ upto
+walks_low k end s upto [] W = let b = W.1 in omega arith
+walks_low k end s upto (m ∷ ms) W = elim W.1 [
+  | inl hit ↦ (let r = walks_low k end (s + marked_from k s m) upto ms hit.1 in omega arith)
   | inr miss ↦ (let e = miss.2 in omega arith)
 ]
 
@@ -43,7 +44,7 @@ idles : (halted : Bool) (claimed taken : ℕ) → halted ≡ false → claimed �
 idles halted claimed taken off all = rw (le-ltb taken claimed all, off) refl
 
 module _ {T : Type 0} where
-  pub offered_marked : (k : Shape) (r s : ReceiverRecord T) (claimed room available : ℕ) → ups_of k r ≡ [] → TakesMarked k r claimed room available s
+  pub offered_marked : (k : Shape T) (r s : ReceiverRecord T) (claimed room available : ℕ) → ups_of k r ≡ [] → TakesMarked k r claimed room available s
       → TakesOffered k r claimed room available s
   offered_marked k r s claimed room available none M = record {
     marks = M.marks;
@@ -56,12 +57,12 @@ module _ {T : Type 0} where
     is = M.is ∙ ap (λ (xs : List Look). record (walked k r M.marks M.lents) { looks = xs }) (sym (append-nil r.looks)
         ∙ ap (λ (xs : List Look). r.looks ++ xs) (sym (no_looks_at count_word (ups_of k r))));
     offered = refl;
-    taken = walks_low k.size (walk_end r claimed room) (length r.received) available M.marks M.walks;
+    taken = walks_low k (walk_end r claimed room) (length r.received) available M.marks M.walks;
     many = M.many;
     told = M.told;
   }
 
-  pub offered_past : (k : Shape) (r s : ReceiverRecord T) (claimed room available : ℕ) → ups_of k r ≢ [] → TakesPast k r claimed room available s
+  pub offered_past : (k : Shape T) (r s : ReceiverRecord T) (claimed room available : ℕ) → ups_of k r ≢ [] → TakesPast k r claimed room available s
       → TakesOffered k r claimed room available s
   offered_past k r s claimed room available some P = let L = P.2 in record {
     marks = [];
@@ -71,7 +72,7 @@ module _ {T : Type 0} where
     walks = λ none. absurd (some none);
     stands = λ _. (refl, refl);
     each = L.each;
-    is = L.is ∙ ap (λ (xs : List Look). record r { received = r.received ++ L.lents; marks = xs; looks = r.looks ++ count_looks (ups_of k r) L.counts })
+    is = L.is ∙ ap (λ (xs : List MarkLook). record r { received = r.received ++ L.lents; marks = xs; looks = r.looks ++ count_looks (ups_of k r) L.counts })
         (sym (append-nil r.marks));
     offered = L.offered ∙ offered_some claimed (length r.received) L.counts (λ e. some (no_elements (ups_of k r) (sym L.each ∙ ap length e)));
     taken = L.near.0;
@@ -93,10 +94,10 @@ module _ {T : Type 0} where
       })
 
 -- the offer, by what was known before the look at the claim word
-pub seen_round : {T : Type 0} → (k k' : Shape) (r q s : ReceiverRecord T) (found claimed room available : ℕ) → k' ≡ k → q ≡ claims_looked r found
+pub seen_round : {T : Type 0} → (k k' : Shape T) (r q s : ReceiverRecord T) (found claimed room available : ℕ) → k' ≡ k → q ≡ claims_looked r found
     → claimed ≡ claimed_in found → TakesOffered k' q claimed room available s → TakesOffered k (claims_looked r found) (claimed_in found) room available s
 seen_round {T} k k' r q s found claimed room available plan looked count O =
-    subst (λ (x : Shape). TakesOffered x (claims_looked r found) (claimed_in found) room available s) plan
+    subst (λ (x : Shape T). TakesOffered x (claims_looked r found) (claimed_in found) room available s) plan
     (subst (λ (x : ReceiverRecord T). TakesOffered k' x (claimed_in found) room available s) looked
     (subst (λ (n : ℕ). TakesOffered k' q n room available s) count O))
 
@@ -105,7 +106,7 @@ is_told : {T : Type 0} → (r : ReceiverRecord T) (found : ℕ) → is_halted fo
 is_told r found on all = (λ i. r.told || (on i && eq-eqb (claimed_in found) (length r.received) all i)) ∙ or_true r.told
 
 -- once it looked at the claim word, it was offered events up to `available`, and took some
-module _ {T : Type 0} (k : Shape) (r s : ReceiverRecord T) (found room available taken : ℕ) (next : taken ≡ length r.received)
+module _ {T : Type 0} (k : Shape T) (r s : ReceiverRecord T) (found room available taken : ℕ) (next : taken ≡ length r.received)
     (O : TakesOffered k (claims_looked r found) (claimed_in found) room available s) where
   abbrev pub seen : PollLooks
   seen = record { claims = found; marks = O.marks; upto = O.upto; counts = O.counts }

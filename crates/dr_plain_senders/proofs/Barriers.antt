@@ -1,24 +1,24 @@
 -- How far the upstreams of a handler let events through, and which events a receiver takes.
-use Rattle.std.proofs.Common.{◌≡◌, ℕ, zero, suc, ◌+◌, ◌-◌, ◌<◌, ◌≤◌, if◌then◌else◌, inl, inr, Bool, min, List, [], ◌∷◌, ◌++◌, map, length, get_or, refl, sym, ap, subst, arith}
+use Rattle.std.proofs.Common.{◌≡◌, ℕ, zero, suc, ◌+◌, ◌-◌, ◌<◌, ◌≤◌, true, inl, inr, List, [], ◌∷◌, ◌++◌, map, length, get_or, refl, sym, ap, ◌∙◌, subst, arith}
 use Rattle.std.specs.Prelude.{Contains}
-use Rattle.std.proofs.lemmas.Bool.{cases_eq, cases_lt, eq-eqb, ne_eqb}
+use Rattle.std.proofs.lemmas.Bool.{cases_lt}
 use mathlib.Core.Option.{some, some-injective, some-ne-none}
 use lib.ListN.{get_elem?}
-use Rattle.dr_seq.specs.Rounds.{entry_of}
 use Rattle.dr_graph.specs.Meaning.Graph.{upstreams_of, least_of}
 use Rattle.dr_runs.specs.declared.look.Look.{Look}
 use Rattle.dr_runs.specs.Looks.{look, last_look, offered_by}
-use Rattle.dr_runs.proofs.Elements.{contains_none}
+use Rattle.dr_runs.proofs.Elements.{at_below, contains_none}
 use Rattle.dr_runs.proofs.Looks.{last_look_le, past_more}
 use Rattle.dr_plain_senders.specs.Meaning.Shape.{Shape, handlers_of}
-use Rattle.dr_plain_senders.specs.Meaning.Words.{count_word, mark_start, mark_word}
+use Rattle.dr_plain_senders.specs.Meaning.Words.{count_word, mark_start, mark_word, in_word, is_there}
 use Rattle.dr_plain_senders.specs.declared.record.Lent.{Lent}
 use Rattle.dr_plain_senders.specs.declared.record.ReceiverRecord.{ReceiverRecord}
-use Rattle.dr_plain_senders.specs.Meaning.Records.{barrier_seen, taken_at_mark, taken_at_count}
-use Rattle.dr_plain_senders.specs.Meaning.Rule.{World, ArePast, IsOut, IsOutWith, KeepsRule}
+use Rattle.dr_plain_senders.specs.Meaning.Records.{barrier_seen, marked_next, taken_at_mark, taken_at_count}
+use Rattle.dr_plain_senders.specs.Meaning.Rule.{World, ArePast, IsOut, IsOutWith, has_mark, KeepsRule}
 use Rattle.dr_plain_senders.specs.Meaning.Steps.{AreNext}
 use Rattle.dr_plain_senders.proofs.Places.{word_at}
-use Rattle.dr_plain_senders.proofs.Facts.{receiver_of_handler, handler_inside, upstream_inside, taken_out}
+use Rattle.dr_plain_senders.proofs.Facts.{receiver_of_handler, handler_inside, upstream_inside, above, taken_out, taken_claimed}
+use Rattle.dr_plain_senders.proofs.Bits.{same_word, few_in_word, run_few, run_there}
 
 offered_at : (f : ℕ → ℕ) (us : List ℕ) (u i : ℕ) → i < length us → get_or us i u ≡ u → offered_by 0 (map f us) ≤ f u
 offered_at f [] u i lt e = absurd (omega arith)
@@ -28,7 +28,7 @@ offered_at f (v ∷ w ∷ us) u zero lt e = subst (λ (x : ℕ). least_of (f v �
 offered_at f (v ∷ w ∷ us) u (suc i) lt e = let r : offered_by 0 (map f (w ∷ us)) ≤ f u = offered_at f (w ∷ us) u i (omega arith) e in omega arith
 
 -- what is seen below the barrier of a handler is completed by each upstream
-pub below_upstream : (k : Shape) (words : List ℕ) (h u : ℕ) (looks : List Look) → u < handlers_of k → ArePast k words looks → Contains (upstreams_of k.upstreams h) u
+pub below_upstream : {T : Type 0} (k : Shape T) (words : List ℕ) (h u : ℕ) (looks : List Look) → u < handlers_of k → ArePast k words looks → Contains (upstreams_of k.upstreams h) u
     → barrier_seen k h looks ≤ word_at words (count_word u)
 below_upstream k words h u looks inside past up =
     let a = offered_at (λ u. last_look 0 looks (count_word u)) (upstreams_of k.upstreams h) u up.0 up.1 up.2 in
@@ -40,12 +40,12 @@ nothing_offered n received (u ∷ ups) f none le = absurd (omega arith)
 
 module _ {T : Type 0} where
   -- the next events of a receiver are there, so many, and each upstream completed them
-  pub record Offers (k : Shape) (w : World T) (h : ℕ) (r : ReceiverRecord T) (n : ℕ) : Type 0 where
+  pub record Offers (k : Shape T) (w : World T) (h : ℕ) (r : ReceiverRecord T) (n : ℕ) : Type 0 where
     pub completed : (u : ℕ) → Contains (upstreams_of k.upstreams h) u → length r.received + n ≤ word_at w.words (count_word u)
     pub out : (i : ℕ) → i < n → IsOut w.stages (length r.received + i)
 
   -- by the first upstream, if there is one
-  out_by : (k : Shape) (w : World T) (h s : ℕ) (us : List ℕ) → us ≡ upstreams_of k.upstreams h → h < handlers_of k → KeepsRule k w
+  out_by : (k : Shape T) (w : World T) (h s : ℕ) (us : List ℕ) → us ≡ upstreams_of k.upstreams h → h < handlers_of k → KeepsRule k w
       → ((u : ℕ) → Contains us u → s < word_at w.words (count_word u)) → 0 < length us → IsOut w.stages s
   out_by k w h s [] same inside K below some_one = absurd (omega arith)
   out_by k w h s (u ∷ us) same inside K below some_one =
@@ -53,7 +53,7 @@ module _ {T : Type 0} where
       let up : u < handlers_of k = upstream_inside k K.shape.graph h u inside (subst (λ (xs : List ℕ). Contains xs u) same has) in
       let o = receiver_of_handler k w K u up in let a = o.2.count in let b = o.2.completed in let c = below u has in taken_out k w u s o.0 o.1 (omega arith) K
 
-  pub offers_at_count : (k : Shape) (w : World T) (h i room : ℕ) (r : ReceiverRecord T) → i < mark_start k → get_elem? w.receivers h ≡ some r → KeepsRule k w
+  pub offers_at_count : (k : Shape T) (w : World T) (h i room : ℕ) (r : ReceiverRecord T) → i < mark_start k → get_elem? w.receivers h ≡ some r → KeepsRule k w
       → Offers k w h r (taken_at_count k r i (word_at w.words i) room)
   offers_at_count k w h i room r low at K =
       let was = K.received h r at in let found = word_at w.words i in let looks = r.looks ++ look i found ∷ [] in let n = taken_at_count k r i found room in
@@ -70,20 +70,31 @@ module _ {T : Type 0} where
         ];
       }
 
-  -- a mark that is found is of a published sequence
-  pub offers_at_mark : (k : Shape) (w : World T) (h room : ℕ) (r : ReceiverRecord T) → upstreams_of k.upstreams h ≡ [] → KeepsRule k w
+  -- what a receiver without upstreams finds marked is published
+  pub marked_next_out : (k : Shape T) (w : World T) (h : ℕ) (r : ReceiverRecord T) → get_elem? w.receivers h ≡ some r → KeepsRule k w
+      → (j : ℕ) → j < marked_next k r (word_at w.words (mark_word k (length r.received))) → IsOut w.stages (length r.received + j)
+  marked_next_out k w h r at K j lt =
+      let s = length r.received in let found = word_at w.words (mark_word k s) in let few = run_few k s found (in_word k s) in let pos = K.shape.some_slot in
+      let inside : j < in_word k s = omega arith in let near = few_in_word k s in let size = near.1 in
+      let room = above k w K h (handler_inside k w h r at K) in let was = K.received h r at in let c = was.count in let d = was.completed in
+      let there : has_mark k w (s + j) ≡ true = ap (λ (i : ℕ). is_there k (s + j) (word_at w.words i)) (same_word k s j inside) ∙ run_there k s found (in_word k s) j lt in
+      K.marks (s + j) (λ z e. taken_out k w h z r at (omega arith) K) (omega arith) there
+
+  -- and so is claimed
+  pub marked_claimed : (k : Shape T) (w : World T) (h : ℕ) (r : ReceiverRecord T) → get_elem? w.receivers h ≡ some r → KeepsRule k w
+      → length r.received + marked_next k r (word_at w.words (mark_word k (length r.received))) ≤ length w.stages
+  marked_claimed k w h r at K =
+      let s = length r.received in let m = marked_next k r (word_at w.words (mark_word k s)) in elim (cases_lt 0 m) [
+        | inl some_one ↦ (let x = marked_next_out k w h r at K (m - 1) (omega arith) in let b = at_below w.stages (s + (m - 1)) x.1.0 x.1.1 in omega arith)
+        | inr none ↦ (let taken = taken_claimed k w h r at K in omega arith)
+      ]
+
+  pub offers_at_mark : (k : Shape T) (w : World T) (h room : ℕ) (r : ReceiverRecord T) → get_elem? w.receivers h ≡ some r → upstreams_of k.upstreams h ≡ [] → KeepsRule k w
       → Offers k w h r (taken_at_mark k r (word_at w.words (mark_word k (length r.received))) room)
-  offers_at_mark k w h room r none K =
-      let s = length r.received in let found = word_at w.words (mark_word k s) in record {
-        completed = λ u up. absurd (contains_none u (subst (λ (xs : List ℕ). Contains xs u) none up));
-        out = λ j lt. elim (cases_eq found (entry_of k.size s)) [
-          | inl e ↦ (let P : Bool → Type 0 = λ b. j < (if b then min room 1 else 0) in
-              let one : j < min room 1 = subst P (eq-eqb found (entry_of k.size s) e) lt in
-              let same : s ≡ s + j = omega arith in subst (IsOut w.stages) same (K.marks s (omega arith)))
-          | inr ne ↦ absurd (let P : Bool → Type 0 = λ b. j < (if b then min room 1 else 0) in
-              let no : j < 0 = subst P (ne_eqb found (entry_of k.size s) ne) lt in omega arith)
-        ];
-      }
+  offers_at_mark k w h room r at none K = record {
+    completed = λ u up. absurd (contains_none u (subst (λ (xs : List ℕ). Contains xs u) none up));
+    out = λ j lt. marked_next_out k w h r at K j (omega arith);
+  }
 
   -- so many that are there
   pub all_next : (w : World T) (s n : ℕ) → ((i : ℕ) → i < n → IsOut w.stages (s + i))
@@ -103,5 +114,5 @@ module _ {T : Type 0} where
       each_after x xs here each zero l at = subst (IsOutWith w.stages (s + 0)) (some-injective x l at) here
       each_after x xs here each (suc i) l at = let e : suc s + i ≡ s + suc i = omega arith in subst (λ (z : ℕ). IsOutWith w.stages z l) e (each i l at)
 
-  pub next_of : (k : Shape) (w : World T) (h n : ℕ) (r : ReceiverRecord T) → Offers k w h r n → (lents : List (Lent T)) × AreNext w r n lents
+  pub next_of : (k : Shape T) (w : World T) (h n : ℕ) (r : ReceiverRecord T) → Offers k w h r n → (lents : List (Lent T)) × AreNext w r n lents
   next_of k w h n r O = let a = all_next w (length r.received) n O.out in (a.0, record { count = a.1; each = a.2 })

@@ -1,6 +1,7 @@
 -- A ring at its opening.
-use Rattle.std.proofs.Common.{◌≡◌, ℕ, zero, suc, ◌+◌, List, [], ◌∷◌, length, get_or, map, replicate, sym, refl, ap, ◌∙◌, subst, arith}
+use Rattle.std.proofs.Common.{◌≡◌, ℕ, zero, suc, ◌+◌, ◌-◌, inl, inr, List, [], ◌∷◌, length, get_or, map, replicate, sym, refl, ap, ◌∙◌, subst, arith}
 use Rattle.std.specs.List.{range_with_len}
+use Rattle.std.proofs.lemmas.Bool.{cases_lt}
 use Rattle.std.proofs.lemmas.List.{length-replicate}
 use mathlib.Core.Option.{some, some-injective, some-ne-none}
 use lib.ListN.{get_elem?}
@@ -13,6 +14,7 @@ use Rattle.dr_plain_senders.specs.Meaning.Rule.{KeepsRule, SenderKept, ReceiverK
 use Rattle.dr_plain_senders.specs.Meaning.Moments.{fresh_sender, fresh_senders, fresh_receiver, fresh_receivers, new_world, taken_of, picture_of}
 use Rattle.dr_meaning.specs.Meaning.Machine as machine
 use Rattle.dr_runs.proofs.Elements.{zeros, all_zero}
+use Rattle.dr_plain_senders.proofs.Bits.{none_there}
 
 no_counts : (m a n : ℕ) → map (λ h. get_or (zeros m) (count_word h) 0) (range_with_len a n) ≡ replicate n 0
 no_counts m a zero = refl
@@ -38,7 +40,7 @@ module _ (T : Type 0) where
   senders_count p zero = refl
   senders_count p (suc n) = ap suc (senders_count (suc p) n)
 
-  pub kept_new_world : (k : Shape) → IsShape k → KeepsRule {T = T} k (new_world k)
+  pub kept_new_world : (k : Shape T) → IsShape k → KeepsRule {T = T} k (new_world k)
   kept_new_world k shape = let n = words_of k in let ws = zeros n in record {
     shape = shape;
     wide = (let z : ℕ = 0 in length-replicate n z);
@@ -47,9 +49,11 @@ module _ (T : Type 0) where
     claim = ap claimed_in (all_zero n claim_word);
     limit = omega arith;
     room = λ f final. omega arith;
-    marks = λ s is. absurd (let z = all_zero n (mark_word k s) in omega arith);
-    marked = λ s x. absurd (some-ne-none x.1.0 (sym x.1.1));
-    exact = λ s x near. absurd (some-ne-none x.1.0 (sym x.1.1));
+    marks = λ s free near there. absurd (elim (cases_lt s k.size) [
+      | inl first ↦ none_there k s (get_or ws (mark_word k s) 0) first (all_zero n (mark_word k s)) there
+      | inr later ↦ (let x = free (s - k.size) (omega arith) in some-ne-none x.1.0 (sym x.1.1))
+    ]);
+    marked = λ s x near. absurd (some-ne-none x.1.0 (sym x.1.1));
     sent = λ p r at. (let e : r ≡ fresh_sender p = sender_fresh 0 k.senders p r at ∙ (let z : 0 + p ≡ p = omega arith in ap fresh_sender z) in
         subst (λ (q : SenderRecord T). SenderKept k ws [] p q) (sym e)
         (record { number = refl; own = λ i o there. absurd (some-ne-none o (sym there)); all = λ s t there mine. absurd (some-ne-none t (sym there)); looks = λ i x there. absurd (some-ne-none x (sym there)) }));
@@ -72,7 +76,7 @@ module _ (T : Type 0) where
   none_taken h zero = refl
   none_taken h (suc n) = ap (λ (xs : List ℕ). 0 ∷ xs) (none_taken (suc h) n)
 
-  pub opens : (k : Shape) → picture_of {T = T} k (new_world k) ≡ machine.opening (ring_setup k)
+  pub opens : (k : Shape T) → picture_of {T = T} k (new_world k) ≡ machine.opening (ring_setup k)
   opens k = let n = words_of k in λ i. record (machine.opening (ring_setup k)) {
     taken = none_taken 0 (handlers_of k) i;
     completed = no_counts n 0 (handlers_of k) i;

@@ -40,7 +40,7 @@ window n (suc c) i lt = let w = window n c i lt in let low = w.1 in let high = w
     ]
 
 module _ {T : Type 0} where
-  pub taken_none : (k : Shape) (opened : ℕ → Bool) (first : ℕ) (own tokens : List (Token T)) (brought : List Bool)
+  pub taken_none : (k : Shape T) (opened : ℕ → Bool) (first : ℕ) (own tokens : List (Token T)) (brought : List Bool)
       → AreTaken k opened first first own tokens tokens brought brought
   taken_none k opened first own tokens brought =
       record { count = refl; many = refl; here = λ s t low lt is at. absurd (omega arith); others = λ i none. (refl, refl) }
@@ -51,7 +51,7 @@ module _ {T : Type 0} where
       MatchBool opens ((t : Token T) × (get_elem? own place ≡ some t) × (own' ≡ set own place no_token) × (tokens' ≡ set tokens place t) × (brought' ≡ set brought place true))
       ((own' ≡ own) × (tokens' ≡ tokens) × (brought' ≡ brought))
 
-  module _ (k : Shape) (opened : ℕ → Bool) (first s place : ℕ) (own was own' tokens now next : List (Token T)) (brought marks marks' : List Bool) (low : first ≤ s)
+  module _ (k : Shape T) (opened : ℕ → Bool) (first s place : ℕ) (own was own' tokens now next : List (Token T)) (brought marks marks' : List Bool) (low : first ≤ s)
       (near : s < first + k.size) (at : place ≡ cell_of k s) where
     pub own_next : (opens : Bool) → SamePlaces k first s own was → Brings opens place was own' now next marks marks' → SamePlaces k first (s + 1) own own'
     own_next true S B = places_more k first s own was own' no_token S low (B.2 ∙ ap (λ (i : ℕ). set was i no_token) at)
@@ -101,7 +101,7 @@ module _ {T : Type 0} where
     }
 
   -- the cell of one of the open sequences, or a place that stays
-  taken_at : (k : Shape) (opened : ℕ → Bool) (first upto : ℕ) (own tokens tokens' : List (Token T)) (brought brought' : List Bool)
+  taken_at : (k : Shape T) (opened : ℕ → Bool) (first upto : ℕ) (own tokens tokens' : List (Token T)) (brought brought' : List Bool)
       → AreTaken k opened first upto own tokens tokens' brought brought' → upto ≤ first + k.size → (i : ℕ) → i < k.size
       → ((q : ℕ) × (first ≤ q) × (q < upto) × (opened q ≡ true) × (cell_of k q ≡ i)) ⊎ ((get_elem? tokens' i ≡ get_elem? tokens i) × (get_elem? brought' i ≡ get_elem? brought i))
   taken_at k opened first upto own tokens tokens' brought brought' A near i inside =
@@ -119,15 +119,15 @@ module _ {T : Type 0} where
       ]
 
   -- which of a sender's sequences are open, by what it knows and by its marks
-  open_marked : (k : Shape) (r : SenderRecord T) (o : Owned) (s : ℕ) (t : Stage T) → MarksFit k r o → Owns r s t → t.lent ≡ None → is_open o s ≡ true
+  open_marked : (k : Shape T) (r : SenderRecord T) (o : Owned) (s : ℕ) (t : Stage T) → MarksFit k r o → Owns r s t → t.lent ≡ None → is_open o s ≡ true
   open_marked k r o s t F own none =
       let hidden : is_published t ≡ false = ap is_some none in
       elim (cases_Bool (is_marked o.claimed s)) [
         | inl marked ↦ (let shown : is_marked o.published s ≡ false = sym (F.shown s t own marked) ∙ hidden in λ i. marked i && not (shown i))
-        | inr unmarked ↦ absurd (let shown = F.old s t own unmarked in cc)
+        | inr unmarked ↦ absurd (let shown = (F.old s t own unmarked).0 in cc)
       ]
 
-  marked_open : (k : Shape) (r : SenderRecord T) (o : Owned) (s : ℕ) → MarksFit k r o → is_open o s ≡ true → (t : Stage T) × Owns r s t × (t.lent ≡ None)
+  marked_open : (k : Shape T) (r : SenderRecord T) (o : Owned) (s : ℕ) → MarksFit k r o → is_open o s ≡ true → (t : Stage T) × Owns r s t × (t.lent ≡ None)
   marked_open k r o s F so =
       let both = both_of (is_marked o.claimed s) (is_marked o.published s) so in let own = F.own s both.0 in
       (own.0, own.1, no_lent own.0.lent (F.shown s own.0 own.1 both.0 ∙ both.1))
@@ -137,7 +137,7 @@ module _ {T : Type 0} where
       both_of true true e = absurd (cc)
       both_of false b e = absurd (cc)
 
-  pub brought_none : (k : Shape) (tokens : List (Token T)) (brought : List Bool) → length tokens ≡ k.size → brought ≡ replicate k.size false
+  pub brought_none : (k : Shape T) (tokens : List (Token T)) (brought : List Bool) → length tokens ≡ k.size → brought ≡ replicate k.size false
       → AreBrought k [] tokens brought
   brought_none k tokens brought count none = record {
     count = count;
@@ -146,7 +146,7 @@ module _ {T : Type 0} where
     by = λ i so. absurd (let wrong = at_replicate k.size false true i (ap (λ (xs : List Bool). get_elem? xs i) (sym none) ∙ so) in cc);
   }
 
-  more_by : (k : Shape) (ss : List (SenderEnd T)) (e : SenderEnd T) (tokens tokens' : List (Token T)) (i : ℕ) → get_elem? tokens' i ≡ get_elem? tokens i
+  more_by : (k : Shape T) (ss : List (SenderEnd T)) (e : SenderEnd T) (tokens tokens' : List (Token T)) (i : ℕ) → get_elem? tokens' i ≡ get_elem? tokens i
       → IsBroughtBy k ss tokens i → IsBroughtBy k (e ∷ ss) tokens' i
   more_by k ss e tokens tokens' i same B = record {
     number = suc B.number;
@@ -159,22 +159,22 @@ module _ {T : Type 0} where
   }
 
   -- one sender more has brought its cells
-  module _ (k : Shape) (ss : List (SenderEnd T)) (e : SenderEnd T) (at : SenderStand T) (o : Owned) (end : ℕ) (own tokens tokens' : List (Token T)) (brought brought' : List Bool)
+  module _ (k : Shape T) (ss : List (SenderEnd T)) (e : SenderEnd T) (at : SenderStand T) (o : Owned) (end : ℕ) (own tokens tokens' : List (Token T)) (brought brought' : List Bool)
       (F : SenderFits at o end own) (plan : at.plan ≡ k) (knows : at.knows ≡ e.knows) (cells : cells_of own ≡ e.cells)
       (A : AreTaken k (is_open o) (end - k.size) end own tokens tokens' brought brought') where
     open_inside : (s : ℕ) → is_open o s ≡ true → (end - k.size ≤ s) × (s < end)
     open_inside s so =
         let x = marked_open at.plan at.knows o s F.marks so in let lt = F.below s x.0 x.1 in let near = F.near s so in
-        let size : at.plan.size ≡ k.size = ap (λ (p : Shape). p.size) plan in (omega arith, lt)
+        let size : at.plan.size ≡ k.size = ap (λ (p : Shape T). p.size) plan in (omega arith, lt)
 
     own_cell : (s : ℕ) → is_open o s ≡ true → 0 < k.size → HasCellOf k tokens' (cell_of k s) e
     own_cell s so some_slot =
-        let size : at.plan.size ≡ k.size = ap (λ (p : Shape). p.size) plan in let count = F.count in let inside : cell_of k s < k.size = mod-lt s some_slot in
+        let size : at.plan.size ≡ k.size = ap (λ (p : Shape T). p.size) plan in let count = F.count in let inside : cell_of k s < k.size = mod-lt s some_slot in
         let t = there own (cell_of k s) (omega arith) in let in_window = open_inside s so in
-        let all = F.whole s t.0 so (ap (λ (p : Shape). get_elem? own (cell_of p s)) plan ∙ t.1) in
+        let all = F.whole s t.0 so (ap (λ (p : Shape T). get_elem? own (cell_of p s)) plan ∙ t.1) in
         let now = A.here s t.0 in_window.0 in_window.1 so t.1 in (
           all.0,
-          now.0 ∙ ap (λ (x : Token T). some x) all.1 ∙ ap (λ (p : Shape). some (token_at p.strip (cell_of p s) (whole all.0))) plan,
+          now.0 ∙ ap (λ (x : Token T). some x) all.1 ∙ ap (λ (p : Shape T). some (token_at p.strip (cell_of p s) (whole all.0))) plan,
           ap (λ (os : List (Option T)). get_elem? os (cell_of k s)) (sym cells) ∙ map_there (λ (x : Token T). held x.hold) own (cell_of k s) t.0 t.1
               ∙ ap (λ (x : Token T). some (held x.hold)) all.1,
         )
@@ -204,12 +204,12 @@ module _ {T : Type 0} where
         marked_of zero s x at_x opens =
             let same = some-injective e x at_x in let mine = subst (λ (y : SenderEnd T). IsOpenOf y s) (sym same) opens in
             let so = open_marked at.plan at.knows o s mine.0 F.marks (subst (λ (r : SenderRecord T). Owns r s mine.0) (sym knows) mine.1) mine.2 in
-            let in_window = open_inside s so in let size : at.plan.size ≡ k.size = ap (λ (p : Shape). p.size) plan in let count = F.count in
+            let in_window = open_inside s so in let size : at.plan.size ≡ k.size = ap (λ (p : Shape T). p.size) plan in let count = F.count in
             let inside : cell_of k s < k.size = mod-lt s some_slot in let t = there own (cell_of k s) (omega arith) in
             (A.here s t.0 in_window.0 in_window.1 so t.1).1
         marked_of (suc p) s x at_x opens =
             elim (taken_at k (is_open o) (end - k.size) end own tokens tokens' brought brought' A (omega arith) (cell_of k s) (mod-lt s some_slot)) [
-              | inl q ↦ (let size : at.plan.size ≡ k.size = ap (λ (p : Shape). p.size) plan in let count = F.count in
+              | inl q ↦ (let size : at.plan.size ≡ k.size = ap (λ (p : Shape T). p.size) plan in let count = F.count in
                   let inside : cell_of k q.0 < k.size = mod-lt q.0 some_slot in let t = there own (cell_of k q.0) (omega arith) in
                   ap (λ (i : ℕ). get_elem? brought' i) (sym q.4) ∙ (A.here q.0 t.0 q.1 q.2 q.3 t.1).1)
               | inr same ↦ same.1 ∙ B.marked p s x at_x opens

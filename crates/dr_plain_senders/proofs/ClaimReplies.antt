@@ -23,7 +23,7 @@ use Rattle.dr_plain_senders.proofs.Places.{claimed_low}
 use Rattle.dr_plain_senders.proofs.Pictures.{count_at}
 
 -- whether a count of sequences is bad
-is_bad : (k : Shape) (n : ℕ) → (n ≡ 0) ⊎ (k.size < n) → ((n == 0) || nat_lt k.size n) ≡ true
+is_bad : {T : Type 0} (k : Shape T) (n : ℕ) → (n ≡ 0) ⊎ (k.size < n) → ((n == 0) || nat_lt k.size n) ≡ true
 is_bad k n (inl none) = ap (λ (b : Bool). b || nat_lt k.size n) (eq-eqb n 0 none)
 is_bad k n (inr many) = ap (λ (b : Bool). (n == 0) || b) (lt-ltb k.size n many) ∙ or_true (n == 0)
   where
@@ -31,7 +31,7 @@ is_bad k n (inr many) = ap (λ (b : Bool). (n == 0) || b) (lt-ltb k.size n many)
     or_true true = refl
     or_true false = refl
 
-is_good : (k : Shape) (n : ℕ) → IsCount k n → ((n == 0) || nat_lt k.size n) ≡ false
+is_good : {T : Type 0} (k : Shape T) (n : ℕ) → IsCount k n → ((n == 0) || nat_lt k.size n) ≡ false
 is_good k n is = let some_one = is.0 in ap (λ (b : Bool). b || nat_lt k.size n) (ne_eqb n 0 (λ (e : n ≡ 0). omega arith)) ∙ le-ltb k.size n is.1
 
 -- a place of a list, whatever stands for one that it has not
@@ -43,7 +43,7 @@ same_place (x ∷ xs) (suc i) d e lt = same_place xs i d e (omega arith)
 listed_at : (xs : List ℕ) (i : ℕ) → i < length xs → Contains xs (get_or xs i 0)
 listed_at xs i lt = (i, lt, same_place xs i (get_or xs i 0) 0 lt)
 
-module _ {T : Type 0} (k : Shape) (w : World T) (K : KeepsRule k w) where
+module _ {T : Type 0} (k : Shape T) (w : World T) (K : KeepsRule k w) where
   abbrev m : State T
   m = picture_of k w
 

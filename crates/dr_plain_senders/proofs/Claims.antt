@@ -5,11 +5,13 @@ use Rattle.std.specs.Prelude.{◌^◌, Ok, Err}
 use Rattle.std.proofs.lemmas.Bool.{eq-eqb, ne_eqb, le-leb, lt-leb}
 use Rattle.dr_seq.specs.Size.{IsSize}
 use Rattle.dr_meaning.specs.declared.refusal.Refusal.TheVariants.{Halted, NoRoom}
+use Rattle.dr_meaning.specs.declared.command.Claimed.{Claimed}
 use Rattle.dr_graph.specs.Meaning.Graph.{finals}
 use Rattle.dr_runs.specs.declared.look.Look.{Look}
 use Rattle.dr_runs.specs.Looks.{look, last_look}
 use Rattle.dr_plain_senders.specs.Meaning.Shape.{Shape}
 use Rattle.dr_plain_senders.specs.Meaning.Words.{claim_word, is_halted, halt_bit, count_word}
+use Rattle.dr_plain_senders.specs.Meaning.Lying.{Laid}
 use Rattle.dr_plain_senders.specs.declared.record.SenderRecord.{SenderRecord}
 use Rattle.dr_plain_senders.specs.declared.record.Step.{Step}
 use Rattle.dr_plain_senders.specs.declared.record.Step.TheVariants.{SenderClaims}
@@ -18,11 +20,11 @@ use Rattle.dr_plain_senders.specs.Meaning.Records.{sender_looked, claimed_from, 
 use Rattle.dr_runs.specs.Runs.{IsBeginning}
 use Rattle.dr_plain_senders.proofs.Stations.{begins_on}
 use Rattle.dr_plain_senders.specs.Calls.Ends.{SenderStand, HasLoaded, HasStored, Stays, count_looks}
-use Rattle.dr_plain_senders.specs.Calls.Sending.{gate_looks, FoundRoom, ClaimCall, knows_after, IsCount}
-use Rattle.dr_plain_senders.specs.Calls.Finds.{after_exchange, IsEarlier}
+use Rattle.dr_plain_senders.specs.Calls.Sending.{gate_looks, FoundRoom, ClaimCall, ClaimTakes, knows_after, IsCount}
+use Rattle.dr_plain_senders.specs.Calls.Finds.{after_exchange, exchanged, IsEarlier}
 use Rattle.dr_plain_senders.specs.Inside.Scans.{sender_saw, IsEnough, Scans, ClaimsApart}
 use Rattle.dr_plain_senders.proofs.Scanning.{seen_high}
-use Rattle.dr_plain_senders.specs.Inside.Seats.{Hand}
+use Rattle.dr_plain_senders.specs.Inside.Seats.{Hand, LayIn, LayAsLent, taken_by_claim}
 use lib.ListN.{get_elem?}
 use Rattle.dr_plain_senders.specs.declared.record.Stage.{Stage}
 use Rattle.dr_plain_senders.specs.declared.record.Own.{Own}
@@ -34,17 +36,17 @@ pub stopped : (found : ℕ) → 9223372036854775808 ≤ found → is_halted foun
 stopped found le = le-leb halt_bit found (omega arith)
 
 -- what was found at each final leaves room
-pub found_room : (k : Shape) (c n need : ℕ) (counts : List ℕ) → is_halted c ≡ false → c + n ≤ k.limit → need ≡ c + n - k.size
+pub found_room : {T : Type 0} (k : Shape T) (c n need : ℕ) (counts : List ℕ) → is_halted c ≡ false → c + n ≤ k.limit → need ≡ c + n - k.size
     → IsEnough (finals k.upstreams) counts need → FoundRoom k c n counts
 found_room k c n need counts on limit is E = record { going = on; limit = limit; all = E.all; room = λ i lt. (let a = E.high i lt in omega arith) }
 
 -- the looks of a claim, as one list
-abbrev pub first_looks : Shape → ℕ → List ℕ → List Look
+abbrev pub first_looks : {T : Type 0} → Shape T → ℕ → List ℕ → List Look
 first_looks k c counts = look claim_word c ∷ gate_looks k counts
 
 module _ {T : Type 0} where
   -- and is seen by the exchange
-  pub sees_room : (k : Shape) (r q s : SenderRecord T) (c n need : ℕ) → c + n ≤ k.limit → need ≡ c + n - k.size → q ≡ sender_looked r claim_word c
+  pub sees_room : (k : Shape T) (r q s : SenderRecord T) (c n need : ℕ) → c + n ≤ k.limit → need ≡ c + n - k.size → q ≡ sender_looked r claim_word c
       → Scans k q need s true → SeesRoom k s c n
   sees_room k r q s c n need limit is first S = record {
     limit = limit;
@@ -53,7 +55,7 @@ module _ {T : Type 0} where
         ap (λ (x : SenderRecord T). last_look 0 x.looks (count_word f)) S.1 in omega arith);
   }
 
-  pub looked_first : (k : Shape) (r q s : SenderRecord T) (c : ℕ) (counts : List ℕ) → q ≡ sender_looked r claim_word c → s ≡ sender_saw q (gate_looks k counts)
+  pub looked_first : (k : Shape T) (r q s : SenderRecord T) (c : ℕ) (counts : List ℕ) → q ≡ sender_looked r claim_word c → s ≡ sender_saw q (gate_looks k counts)
       → s ≡ sender_saw r (first_looks k c counts)
   looked_first k r q s c counts first next = next ∙ ap (λ (x : SenderRecord T). sender_saw x (gate_looks k counts)) first
       ∙ ap (λ (xs : List Look). record r { looks = xs }) (append_assoc r.looks (look claim_word c ∷ []) (gate_looks k counts))
@@ -95,7 +97,7 @@ module _ {T : Type 0} where
       → need ≡ c + n - e.plan.size → e.plan.limit ≤ 2 ^ 62 → IsSize e.plan.size
       → Tried e n c found e'
   tried e a b e' h n c need found A B S C counted low limit is few size =
-      let scan : Scans e.plan a.knows need b.knows true = subst (λ (k : Shape). Scans k a.knows need b.knows true) A.0.1 S in
+      let scan : Scans e.plan a.knows need b.knows true = subst (λ (k : Shape T). Scans k a.knows need b.knows true) A.0.1 S in
       let mid = looked_first e.plan e.knows a.knows b.knows c scan.0 A.1 scan.1 in record {
         stays = (C.0.0 ∙ B.0.0 ∙ A.0.0, C.0.1 ∙ B.0.1 ∙ A.0.1);
         counted = counted;
@@ -160,7 +162,25 @@ module _ {T : Type 0} where
   claim_apart e a b n c need found A B S earlier hit s t own =
       let plan : b.plan ≡ e.plan = B.0.1 ∙ A.0.1 in
       let list : b.knows.own ≡ e.knows.own = ap (λ (r : SenderRecord T). r.own) S.1 ∙ ap (λ (r : SenderRecord T). r.own) A.1 in
-      subst (λ (k : Shape). IsEarlier k c (c + n) s t) plan (earlier hit s t (own.0, ap (λ (xs : List (Own T)). get_elem? xs own.0) list ∙ own.1))
+      subst (λ (k : Shape T). IsEarlier k c (c + n) s t) plan (earlier hit s t (own.0, ap (λ (xs : List (Own T)). get_elem? xs own.0) list ∙ own.1))
+
+  -- and what it took
+  pub claim_taken : (e a b b' : SenderStand T) (n c need found : ℕ) (claimed : Claimed) → HasLoaded e (sender_looked e.knows claim_word c) e.hand a → HasLoaded a b.knows a.hand b
+      → Scans a.plan a.knows need b.knows true → (laid : List (Laid T)) → LayIn b.plan c (exchanged c n found) laid → b'.hand ≡ taken_by_claim b.plan c laid ++ b.hand
+      → LayAsLent b.plan b.knows c laid → found ≡ c → claimed.lo ≡ c → ClaimTakes e n b' (Ok claimed)
+  claim_taken e a b b' n c need found claimed A B S laid L hand O hit lo =
+      let plan : b.plan ≡ e.plan = B.0.1 ∙ A.0.1 in
+      let list : b.knows.own ≡ e.knows.own = ap (λ (r : SenderRecord T). r.own) S.1 ∙ ap (λ (r : SenderRecord T). r.own) A.1 in
+      let same : b.hand ≡ e.hand = B.2 ∙ A.2 in
+      let all : exchanged c n found ≡ n = ap (λ (x : Bool). if x then n else 0) (eq-eqb found c hit) in
+      let lay : LayIn e.plan c n laid = subst (λ (k : Shape T). LayIn k c n laid) plan (subst (λ (m : ℕ). LayIn b.plan c m laid) all L) in
+      subst (λ (q : ℕ). (xs : List (Laid T)) × LayIn e.plan q n xs × (b'.hand ≡ taken_by_claim e.plan q xs ++ e.hand) × LayAsLent e.plan e.knows q xs) (sym lo) (
+        laid,
+        lay,
+        hand ∙ (λ i. taken_by_claim (plan i) c laid ++ same i),
+        λ i s x t l at place own out. O i s x t l at (place ∙ ap (λ (k : Shape T). k.size + s) (sym plan))
+            (own.0, ap (λ (xs : List (Own T)). get_elem? xs own.0) list ∙ own.1) out,
+      )
 
   -- the first look found the ring halted
   pub claim_stopped : (e a : SenderStand T) (n c : ℕ) → HasLoaded e (sender_looked e.knows claim_word c) e.hand a → IsCount e.plan n → 9223372036854775808 ≤ c
@@ -183,7 +203,7 @@ module _ {T : Type 0} where
       → Scans a.plan a.knows need b.knows false → IsCount e.plan n → c < 9223372036854775808 → c + n ≤ e.plan.limit → need ≡ c + n - e.plan.size
       → e.plan.limit ≤ 2 ^ 62 → IsSize e.plan.size → ClaimCall e n b (Err (Refused NoRoom))
   claim_no_room e a b n c need A B S counted low limit is few size =
-      let scan : Scans e.plan a.knows need b.knows false = subst (λ (k : Shape). Scans k a.knows need b.knows false) A.0.1 S in let short = scan.2 in record {
+      let scan : Scans e.plan a.knows need b.knows false = subst (λ (k : Shape T). Scans k a.knows need b.knows false) A.0.1 S in let short = scan.2 in record {
         stays = (B.0.0 ∙ A.0.0, B.0.1 ∙ A.0.1);
         counts = counted;
         seen = first_looks e.plan c scan.0;

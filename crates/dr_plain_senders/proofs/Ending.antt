@@ -70,19 +70,19 @@ module _ {T : Type 0} where
   -- Where each slot of what is left is.
 
   -- a part that is left: in the lane of a handler that has it not in hand
-  record IsPart (k : Shape) (h : ℕ) (counts : List HandlerCounts) (q : ℕ) (l : Lent T) (x : ℕ × Token T) : Type 0 where
+  record IsPart (k : Shape T) (h : ℕ) (counts : List HandlerCounts) (q : ℕ) (l : Lent T) (x : ℕ × Token T) : Type 0 where
     by : ℕ
     count : HandlerCounts
     counted : get_elem? counts by ≡ some count
     free : is_in_hand count (q - k.size) ≡ false
     is : placed k (lane_of (h + by)) q (lent l) ≡ x
 
-  part_later : (k : Shape) (h : ℕ) (c : HandlerCounts) (counts : List HandlerCounts) (q : ℕ) (l : Lent T) (x : ℕ × Token T) → IsPart k (h + 1) counts q l x
+  part_later : (k : Shape T) (h : ℕ) (c : HandlerCounts) (counts : List HandlerCounts) (q : ℕ) (l : Lent T) (x : ℕ × Token T) → IsPart k (h + 1) counts q l x
       → IsPart k h (c ∷ counts) q l x
   part_later k h c counts q l x P = let e : h + 1 + P.by ≡ h + suc P.by = (let n = P.by in omega arith) in
       record { by = suc P.by; count = P.count; counted = P.counted; free = P.free; is = ap (λ (n : ℕ). placed k (lane_of n) q (lent l)) (sym e) ∙ P.is }
 
-  at_parts : (k : Shape) (h : ℕ) (counts : List HandlerCounts) (q : ℕ) (l : Lent T) (j : ℕ) (x : ℕ × Token T) → get_elem? (parts_left k h counts q l) j ≡ some x
+  at_parts : (k : Shape T) (h : ℕ) (counts : List HandlerCounts) (q : ℕ) (l : Lent T) (j : ℕ) (x : ℕ × Token T) → get_elem? (parts_left k h counts q l) j ≡ some x
       → IsPart k h counts q l x
   at_parts k h [] q l j x at = absurd (some-ne-none x (sym at))
   at_parts k h (c ∷ counts) q l j x at =
@@ -99,10 +99,10 @@ module _ {T : Type 0} where
       ]
 
   -- a slot of a row: what is kept, or a part
-  abbrev IsOfRow : Shape → List HandlerCounts → ℕ → Laid T → ℕ × Token T → Type 0
+  abbrev IsOfRow : Shape T → List HandlerCounts → ℕ → Laid T → ℕ × Token T → Type 0
   IsOfRow k counts q a x = (placed k keeping_lane q a ≡ x) ⊎ ((l : Lent T) × (a ≡ lent l) × IsPart k 0 counts q l x)
 
-  at_row : (k : Shape) (counts : List HandlerCounts) (q : ℕ) (a : Laid T) (j : ℕ) (x : ℕ × Token T) → get_elem? (row_left k counts q a) j ≡ some x → IsOfRow k counts q a x
+  at_row : (k : Shape T) (counts : List HandlerCounts) (q : ℕ) (a : Laid T) (j : ℕ) (x : ℕ × Token T) → get_elem? (row_left k counts q a) j ≡ some x → IsOfRow k counts q a x
   at_row k counts q (unlent y) j x at = elim (first_or (placed k keeping_lane q (unlent y)) [] j x at) [
     | inl is ↦ inl is
     | inr t ↦ absurd (some-ne-none x (sym t.1))
@@ -113,22 +113,22 @@ module _ {T : Type 0} where
   ]
 
   -- its lane
-  lane_in : (k : Shape) (counts : List HandlerCounts) (q : ℕ) (a : Laid T) (x : ℕ × Token T) → IsOfRow k counts q a x → (lane : ℕ) × (slot_of k lane q ≡ x.0)
+  lane_in : (k : Shape T) (counts : List HandlerCounts) (q : ℕ) (a : Laid T) (x : ℕ × Token T) → IsOfRow k counts q a x → (lane : ℕ) × (slot_of k lane q ≡ x.0)
   lane_in k counts q a x (inl is) = (keeping_lane, ap (λ (y : ℕ × Token T). y.0) is)
   lane_in k counts q a x (inr t) = let P = t.2 in (lane_of (0 + P.by), ap (λ (y : ℕ × Token T). y.0) P.is)
 
-  record IsOfRows (k : Shape) (counts : List HandlerCounts) (q : ℕ) (laid : List (Option (Laid T))) (x : ℕ × Token T) : Type 0 where
+  record IsOfRows (k : Shape T) (counts : List HandlerCounts) (q : ℕ) (laid : List (Option (Laid T))) (x : ℕ × Token T) : Type 0 where
     at : ℕ
     what : Laid T
     laid_at : get_elem? laid at ≡ some (Some what)
     is : IsOfRow k counts (q + at) what x
 
-  row_later : (k : Shape) (counts : List HandlerCounts) (q : ℕ) (o : Option (Laid T)) (laid : List (Option (Laid T))) (x : ℕ × Token T)
+  row_later : (k : Shape T) (counts : List HandlerCounts) (q : ℕ) (o : Option (Laid T)) (laid : List (Option (Laid T))) (x : ℕ × Token T)
       → IsOfRows k counts (q + 1) laid x → IsOfRows k counts q (o ∷ laid) x
   row_later k counts q o laid x R = let e : q + 1 + R.at ≡ q + suc R.at = (let n = R.at in omega arith) in
       record { at = suc R.at; what = R.what; laid_at = R.laid_at; is = subst (λ (n : ℕ). IsOfRow k counts n R.what x) e R.is }
 
-  at_rows : (k : Shape) (counts : List HandlerCounts) (q : ℕ) (laid : List (Option (Laid T))) (j : ℕ) (x : ℕ × Token T) → get_elem? (rows_left k counts q laid) j ≡ some x
+  at_rows : (k : Shape T) (counts : List HandlerCounts) (q : ℕ) (laid : List (Option (Laid T))) (j : ℕ) (x : ℕ × Token T) → get_elem? (rows_left k counts q laid) j ≡ some x
       → IsOfRows k counts q laid x
   at_rows k counts q [] j x at = absurd (some-ne-none x (sym at))
   at_rows k counts q (None ∷ laid) j x at = row_later k counts q None laid x (at_rows k counts (q + 1) laid j x at)
@@ -138,7 +138,7 @@ module _ {T : Type 0} where
     | inr t ↦ row_later k counts q (Some a) laid x (at_rows k counts (q + 1) laid t.0 x t.1)
   ]
 
-  module _ (k : Shape) (some_slot : 0 < k.size) (counts : List HandlerCounts) where
+  module _ (k : Shape T) (some_slot : 0 < k.size) (counts : List HandlerCounts) where
     apart_parts : (h : ℕ) (cs : List HandlerCounts) (q : ℕ) (l : Lent T) → Apart (parts_left k h cs q l)
     apart_parts h [] q l = tt
     apart_parts h (c ∷ cs) q l =
@@ -174,10 +174,10 @@ module _ {T : Type 0} where
         slots_apart k Y.0 X.0 (q + 1 + M.at) q some_slot (omega arith) (omega arith) (inr (λ (z : q + 1 + M.at ≡ q). omega arith)) (Y.1 ∙ e ∙ sym X.1)))
 
   -- What lies in each cell.
-  abbrev IsOpenAt : Shape → List (Stage T) → ℕ → Type 0
+  abbrev IsOpenAt : Shape T → List (Stage T) → ℕ → Type 0
   IsOpenAt k stages q = (s : ℕ) × (t : Stage T) × (q ≡ k.size + s) × (get_elem? stages s ≡ some t) × (t.lent ≡ None)
 
-  module _ (k : Shape) (receivers : List (ReceiverRecord T)) (stages : List (Stage T)) (homes : List (maybe.Option (Token T))) where
+  module _ (k : Shape T) (receivers : List (ReceiverRecord T)) (stages : List (Stage T)) (homes : List (maybe.Option (Token T))) where
     abbrev Found : ℕ → Type 0
     Found q = ((a : Laid T) × LiesIn k receivers stages homes q a) ⊎ IsOpenAt k stages q
 
@@ -266,7 +266,7 @@ ends_at [] ps j x at = absurd (some-ne-none x (sym at))
 ends_at {E = E} {S = S} (e ∷ es) ps zero x at = ap (λ (y : E × List S). some y.0) (some-injective (e, first_past ps) x at)
 ends_at (e ∷ es) ps (suc j) x at = ends_at es (drop 1 ps) j x at
 
-module _ {T : Type 0} (k : Shape) where
+module _ {T : Type 0} (k : Shape T) where
   in_ends : (v : View (EndRecord T) (Step T)) (x : Known (EndRecord T) (Step T)) (I : IsInView ring_ends v x) → get_elem? v.ends I.0 ≡ some x.knows
   in_ends v x I = ends_at v.ends v.pasts I.0 (x.knows, x.past) I.1
 

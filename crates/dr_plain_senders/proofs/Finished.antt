@@ -34,7 +34,7 @@ use Rattle.dr_plain_senders.specs.Inside.Bringing.{AreBrought, AreHandsOf}
 use Rattle.dr_plain_senders.specs.Inside.Finishing.{is_in_hand, rows_left, AreLaid, HasAllEnds, AreAllWhole, AreWide, whole_of, AreRows, AreBack}
 use Rattle.dr_plain_senders.proofs.Facts.{none_or_some, near_open, owned}
 use Rattle.dr_plain_senders.proofs.Lanes.{cell_later}
-use Rattle.dr_plain_senders.proofs.Moving.{one_lent, token_later}
+use Rattle.dr_plain_senders.proofs.Moving.{one_lent, laid_lent, token_later}
 use Rattle.dr_plain_senders.proofs.Places.{one_value}
 use Rattle.dr_plain_senders.proofs.Seats.{kept_of}
 use Rattle.dr_plain_senders.proofs.Owners.{AllOwned, owned_since}
@@ -47,7 +47,7 @@ some_of a b e = cc
 
 module _ {T : Type 0} where
   -- the ends of a ring are together in a world
-  pub record Ended (k : Shape) (w : World T) (ss : List (SenderEnd T)) (rs : List (ReceiverEnd T)) (t : HalterStand T) (laid : List (Option (Laid T))) : Type 0 where
+  pub record Ended (k : Shape T) (w : World T) (ss : List (SenderEnd T)) (rs : List (ReceiverEnd T)) (t : HalterStand T) (laid : List (Option (Laid T))) : Type 0 where
     pub rule : KeepsRule k w
     pub owned_all : AllOwned w
     pub senders : w.senders ≡ map knows_of_sender ss
@@ -56,7 +56,7 @@ module _ {T : Type 0} where
     pub plan : k ≡ t.plan
     pub laid_is : AreLaid k w.stages laid
 
-  pub ended : (k : Shape) (v : View (EndRecord T) (Step T)) (ss : List (SenderEnd T)) (rs : List (ReceiverEnd T)) (t : HalterStand T) (laid : List (Option (Laid T)))
+  pub ended : (k : Shape T) (v : View (EndRecord T) (Step T)) (ss : List (SenderEnd T)) (rs : List (ReceiverEnd T)) (t : HalterStand T) (laid : List (Option (Laid T)))
       → HasAllEnds v ss rs t → (V : ViewRan (exchange k) v) → k ≡ t.plan → AreLaid k V.world.stages laid → Ended k V.world ss rs t laid
   ended k v ss rs t laid H V plan L =
       let w = V.world in let R = V.reached in let K = kept_of k w R in let one = in_one_run k v ss rs t H V in record {
@@ -70,39 +70,33 @@ module _ {T : Type 0} where
       }
 
   -- the receivers' rows
-  pub wide : (k p : Shape) (ss : List (SenderEnd T)) (rs : List (ReceiverEnd T)) (t : HalterStand T) (hands : List (List (Token T))) → k ≡ t.plan → p ≡ t.plan
+  pub wide : (k p : Shape T) (ss : List (SenderEnd T)) (rs : List (ReceiverEnd T)) (t : HalterStand T) (hands : List (List (Token T))) → k ≡ t.plan → p ≡ t.plan
       → AreAllEnds ss rs t → AreHandsOf rs hands → AreWide p hands
   wide k p ss rs t hands plan same A H = record {
     count = H.count ∙ A.receivers ∙ ap handlers_of (sym same);
     each = λ h parts at. (let b = at_below hands h parts at in let n = H.count in let e = there rs h (omega arith) in
-        (H.each h e.0 parts e.1 at).count ∙ ap (λ (x : EndPlace). x.1.size) (A.each_receiver h e.0 e.1) ∙ ap (λ (q : Shape). q.size) (sym same));
+        (H.each h e.0 parts e.1 at).count ∙ ap (λ (x : EndPlace T). x.1.size) (A.each_receiver h e.0 e.1) ∙ ap (λ (q : Shape T). q.size) (sym same));
   }
 
   -- what lies in a cell, by its last sequence
-  of_round : (k : Shape) (stages : List (Stage T)) (q : ℕ) (a : Laid T) → IsLaid k stages q a → IsOfRound k q a
+  of_round : (k : Shape T) (stages : List (Stage T)) (q : ℕ) (a : Laid T) → IsLaid k stages q a → IsOfRound k q a
   of_round k stages q (unlent x) is = is
   of_round k stages q (lent l) is = let e = is.1 in omega arith
 
-  not_laid : (k : Shape) (stages : List (Stage T)) (q s : ℕ) (t : Stage T) (a : Laid T) → IsLaid k stages q a → q ≡ k.size + s → get_elem? stages s ≡ some t
+  not_laid : (k : Shape T) (stages : List (Stage T)) (q s : ℕ) (t : Stage T) (a : Laid T) → IsLaid k stages q a → q ≡ k.size + s → get_elem? stages s ≡ some t
       → t.lent ≡ None → ⊥
-  not_laid k stages q s t (unlent x) is at there_s none = absurd (omega arith)
+  not_laid k stages q s t (unlent x) is at there_s none = absurd (let early = is.0 in omega arith)
   not_laid k stages q s t (lent l) is at there_s none =
       let e = is.1 in let same : is.0 ≡ s = omega arith in let out = is.2 in
       let one = one_value stages s t out.0 there_s (ap (λ (n : ℕ). get_elem? stages n) (sym same) ∙ out.1) in
       none_or_some t.lent l none (ap (λ (x : Stage T). x.lent) one ∙ out.2)
-
-  laid_lent : (k : Shape) (stages : List (Stage T)) (q s : ℕ) (l : Lent T) (a : Laid T) → IsLaid k stages q a → q ≡ k.size + s → IsOutWith stages s l → a ≡ lent l
-  laid_lent k stages q s l (unlent x) is at out = absurd (omega arith)
-  laid_lent k stages q s l (lent m) is at out =
-      let e = is.1 in let same : is.0 ≡ s = omega arith in
-      ap (λ (x : Lent T). lent x) (one_lent stages s m l (subst (λ (n : ℕ). IsOutWith stages n m) same is.2) out)
 
   counts_of : (es : List (ReceiverEnd T))
       → map (λ (r : ReceiverRecord T). handler_counts r) (map knows_of es) ≡ map (λ (e : ReceiverEnd T). handler_counts e.knows) es
   counts_of [] = refl
   counts_of (e ∷ es) = ap (λ (cs : List HandlerCounts). handler_counts e.knows ∷ cs) (counts_of es)
 
-  module _ (k : Shape) (w : World T) (ss : List (SenderEnd T)) (rs : List (ReceiverEnd T)) (t : HalterStand T) (laid : List (Option (Laid T))) (E : Ended k w ss rs t laid) where
+  module _ (k : Shape T) (w : World T) (ss : List (SenderEnd T)) (rs : List (ReceiverEnd T)) (t : HalterStand T) (laid : List (Option (Laid T))) (E : Ended k w ss rs t laid) where
     abbrev count_now : ℕ
     count_now = length w.stages
 
@@ -184,9 +178,9 @@ module _ {T : Type 0} where
             let is = E.laid_is.laid_there i (lent l) at in let at_q = is.1 in let same : is.0 ≡ s = omega arith in let whole_q : count_now + i ≡ k.size + s = omega arith in
             let x = there r.received s (omega arith) in
             let one = one_lent w.stages s x.0 l (K.beginning s x.0 x.1) (subst (λ (n : ℕ). IsOutWith w.stages n l) same is.2) in
-            let plan : e.plan ≡ k = ap (λ (y : EndPlace). y.1) (E.all.each_receiver h e m.1) ∙ sym E.plan in
+            let plan : e.plan ≡ k = ap (λ (y : EndPlace T). y.1) (E.all.each_receiver h e m.1) ∙ sym E.plan in
             let fit = (H.each h e parts m.1 at_h).held s x.0 (omega arith) x.1 in
-            ap (λ (n : ℕ). get_elem? parts n) (cell_next (count_now + i) s whole_q) ∙ subst (λ (p : Shape). get_elem? parts (cell_of p s) ≡ some (part_of p s (lent x.0))) plan fit
+            ap (λ (n : ℕ). get_elem? parts n) (cell_next (count_now + i) s whole_q) ∙ subst (λ (p : Shape T). get_elem? parts (cell_of p s) ≡ some (part_of p s (lent x.0))) plan fit
             ∙ ap (λ (y : Lent T). some (part_of k s (lent y))) one
             ∙ sym (ap (λ (n : ℕ). some (part_of k n (lent l))) whole_q ∙ ap (λ (y : Token T). some y) (token_later k E.rule.shape.some_slot (lane_of h) s (lent l)))
 
@@ -238,6 +232,18 @@ module _ {T : Type 0} where
               let m = at_map (λ (z : T). Some z) items i (Some x) (ap (λ (os : List (Option T)). get_elem? os i) are ∙ cell) in
               m.1 ∙ ap (λ (z : T). some z) (some_of m.0 x m.2)
 
+          -- of a cell that nobody claimed
+          first_event : (i q : ℕ) (x : T) → count_now + i ≡ q → q < k.size → get_elem? k.begun q ≡ some x → (o : Option (Laid T)) → get_elem? laid i ≡ some o
+              → get_elem? items (cell_of k q) ≡ some x
+          first_event i q x place first begun (Some (unlent y)) here =
+              let was = (E.laid_is.laid_there i (unlent y) here).1 in
+              let same : y ≡ x = some-injective y x (sym was ∙ ap (λ (n : ℕ). get_elem? k.begun n) place ∙ begun) in
+              let cell = ap (λ (n : ℕ). cell_of k n) place in
+              event_at (cell_of k q) x (whole_of k (count_now + i) (unlent y)) (ap (λ (n : ℕ). get_elem? tokens' n) (sym cell) ∙ X.back i (unlent y) here)
+              (ap (λ (z : T). Some z) same)
+          first_event i q x place first begun (Some (lent l)) here = absurd (let at = (E.laid_is.laid_there i (lent l) here).1 in omega arith)
+          first_event i q x place first begun None here = absurd (let at = (E.laid_is.opened i here).2 in omega arith)
+
           -- what the events are
           pub gives_back : GivesBack k count_now ss items
           gives_back = record {
@@ -265,4 +271,7 @@ module _ {T : Type 0} where
                   event_at (cell_of k s) by.has.0 (token_at k.strip (cell_of k s) (whole by.has.0))
                       (ap (λ (m : ℕ). get_elem? tokens' m) cell ∙ kept ∙ ap (λ (m : ℕ). get_elem? tokens m) (sym cell) ∙ by.has.1) refl,
                 ));
+            unclaimed = λ q x past first begun. (
+                let i = q - count_now in let place : count_now + i ≡ q = omega arith in let all = E.laid_is.count in let o = there laid i (omega arith) in
+                first_event i q x place first begun o.0 o.1);
           }

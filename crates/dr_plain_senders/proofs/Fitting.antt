@@ -1,7 +1,7 @@
 -- A sender's marks, tokens and slots fit what it knows after each of its calls.
 use Rattle.std.proofs.Common.{◌≡◌, ℕ, ◌+◌, ◌-◌, ◌<◌, ◌≤◌, ◌⊎◌, inl, inr, Bool, true, false, not, ◌&&◌, List, ◌++◌, length, sym, refl, ap, ◌∙◌, subst, arith}
 use Rattle.std.specs.Prelude.{None, Some, Option, is_some}
-use Rattle.std.proofs.lemmas.Bool.{cases_Bool}
+use Rattle.std.proofs.lemmas.Bool.{cases_Bool, cases_lt}
 use mathlib.Core.Option.{some}
 use lib.ListN.{get_elem?}
 use Rattle.dr_cells.specs.declared.token.Token.{Token}
@@ -32,7 +32,7 @@ module _ {T : Type 0} where
   owns_same r q s t same own = (own.0, ap (λ (xs : List (Own T)). get_elem? xs own.0) same ∙ own.1)
 
   -- where a sender learns something, and its sequences stay
-  pub marks_same : (k : Shape) (r q : SenderRecord T) (o : Owned) → q.own ≡ r.own → MarksFit k r o → MarksFit k q o
+  pub marks_same : (k : Shape T) (r q : SenderRecord T) (o : Owned) → q.own ≡ r.own → MarksFit k r o → MarksFit k q o
   marks_same k r q o same F = record {
     claims = F.claims;
     writes = F.writes;
@@ -40,7 +40,7 @@ module _ {T : Type 0} where
     own = λ s m. (let x = F.own s m in (x.0, owns_same r q s x.0 same x.1));
     written = λ s m. (let x = F.written s m in (x.0, owns_same r q s x.0 same x.1));
     published = λ s m. (let x = F.published s m in (x.0, owns_same r q s x.0 same x.1));
-    old = λ s t own m. F.old s t (owns_same q r s t (sym same) own) m;
+    old = λ s t own m. (let x = F.old s t (owns_same q r s t (sym same) own) m in (x.0, (x.1.0, x.1.1, owns_same r q x.1.0 x.1.1 same x.1.2, x.1.3)));
     shown = λ s t own m. F.shown s t (owns_same q r s t (sym same) own) m;
   }
 
@@ -48,7 +48,7 @@ module _ {T : Type 0} where
       → SenderFits e o end tokens → SenderFits e' o end tokens
   fits_same e e' o end tokens plan own hand F =
       let at : SenderStand T = record e' { plan = e.plan } in
-      let P : Shape → Type 0 = λ k. SenderFits (record e' { plan = k }) o end tokens in
+      let P : Shape T → Type 0 = λ k. SenderFits (record e' { plan = k }) o end tokens in
       let fits : SenderFits at o end tokens = record {
         marks = marks_same e.plan e.knows e'.knows o own F.marks;
         limit = F.limit;
@@ -87,7 +87,7 @@ module _ {T : Type 0} (r q : SenderRecord T) (c n : ℕ) (grown : q.own ≡ r.ow
             let at : c + x.0 ≡ s = ap (λ (o : Own T). o.sequence) d.1 in let lt = d.0 in inl (omega arith, omega arith, sym (ap (λ (o : Own T). o.stage) d.1)))
       ]
 
-  module _ (k : Shape) (o : Owned) (F : MarksFit k r o) (some_one : 0 < n) (few : n ≤ k.size)
+  module _ (k : Shape T) (o : Owned) (F : MarksFit k r o) (some_one : 0 < n) (few : n ≤ k.size)
       (earlier : (s : ℕ) (t : Stage T) → Owns r s t → IsEarlier k c (c + n) s t) where
     abbrev pub claimed_marks : List ℕ
     claimed_marks = stamped (entry_of (length o.claimed)) o.claimed c n
@@ -113,6 +113,23 @@ module _ {T : Type 0} (r q : SenderRecord T) (c n : ℕ) (grown : q.own ≡ r.ow
       | inr unmarked ↦ unmarked
     ]
 
+    -- what has no mark then is published, and its cell is claimed again
+    old_now : (s : ℕ) (t : Stage T) → Owns r s t → is_marked claimed_marks s ≡ false → (is_published t ≡ true) × ((z : ℕ) × (u : Stage T) × Owns q z u × (s + k.size ≤ z))
+    old_now s t owned m = let len = F.claims in let e = earlier s t owned in let below = e.0 in
+        elim (cases_Bool (is_marked o.claimed s)) [
+          | inr unmarked ↦ (let x = F.old s t owned unmarked in (x.0, (x.1.0, x.1.1, kept x.1.0 x.1.1 x.1.2, x.1.3)))
+          | inl marked ↦ elim (cases_lt (s + k.size) (c + n)) [
+            | inl past ↦ (
+              elim (cases_Bool (is_published t)) [
+                | inl shown ↦ shown
+                | inr hidden ↦ absurd (let near = e.1 (no_lent t.lent hidden) in omega arith)
+              ],
+              (c + n - 1, fresh_stage r.number, own_new (c + n - 1) (omega arith) (omega arith), omega arith),
+            )
+            | inr near ↦ absurd (let same = marked-out o.claimed c n s (omega arith) (omega arith) (λ j lt eq. omega arith) in cc)
+          ]
+        ]
+
     -- a sender's marks once it claimed n from c on
     pub marks_claimed : MarksFit k q (record o { claimed = claimed_marks })
     marks_claimed =
@@ -128,10 +145,7 @@ module _ {T : Type 0} (r q : SenderRecord T) (c n : ℕ) (grown : q.own ≡ r.ow
           published = λ s m. (let x = F.published s m in (x.0, kept s x.0 x.1));
           old = λ s t own m. elim (whence s t own) [
             | inl x ↦ absurd (let yes = here s x.0 x.1 in cc)
-            | inr owned ↦ elim (cases_Bool (is_published t)) [
-              | inl shown ↦ shown
-              | inr hidden ↦ F.old s t owned (sym (keeps_mark s t owned hidden) ∙ m)
-            ]
+            | inr owned ↦ old_now s t owned m
           ];
           shown = λ s t own m. elim (whence s t own) [
             | inl x ↦ ap is_published x.2 ∙ sym (unpublished_new s x.0)

@@ -40,7 +40,7 @@ unfolding index
 index_receiver senders h = rw (ne_eqb (2 * h + 2) 0 (λ e. omega arith), ne_eqb ((2 * h + 2) % 2) 1 (λ e. omega arith)) (omega arith)
 
 module _ {T : Type 0} where
-  stands_fresh : (k : Shape) (j : ℕ) (e : EndRecord T) → get_elem? (fresh_ends k) j ≡ some e → (index k.senders (end_number e) ≡ j) × Stands (new_world k) e
+  stands_fresh : (k : Shape T) (j : ℕ) (e : EndRecord T) → get_elem? (fresh_ends k) j ≡ some e → (index k.senders (end_number e) ≡ j) × Stands (new_world k) e
   unfolding index
   stands_fresh k zero e at = subst (λ (x : EndRecord T). (index k.senders (end_number x) ≡ 0) × Stands (new_world k) x) (some-injective _ e at) (refl, refl)
   stands_fresh k (suc j) e at =
@@ -69,7 +69,7 @@ module _ {T : Type 0} where
       ]
 
   -- every cell is whole, in the keeping lane
-  lies_fresh : (k : Shape) (cs : List (Token T)) → AreFirst k cs → 0 < k.size → Lies {T = T} k (new_world k) (map (λ c. some c) cs)
+  lies_fresh : (k : Shape T) (cs : List (Token T)) → AreFirst k cs → 0 < k.size → Lies {T = T} k (new_world k) (map (λ c. some c) cs)
   lies_fresh k cs F some_slot = record {
     deep = length-map cs (λ (c : Token T). some c) ∙ F.count;
     lies = λ q past below is_free. (
@@ -77,7 +77,7 @@ module _ {T : Type 0} where
         let none : slot_of k 0 q ≡ q = (let z : ℕ = 0 * k.size in omega arith) in (
           unlent x.0,
           record {
-            laid = first;
+            laid = (first, x.2);
             keeps = map_there (λ (c : Token T). some c) cs (slot_of k 0 q) (token_at k.strip q (whole x.0)) (ap (λ (j : ℕ). get_elem? cs j) none ∙ x.1)
                 ∙ ap (λ (j : ℕ). some (some (token_at k.strip j (whole x.0)))) (sym here);
             parts = λ h r at away. (
@@ -90,6 +90,6 @@ module _ {T : Type 0} where
   }
 
   -- a new ring keeps the rule
-  pub ruled_new : (k : Shape) (ws : List ℕ) (cs : List (Token T)) → ws ≡ replicate (words_of k) 0 → AreFirst k cs → IsShape k → Ruled {T = T} k (table_opening ws cs (all_ends k))
+  pub ruled_new : (k : Shape T) (ws : List ℕ) (cs : List (Token T)) → ws ≡ replicate (words_of k) 0 → AreFirst k cs → IsShape k → Ruled {T = T} k (table_opening ws cs (all_ends k))
   ruled_new k ws cs is F shape =
       inl (ruled_fresh (exchange k) (fresh_ends k) (index k.senders) ws cs (sym is) (lies_fresh k cs F shape.some_slot) shape (stands_fresh k))

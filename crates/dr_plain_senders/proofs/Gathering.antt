@@ -32,8 +32,8 @@ use Rattle.dr_plain_senders.proofs.Owners.{owned_since}
 use Rattle.dr_plain_senders.proofs.Settling.{settles}
 
 module _ {T : Type 0} where
-  abbrev pub Moments : (Shape → List (Step T) → Transcript T → World T → Type 0) → Type 0
-  Moments P = (k : Shape) (steps : List (Step T)) (entries : Transcript T) (w : World T) → IsShape k → Runs k steps entries (new_world k) w → P k steps entries w
+  abbrev pub Moments : (Shape T → List (Step T) → Transcript T → World T → Type 0) → Type 0
+  Moments P = (k : Shape T) (steps : List (Step T)) (entries : Transcript T) (w : World T) → IsShape k → Runs k steps entries (new_world k) w → P k steps entries w
 
   abbrev pub knows_of_sender : SenderEnd T → SenderRecord T
   knows_of_sender e = e.knows
@@ -75,12 +75,12 @@ module _ {T : Type 0} where
   }
 
   -- each of them is in the run that came to them
-  pub record InOneRun (k : Shape) (w : World T) (steps : List (Step T)) (ss : List (SenderEnd T)) (rs : List (ReceiverEnd T)) (t : HalterStand T) : Type 0 where
+  pub record InOneRun (k : Shape T) (w : World T) (steps : List (Step T)) (ss : List (SenderEnd T)) (rs : List (ReceiverEnd T)) (t : HalterStand T) : Type 0 where
     pub sends : (p : ℕ) (e : SenderEnd T) → get_elem? ss p ≡ some e → InRun (exchange k) w steps (sender_known e)
     pub receives : (h : ℕ) (e : ReceiverEnd T) → get_elem? rs h ≡ some e → InRun (exchange k) w steps (receiver_known e)
     pub halts : InRun (exchange k) w steps (halter_known t)
 
-  pub in_one_run : (k : Shape) (v : View (EndRecord T) (Step T)) (ss : List (SenderEnd T)) (rs : List (ReceiverEnd T)) (t : HalterStand T)
+  pub in_one_run : (k : Shape T) (v : View (EndRecord T) (Step T)) (ss : List (SenderEnd T)) (rs : List (ReceiverEnd T)) (t : HalterStand T)
       → HasAllEnds v ss rs t → (ran : ViewRan (exchange k) v) → InOneRun k ran.world ran.reached.steps ss rs t
   in_one_run k v ss rs t H ran =
       let here : (x : Known (EndRecord T) (Step T)) → IsInView ring_ends v x → InRun (exchange k) ran.world ran.reached.steps x = in_run (exchange k) v ran in
@@ -91,22 +91,22 @@ module _ {T : Type 0} where
       }
 
   -- the records of the world that the run came to
-  pub senders_are : (k : Shape) (w : World T) (steps : List (Step T)) (ss : List (SenderEnd T)) (rs : List (ReceiverEnd T)) (t : HalterStand T) → KeepsRule k w
+  pub senders_are : (k : Shape T) (w : World T) (steps : List (Step T)) (ss : List (SenderEnd T)) (rs : List (ReceiverEnd T)) (t : HalterStand T) → KeepsRule k w
       → k ≡ t.plan → AreAllEnds ss rs t → InOneRun k w steps ss rs t → w.senders ≡ map knows_of_sender ss
   senders_are k w steps ss rs t K plan A R =
-      same_lists w.senders (map knows_of_sender ss) (K.inlets ∙ ap (λ (p : Shape). p.senders) plan ∙ sym A.senders ∙ sym (length-map ss knows_of_sender))
-      (λ p r at. (let m = at_map knows_of_sender ss p r at in let number : m.0.knows.number ≡ p = ap (λ (x : EndPlace). x.2) (A.each_sender p m.0 m.1) in
+      same_lists w.senders (map knows_of_sender ss) (K.inlets ∙ ap (λ (p : Shape T). p.senders) plan ∙ sym A.senders ∙ sym (length-map ss knows_of_sender))
+      (λ p r at. (let m = at_map knows_of_sender ss p r at in let number : m.0.knows.number ≡ p = ap (λ (x : EndPlace T). x.2) (A.each_sender p m.0 m.1) in
       ap (λ (n : ℕ). get_elem? w.senders n) (sym number) ∙ (R.sends p m.0 m.1).stands ∙ ap (λ (x : SenderRecord T). some x) m.2))
 
-  pub receivers_are : (k : Shape) (w : World T) (steps : List (Step T)) (ss : List (SenderEnd T)) (rs : List (ReceiverEnd T)) (t : HalterStand T) → KeepsRule k w
+  pub receivers_are : (k : Shape T) (w : World T) (steps : List (Step T)) (ss : List (SenderEnd T)) (rs : List (ReceiverEnd T)) (t : HalterStand T) → KeepsRule k w
       → k ≡ t.plan → AreAllEnds ss rs t → InOneRun k w steps ss rs t → w.receivers ≡ map knows_of rs
   receivers_are k w steps ss rs t K plan A R =
-      same_lists w.receivers (map knows_of rs) (K.outlets ∙ ap (λ (p : Shape). length p.upstreams) plan ∙ sym A.receivers ∙ sym (length-map rs knows_of))
-      (λ h r at. (let m = at_map knows_of rs h r at in let number : m.0.knows.number ≡ h = ap (λ (x : EndPlace). x.2) (A.each_receiver h m.0 m.1) in
+      same_lists w.receivers (map knows_of rs) (K.outlets ∙ ap (λ (p : Shape T). length p.upstreams) plan ∙ sym A.receivers ∙ sym (length-map rs knows_of))
+      (λ h r at. (let m = at_map knows_of rs h r at in let number : m.0.knows.number ≡ h = ap (λ (x : EndPlace T). x.2) (A.each_receiver h m.0 m.1) in
       ap (λ (n : ℕ). get_elem? w.receivers n) (sym number) ∙ (R.receives h m.0 m.1).stands ∙ ap (λ (x : ReceiverRecord T). some x) m.2))
 
   -- the run of the ends that came together, and what it found at the claim word
-  pub has_run : (k : Shape) (v : View (EndRecord T) (Step T)) (ss : List (SenderEnd T)) (rs : List (ReceiverEnd T)) (t : HalterStand T) (found : ℕ)
+  pub has_run : (k : Shape T) (v : View (EndRecord T) (Step T)) (ss : List (SenderEnd T)) (rs : List (ReceiverEnd T)) (t : HalterStand T) (found : ℕ)
       → HasAllEnds v ss rs t → (ran : ViewRan (exchange k) v) → slice_index ran.world.words claim_word ≡ found → k ≡ t.plan
       → Moments (λ k steps entries w. KeepsRule k w) → Moments (λ k steps entries w. LeadsTo (ring_setup k) entries (picture_of k w))
       → Moments (λ k steps entries w. Laws (ring_setup k) entries)
@@ -114,7 +114,7 @@ module _ {T : Type 0} where
   has_run k v ss rs t found H V finds plan rule leads laws =
       let ran = V.reached in let w = V.world in let steps = ran.steps in let es = ran.entries in let K = rule k steps es w ran.made ran.runs in
       let R = in_one_run k v ss rs t H V in let A = H.all in
-      let P : Shape → Type 0 = λ p. Runs p steps es (new_world p) w × LeadsTo (ring_setup p) es (picture_of p w) × Laws (ring_setup p) es × Settles p w in
+      let P : Shape T → Type 0 = λ p. Runs p steps es (new_world p) w × LeadsTo (ring_setup p) es (picture_of p w) × Laws (ring_setup p) es × Settles p w in
       let all : P t.plan = subst P plan (
         ran.runs,
         leads k steps es w ran.made ran.runs,
@@ -130,9 +130,9 @@ module _ {T : Type 0} where
         receivers = receivers_are k w steps ss rs t K plan A R;
         halter = R.halts.stands;
         sends = λ p e at. (let x = R.sends p e at in
-            (x.begins, ap (λ (n : ℕ). stores_of_sender n steps) (sym (ap (λ (y : EndPlace). y.2) (A.each_sender p e at))) ∙ x.stores));
+            (x.begins, ap (λ (n : ℕ). stores_of_sender n steps) (sym (ap (λ (y : EndPlace T). y.2) (A.each_sender p e at))) ∙ x.stores));
         receives = λ h e at. (let x = R.receives h e at in
-            (x.begins, ap (λ (n : ℕ). stores_of_receiver n steps) (sym (ap (λ (y : EndPlace). y.2) (A.each_receiver h e at))) ∙ x.stores));
+            (x.begins, ap (λ (n : ℕ). stores_of_receiver n steps) (sym (ap (λ (y : EndPlace T). y.2) (A.each_receiver h e at))) ∙ x.stores));
         halts = (R.halts.begins, R.halts.stores);
         leads = all.1;
         laws = all.2;

@@ -13,12 +13,12 @@ use Rattle.dr_plain_senders.specs.declared.record.Step.{Step}
 use Rattle.dr_plain_senders.specs.Inside.Seats.{Sitting, exchange, Ruled}
 use Rattle.dr_plain_senders.proofs.Leaving.{leaves}
 
-abbrev KeptByEnds : (T : Type 0) → Shape → State (Token T) (View (EndRecord T) (Step T)) → Type 0
+abbrev KeptByEnds : (T : Type 0) → Shape T → State (Token T) (View (EndRecord T) (Step T)) → Type 0
 KeptByEnds T k s = seats.Ruled (exchange {T = T} k) s
 
 module _ {T : Type 0} where
   -- a step of a seat that stands for some end
-  pub goes_on : (k : Shape) (slots id : ℕ) (me : Sitting T) (i : ℕ) (f : ℕ → ℕ) (then : ℕ → Sitting T → Type 0) → (me.0.ends ≡ [] → ⊥)
+  pub goes_on : (k : Shape T) (slots id : ℕ) (me : Sitting T) (i : ℕ) (f : ℕ → ℕ) (then : ℕ → Sitting T → Type 0) → (me.0.ends ≡ [] → ⊥)
       → Allows (KeptByEnds T k) slots id me i f then → Allows (Ruled k) slots id me i f then
   goes_on k slots id me i f then some_end A s R len at small = elim R [
     | inl kept ↦ (let a = A s kept len at small in (a.0, a.1, a.2, inl a.3, a.4))
@@ -26,7 +26,7 @@ module _ {T : Type 0} where
   ]
 
   -- a view is cut
-  pub splits_on : (k : Shape) (id : ℕ) (v left right : View (EndRecord T) (Step T)) → (v.ends ≡ [] → (left.ends ≡ []) × (right.ends ≡ []))
+  pub splits_on : (k : Shape T) (id : ℕ) (v left right : View (EndRecord T) (Step T)) → (v.ends ≡ [] → (left.ends ≡ []) × (right.ends ≡ []))
       → Splits (KeptByEnds T k) id v left right → Splits (Ruled k) id v left right
   splits_on k id v left right empty S s R mine = elim R [
     | inl kept ↦ inl (S s kept mine)
@@ -40,7 +40,7 @@ module _ {T : Type 0} where
   ]
 
   -- two views come together
-  pub joins_on : (k : Shape) (id : ℕ) (v : View (EndRecord T) (Step T)) (other : ℕ) (w : View (EndRecord T) (Step T))
+  pub joins_on : (k : Shape T) (id : ℕ) (v : View (EndRecord T) (Step T)) (other : ℕ) (w : View (EndRecord T) (Step T))
       → Joins (KeptByEnds T k) id v other w (both_views v w) no_view → Joins (Ruled k) id v other w (both_views v w) no_view
   joins_on k id v other w together s R mine apart theirs = elim R [
     | inl kept ↦ inl (together s kept mine apart theirs)
@@ -60,12 +60,12 @@ module _ {T : Type 0} where
   some_end_of e es is = let n = ap length is in absurd (omega arith)
 
   -- a view's first record stays, and the others go
-  pub cut_on : (k : Shape) (id : ℕ) (v : View (EndRecord T) (Step T)) → Splits (Ruled k) id v (first_view v) (rest_view v)
+  pub cut_on : (k : Shape T) (id : ℕ) (v : View (EndRecord T) (Step T)) → Splits (Ruled k) id v (first_view v) (rest_view v)
   cut_on k id v = splits_on k id v (first_view v) (rest_view v) (λ none. (ap (take 1) none, ap (drop 1) none)) (cuts (exchange k) id v)
 
   -- a view leaves its seat, and comes to another
-  pub leave_on : (k : Shape) (id : ℕ) (v : View (EndRecord T) (Step T)) → Splits (Ruled k) id v no_view v
+  pub leave_on : (k : Shape T) (id : ℕ) (v : View (EndRecord T) (Step T)) → Splits (Ruled k) id v no_view v
   leave_on k id v = splits_on k id v no_view v (λ none. (refl, none)) (leaves (exchange k) id v)
 
-  pub join_on : (k : Shape) (id : ℕ) (v : View (EndRecord T) (Step T)) (other : ℕ) (w : View (EndRecord T) (Step T)) → Joins (Ruled k) id v other w (both_views v w) no_view
+  pub join_on : (k : Shape T) (id : ℕ) (v : View (EndRecord T) (Step T)) (other : ℕ) (w : View (EndRecord T) (Step T)) → Joins (Ruled k) id v other w (both_views v w) no_view
   join_on k id v other w = joins_on k id v other w (joins (exchange k) id v other w)

@@ -1,6 +1,6 @@
 -- What a claim leaves of a sender's fields, and what its caller sees.
 use Rattle.std.proofs.Common.{◌≡◌, ℕ, zero, suc, ◌+◌, ◌-◌, ◌*◌, ◌^◌, ◌<◌, ◌≤◌, ◌⊎◌, inl, inr, Bool, true, false, not, ◌&&◌, if◌then◌else◌, List, [], ◌∷◌, ◌++◌, map, drop, get_or, replicate, sym, refl, ap, ◌∙◌, subst, arith}
-use Rattle.std.specs.Prelude.{None, Option, Result}
+use Rattle.std.specs.Prelude.{None, Some, Option, Result}
 use Rattle.std.proofs.lemmas.Bool.{cases_Bool, cases_lt}
 use Rattle.std.proofs.Math.Nat.{mod-lt}
 use Rattle.std.proofs.lemmas.List.{map-append}
@@ -17,7 +17,7 @@ use Rattle.dr_runs.proofs.Elements.{there, value_at}
 use Rattle.dr_runs.proofs.Lists.{map_there}
 use Rattle.dr_plain_senders.specs.Meaning.Shape.{Shape}
 use Rattle.dr_plain_senders.specs.Meaning.Words.{cell_of, lanes_of}
-use Rattle.dr_plain_senders.specs.Meaning.Lying.{Laid}
+use Rattle.dr_plain_senders.specs.Meaning.Lying.{Laid, unlent, lent}
 use Rattle.dr_plain_senders.specs.Meaning.Records.{Owns, fresh_stage, fresh_own}
 use Rattle.dr_plain_senders.specs.declared.owned.Owned.{Owned}
 use Rattle.dr_plain_senders.specs.declared.record.Stage.{Stage}
@@ -29,9 +29,10 @@ use Rattle.dr_plain_senders.specs.Calls.Sending.{GainsCells, ClaimCall}
 use Rattle.dr_plain_senders.specs.Inside.Fits.{SenderFits, is_open, cells_of, written_in, writes_of}
 use Rattle.dr_plain_senders.specs.Inside.Hands.{with_hand}
 use Rattle.dr_plain_senders.specs.Inside.Rows.{blank_rows, AreCollected}
-use Rattle.dr_plain_senders.specs.Inside.Seats.{Hand, LayIn, taken_by_claim}
+use Rattle.dr_plain_senders.specs.Inside.Seats.{Hand, LayIn, LayAsLent, IsOfRound, taken_by_claim}
+use Rattle.dr_plain_senders.specs.Inside.Finishing.{value_of}
 use Rattle.dr_plain_senders.proofs.Taken.{drop_seam}
-use Rattle.dr_plain_senders.proofs.Collecting.{rows_count}
+use Rattle.dr_plain_senders.proofs.Collecting.{rows_count, HaveLaid}
 use Rattle.dr_plain_senders.proofs.Owning.{marked_was}
 use Rattle.dr_plain_senders.proofs.Opened.{open_later}
 use Rattle.dr_plain_senders.proofs.Fitting.{no_lent, own_new, whence, claimed_marks, marks_claimed, open_before, open_here}
@@ -70,8 +71,16 @@ at_map_each f [] i = refl
 at_map_each f (x ∷ xs) zero = refl
 at_map_each f (x ∷ xs) (suc i) = at_map_each f xs i
 
+some_of : {A : Type 0} (a b : A) → ◌≡◌ {A = Option A} (Some a) (Some b) → a ≡ b
+some_of a b e = cc
+
+-- in the first round there lies what the ring began with
+was_begun : {T : Type 0} (k : Shape T) (q : ℕ) (a : Laid T) → IsOfRound k q a → q < k.size → get_elem? k.begun q ≡ some (value_of a)
+was_begun k q (unlent x) of first = of.1
+was_begun k q (lent l) of first = absurd (omega arith)
+
 -- once what a claim took is collected, the rows of its sequences are behind all others
-pub hand_after : {T : Type 0} → (k : Shape) (lo m n : ℕ) (laid : List (Laid T)) (hand hand1 : Hand T) → LayIn k lo n laid → hand1 ≡ taken_by_claim k lo laid ++ hand → m ≡ n
+pub hand_after : {T : Type 0} → (k : Shape T) (lo m n : ℕ) (laid : List (Laid T)) (hand hand1 : Hand T) → LayIn k lo n laid → hand1 ≡ taken_by_claim k lo laid ++ hand → m ≡ n
     → drop (lanes_of k * m) hand1 ++ blank_rows k lo m ≡ hand ++ blank_rows k lo n
 hand_after k lo m n laid hand hand1 L is same =
     ap (λ (x : ℕ). drop (lanes_of k * x) hand1 ++ blank_rows k lo x) same
@@ -130,7 +139,7 @@ module _ {T : Type 0} (e : SenderStand T) (o : Owned) (end lo n : ℕ) (tokens t
       → o' ≡ now → tops ≡ lo + n → SenderFits e' o' tops tokens'
   fits_claim e' o' tops plan knows hand limit is at =
       let k = e.plan in let len = F.marks.claims in
-      let P : Shape → SenderRecord T → Owned → ℕ → Type 0 = λ p r w m. SenderFits (record e' { plan = p; knows = r }) w m tokens' in
+      let P : Shape T → SenderRecord T → Owned → ℕ → Type 0 = λ p r w m. SenderFits (record e' { plan = p; knows = r }) w m tokens' in
       let fits : P k q now (lo + n) = record {
         marks = marks_claimed e.knows q lo n grown k o F.marks some_one few earlier;
         limit = limit;
@@ -151,7 +160,7 @@ module _ {T : Type 0} (e : SenderStand T) (o : Owned) (end lo n : ℕ) (tokens t
         hand = hand ∙ ap (λ (h : Hand T). h ++ blank_rows k lo n) F.hand
             ∙ open_later k (is_open o) (is_open now) end lo n end_low (λ s lt. (let low = end_low in same_open s (omega arith))) between_closed
             (open_here e.knows q lo n grown k o F.marks some_one few earlier);
-      } in subst (λ (p : Shape). P p e'.knows o' tops) (sym plan)
+      } in subst (λ (p : Shape T). P p e'.knows o' tops) (sym plan)
       (subst (λ (r : SenderRecord T). P k r o' tops) (sym knows) (subst (λ (w : Owned). P k q w tops) (sym is) (subst (P k q now) (sym at) fits)))
 
   unwritten : (s : ℕ) → lo ≤ s → is_marked o.written s ≡ false
@@ -190,19 +199,28 @@ module _ {T : Type 0} (e : SenderStand T) (o : Owned) (end lo n : ℕ) (tokens t
   new_writes p c zero le = refl
   new_writes p c (suc m) le = (λ i. none_written c le i ∷ new_writes p (suc c) m (omega arith) i)
 
-  pub writes_stay : (k' : Shape) (o' : Owned) (own : List (Own T)) → k' ≡ e.plan → o' ≡ now → own ≡ e.knows.own ++ fresh_own e.knows.number lo n
+  pub writes_stay : (k' : Shape T) (o' : Owned) (own : List (Own T)) → k' ≡ e.plan → o' ≡ now → own ≡ e.knows.own ++ fresh_own e.knows.number lo n
       → writes_of k' o' tokens' own ≡ writes_of e.plan o tokens e.knows.own ++ replicate n None
   writes_stay k' o' own plan is longer =
       let fresh : List (Own T) = fresh_own e.knows.number lo n in
       (λ i. writes_of (plan i) (is i) tokens' (longer i)) ∙ map-append (λ (x : Own T). written_in e.plan now tokens' x.sequence) e.knows.own fresh
       ∙ (λ i. old_writes e.knows.own i ++ new_writes e.knows.number lo n (omega arith) i)
 
-  -- something lies in the cell of each sequence of the stretch
-  pub gains_cells : GainsCells e.plan lo n (cells_of tokens) (cells_of tokens')
-  gains_cells = let f : Token T → Option T = λ x. held x.hold in record {
+  -- in the cell of each sequence of the stretch lies what lay there
+  pub gains_cells : (laid : List (Laid T)) → LayIn e.plan lo n laid → LayAsLent e.plan e.knows lo laid → HaveLaid e.plan lo (lo + n) laid tokens'
+      → GainsCells e.plan e.knows lo n (cells_of tokens) (cells_of tokens')
+  gains_cells laid L O H = let f : Token T → Option T = λ x. held x.hold in record {
     gained = λ s low lt. (let size : 0 < e.plan.size = omega arith in let inside : cell_of e.plan s < e.plan.size = mod-lt s size in
         let many = collected.count in let count = F.count in let t = there tokens' (cell_of e.plan s) (omega arith) in let W = collected.whole s t.0 low lt t.1 in
-        (W.0, map_there f tokens' (cell_of e.plan s) t.0 t.1 ∙ ap (λ (x : Token T). some (f x)) W.1));
+        let more = L.count in let a = there laid (s - lo) (omega arith) in let at : lo + (s - lo) ≡ s = omega arith in
+        let same : value_of a.0 ≡ W.0 = some_of (value_of a.0) W.0 (sym (H s a.0 t.0 low lt a.1 t.1) ∙ ap f W.1) in (
+          W.0,
+          map_there f tokens' (cell_of e.plan s) t.0 t.1 ∙ ap (λ (x : Token T). some (f x)) W.1,
+          (
+            λ first. was_begun e.plan s a.0 (subst (λ (q : ℕ). IsOfRound e.plan q a.0) at (L.rounds (s - lo) a.0 a.1)) first ∙ ap (λ (x : T). some x) same,
+            λ z u l place own out. sym same ∙ ap (λ (b : Laid T). value_of b) (O (s - lo) z a.0 u l a.1 (at ∙ place) own out),
+          ),
+        ));
     others = λ i none. at_map_each f tokens' i ∙ ap (at_each f) (collected.others i none) ∙ sym (at_map_each f tokens i);
   }
 

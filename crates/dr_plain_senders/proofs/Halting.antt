@@ -2,9 +2,8 @@
 use Rattle.std.proofs.Common.{◌≡◌, ◌≢◌, ℕ, true, ◌==◌, if◌then◌else◌, Bool, List, [], ◌∷◌, length, set, sym, ap, ◌∙◌, subst, arith, length-set, get_or-set_same, get_or-set_other}
 use Rattle.std.proofs.lemmas.Bool.{ne_eqb, leb-true}
 use Rattle.dr_meaning.specs.Meaning.Transcript.{Transcript}
-use Rattle.dr_seq.specs.Rounds.{entry_of}
 use Rattle.dr_plain_senders.specs.Meaning.Shape.{Shape}
-use Rattle.dr_plain_senders.specs.Meaning.Words.{claim_word, is_halted, halted_from, halt_bit, count_word, mark_word}
+use Rattle.dr_plain_senders.specs.Meaning.Words.{claim_word, is_halted, halted_from, halt_bit, count_word, mark_word, mark_bit, flipped}
 use Rattle.dr_plain_senders.specs.declared.record.Stage.{Stage}
 use Rattle.dr_plain_senders.specs.declared.record.SenderRecord.{SenderRecord}
 use Rattle.dr_plain_senders.specs.declared.record.Step.{Step}
@@ -12,10 +11,10 @@ use Rattle.dr_plain_senders.specs.declared.record.Step.TheVariants.{SenderLooksA
 use Rattle.dr_plain_senders.specs.declared.record.Step.TheVariants.{ReceiverLooksAtClaims, ReceiverLooksAtMark, ReceiverLooksAtCount, ReceiverCompletes, HalterHalts}
 use Rattle.dr_plain_senders.specs.Meaning.Records.{published, sender_looked, SeesRoom}
 use Rattle.dr_plain_senders.specs.Meaning.Rule.{World, KeepsRule}
-use Rattle.dr_plain_senders.specs.Meaning.Steps.{Happens, sender_knows, sender_claims}
+use Rattle.dr_plain_senders.specs.Meaning.Steps.{Happens, PublishesOne, sender_knows, sender_claims}
 use Rattle.dr_plain_senders.specs.Meaning.Moments.{Runs}
 use Rattle.dr_plain_senders.proofs.Places.{word_at, is_halted_from}
-use Rattle.dr_plain_senders.proofs.Keeps.{keeps_step}
+use Rattle.dr_plain_senders.proofs.Keeps.{along_all, keeps_step}
 
 module _ {T : Type 0} where
   -- halted, with n sequences claimed
@@ -26,7 +25,7 @@ module _ {T : Type 0} where
   other_word w i v ne is = ap is_halted (get_or-set_other w.words i claim_word v 0 (λ (e : claim_word ≡ i). ne (sym e))) ∙ is
 
   -- an exchange finds another number than it expects
-  no_claim : (k : Shape) (w : World T) (p c m n : ℕ) (r : SenderRecord T) → SeesRoom k r c m → KeepsRule k w → HaltedAt n w
+  no_claim : (k : Shape T) (w : World T) (p c m n : ℕ) (r : SenderRecord T) → SeesRoom k r c m → KeepsRule k w → HaltedAt n w
       → HaltedAt n (if word_at w.words claim_word == c then sender_claims w p r c m else sender_knows w p
       (sender_looked r claim_word (word_at w.words claim_word)))
   no_claim k w p c m n r room K is =
@@ -37,19 +36,22 @@ module _ {T : Type 0} where
   same_stages : (stages : List (Stage T)) (s n : ℕ) (t : Stage T) → length stages ≡ n → length (set stages s t) ≡ n
   same_stages stages s n t e = length-set stages s t ∙ e
 
-  halted_more : (k : Shape) (w : World T) → KeepsRule k w
+  halted_more : (k : Shape T) (w : World T) → KeepsRule k w
       → is_halted (word_at (set w.words claim_word (halted_from (word_at w.words claim_word))) claim_word) ≡ true
   halted_more k w K =
       let wide = K.wide in ap is_halted (get_or-set_same w.words claim_word (halted_from (word_at w.words claim_word)) 0 (omega arith))
       ∙ is_halted_from (word_at w.words claim_word)
 
-  pub halted_step : (k : Shape) (s : Step T) (w u : World T) (n : ℕ) → Happens k s w u → KeepsRule k w → HaltedAt n w → HaltedAt n u
+  halted_one : (k : Shape T) (p n s : ℕ) (event : T) (w u : World T) → PublishesOne k p s event w u → KeepsRule k w → HaltedAt n w → HaltedAt n u
+  halted_one k p n s event w u H K is =
+      subst (HaltedAt n) (sym H.2.3.2)
+      (other_word w (mark_word k s) (flipped (word_at w.words (mark_word k s)) (mark_bit k s) 1) (λ e. omega arith) is.0, same_stages w.stages s n (published H.2.3.0 H.2.0) is.1)
+
+  pub halted_step : (k : Shape T) (s : Step T) (w u : World T) (n : ℕ) → Happens k s w u → KeepsRule k w → HaltedAt n w → HaltedAt n u
   halted_step k (SenderLooksAtClaims p) w u n H K is = subst (HaltedAt n) (sym H.2) is
   halted_step k (SenderLooksAtCount p f) w u n H K is = subst (HaltedAt n) (sym H.2.1) is
   halted_step k (SenderClaims p c m) w u n H K is = subst (HaltedAt n) (sym H.2.2) (no_claim k w p c m n H.0 H.2.1 K is)
-  halted_step k (SenderPublishes p s events) w u n H K is =
-      subst (HaltedAt n) (sym H.2.3.2)
-      (other_word w (mark_word k s) (entry_of k.size s) (λ e. omega arith) is.0, same_stages w.stages s n (published H.2.3.0 H.2.0) is.1)
+  halted_step k (SenderPublishes p s events) w u n H K is = along_all k p (HaltedAt n) (halted_one k p n) s events w u H.1 K is
   halted_step k (SenderLooksAtMark p s) w u n H K is = subst (HaltedAt n) (sym H.2) is
   halted_step k (SenderHalts p) w u n H K is = subst (HaltedAt n) (sym H.2) (halted_more k w K, is.1)
   halted_step k (ReceiverLooksAtClaims h) w u n H K is = subst (HaltedAt n) (sym H.2) is
@@ -58,6 +60,6 @@ module _ {T : Type 0} where
   halted_step k (ReceiverCompletes h m) w u n H K is = subst (HaltedAt n) (sym H.2.2) (other_word w (count_word h) m (λ e. omega arith) is.0, is.1)
   halted_step k HalterHalts w u n H K is = subst (HaltedAt n) (sym H) (halted_more k w K, is.1)
 
-  pub halted_runs : (k : Shape) (steps : List (Step T)) (es : Transcript T) (w u : World T) (n : ℕ) → Runs k steps es w u → KeepsRule k w → HaltedAt n w → HaltedAt n u
+  pub halted_runs : (k : Shape T) (steps : List (Step T)) (es : Transcript T) (w u : World T) (n : ℕ) → Runs k steps es w u → KeepsRule k w → HaltedAt n w → HaltedAt n u
   halted_runs k [] es w u n R K is = subst (HaltedAt n) R.1 is
   halted_runs k (s ∷ steps) es w u n R K is = halted_runs k steps R.1 R.0 u n R.4 (keeps_step k s w R.0 R.2 K) (halted_step k s w R.0 n R.2 K is)

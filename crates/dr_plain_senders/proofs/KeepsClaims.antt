@@ -6,7 +6,7 @@ use lib.ListN.{get_elem?}
 use Rattle.dr_runs.proofs.Elements.{at_below, each_set}
 use Rattle.dr_runs.proofs.Offers.{final_inside}
 use Rattle.dr_plain_senders.specs.Meaning.Shape.{Shape}
-use Rattle.dr_plain_senders.specs.Meaning.Words.{claim_word, claimed_in, is_halted, halted_from, halt_bit, count_word, mark_start, mark_word}
+use Rattle.dr_plain_senders.specs.Meaning.Words.{claim_word, claimed_in, is_halted, halted_from, halt_bit, count_word, mark_start, mark_word, is_there}
 use Rattle.dr_plain_senders.specs.declared.record.Stage.{Stage}
 use Rattle.dr_plain_senders.specs.declared.record.Own.{Own}
 use Rattle.dr_plain_senders.specs.declared.record.SenderRecord.{SenderRecord}
@@ -22,7 +22,7 @@ use Rattle.dr_plain_senders.proofs.Stays.{Lasts, out_lasts, room_stays, receiver
 
 module _ {T : Type 0} where
   -- a sender's record changes
-  sender_changes : (k : Shape) (w : World T) (p : ℕ) (r : SenderRecord T) → SenderKept k w.words w.stages p r → KeepsRule k w → KeepsRule k (sender_knows w p r)
+  sender_changes : (k : Shape T) (w : World T) (p : ℕ) (r : SenderRecord T) → SenderKept k w.words w.stages p r → KeepsRule k w → KeepsRule k (sender_knows w p r)
   sender_changes k w p r now K = record {
     shape = K.shape;
     wide = K.wide;
@@ -33,24 +33,23 @@ module _ {T : Type 0} where
     room = K.room;
     marks = K.marks;
     marked = K.marked;
-    exact = K.exact;
     sent = each_set (SenderKept k w.words w.stages) w.senders p r now (λ q x ne there. K.sent q x there);
     received = K.received;
     halter = K.halter;
   }
 
   -- a sender looks
-  pub keeps_sender_looks : (k : Shape) (w : World T) (p i : ℕ) (r : SenderRecord T) → i < mark_start k → get_elem? w.senders p ≡ some r → KeepsRule k w
+  pub keeps_sender_looks : (k : Shape T) (w : World T) (p i : ℕ) (r : SenderRecord T) → i < mark_start k → get_elem? w.senders p ≡ some r → KeepsRule k w
       → KeepsRule k (sender_knows w p (sender_looked r i (word_at w.words i)))
   keeps_sender_looks k w p i r low at K = let was = K.sent p r at in
       sender_changes k w p (sender_looked r i (word_at w.words i))
       (record { number = was.number; own = was.own; all = was.all; looks = past_more (mark_start k) w.words i (word_at w.words i) r.looks low (omega arith) was.looks }) K
 
   -- it looks at a mark
-  pub keeps_mark_found : (k : Shape) (w : World T) (p word found : ℕ) (r : SenderRecord T) → get_elem? w.senders p ≡ some r → KeepsRule k w
-      → KeepsRule k (sender_knows w p (mark_found r word found))
-  keeps_mark_found k w p word found r at K =
-      let was = K.sent p r at in sender_changes k w p (mark_found r word found) (record { number = was.number; own = was.own; all = was.all; looks = was.looks }) K
+  pub keeps_mark_found : (k : Shape T) (w : World T) (p s found : ℕ) (r : SenderRecord T) → get_elem? w.senders p ≡ some r → KeepsRule k w
+      → KeepsRule k (sender_knows w p (mark_found r s found))
+  keeps_mark_found k w p s found r at K =
+      let was = K.sent p r at in sender_changes k w p (mark_found r s found) (record { number = was.number; own = was.own; all = was.all; looks = was.looks }) K
 
   pub fresh_at : (p c n i : ℕ) (o : Own T) → get_elem? (fresh_own p c n) i ≡ some o → (i < n) × (record { sequence = c + i; stage = fresh_stage p } ≡ o)
   fresh_at p c zero i o at = absurd (some-ne-none o (sym at))
@@ -85,7 +84,7 @@ module _ {T : Type 0} where
       )
 
   -- a sender claims
-  pub keeps_claims : (k : Shape) (w : World T) (p c n : ℕ) (r : SenderRecord T) → get_elem? w.senders p ≡ some r → 0 < n → SeesRoom k r c n
+  pub keeps_claims : (k : Shape T) (w : World T) (p c n : ℕ) (r : SenderRecord T) → get_elem? w.senders p ≡ some r → 0 < n → SeesRoom k r c n
       → word_at w.words claim_word ≡ c → KeepsRule k w → KeepsRule k (sender_claims w p r c n)
   keeps_claims k w p c n r at some_one room found K =
       let was = K.sent p r at in let us = set w.words claim_word (c + n) in let new = replicate n (fresh_stage {T = T} p) in let more = w.stages ++ new in
@@ -110,9 +109,9 @@ module _ {T : Type 0} where
         limit = omega arith;
         room = λ f final. (let i = final_inside k.upstreams f final in let a = room.completed f final in
             let b = last_look_le (mark_start k) w.words 0 r.looks (count_word f) (omega arith) was.looks in let e = stays (count_word f) (omega arith) in omega arith);
-        marks = λ s le. out_lasts w.stages more lasts s (K.marks s (let e = stays (mark_word k s) (omega arith) in omega arith));
-        marked = λ s x. (let a = K.marked s (old_out s x) in let e = stays (mark_word k s) (omega arith) in omega arith);
-        exact = λ s x near. stays (mark_word k s) (omega arith) ∙ K.exact s (old_out s x) (omega arith);
+        marks = λ s free near there. out_lasts w.stages more lasts s
+            (K.marks s (λ z e. old_out z (free z e)) (omega arith) (ap (is_there k s) (sym (stays (mark_word k s) (omega arith))) ∙ there));
+        marked = λ s x near. ap (is_there k s) (stays (mark_word k s) (omega arith)) ∙ K.marked s (old_out s x) (omega arith);
         sent = each_set (SenderKept k us more) w.senders p (claimed_from r c n)
             (record {
               number = was.number;
@@ -143,7 +142,7 @@ module _ {T : Type 0} where
       }
 
   -- the highest bit of the claim word is set
-  halting : (k : Shape) (w : World T) (senders : List (SenderRecord T)) (halter : HalterRecord) → length senders ≡ k.senders
+  halting : (k : Shape T) (w : World T) (senders : List (SenderRecord T)) (halter : HalterRecord) → length senders ≡ k.senders
       → ((p : ℕ) (r : SenderRecord T) → get_elem? senders p ≡ some r → SenderKept k (halted_words w) w.stages p r) → ArePast k (halted_words w) halter.looks
       → KeepsRule k w → KeepsRule k (record w { words = halted_words w; senders = senders; halter = halter })
   halting k w senders halter count sent looks K =
@@ -159,9 +158,8 @@ module _ {T : Type 0} where
         claim = ap claimed_in here ∙ claimed_halted n ∙ K.claim;
         limit = K.limit;
         room = room_stays k w.words us (length w.stages) rises K.room;
-        marks = λ s le. K.marks s (let e = stays (mark_word k s) (omega arith) in omega arith);
-        marked = λ s x. (let a = K.marked s x in let e = stays (mark_word k s) (omega arith) in omega arith);
-        exact = λ s x near. stays (mark_word k s) (omega arith) ∙ K.exact s x near;
+        marks = λ s free near there. K.marks s free near (ap (is_there k s) (sym (stays (mark_word k s) (omega arith))) ∙ there);
+        marked = λ s x near. ap (is_there k s) (stays (mark_word k s) (omega arith)) ∙ K.marked s x near;
         sent = sent;
         received = λ h q there. (let old = K.received h q there in
             receiver_stays k w.words us w.stages w.stages h q K.shape.graph (handler_inside k w h q there K) (stays (count_word h) (omega arith)) rises
@@ -169,13 +167,13 @@ module _ {T : Type 0} where
         halter = looks;
       }
 
-  halt_rises : (k : Shape) (w : World T) → KeepsRule k w → Rises k w.words (halted_words w)
+  halt_rises : (k : Shape T) (w : World T) → KeepsRule k w → Rises k w.words (halted_words w)
   halt_rises k w K = let n = word_at w.words claim_word in let wide = K.wide in rises_set k w.words claim_word (halted_from n) (omega arith) (λ _. halted_rises n)
 
-  halt_here : (k : Shape) (w : World T) → KeepsRule k w → word_at (halted_words w) claim_word ≡ halted_from (word_at w.words claim_word)
+  halt_here : (k : Shape T) (w : World T) → KeepsRule k w → word_at (halted_words w) claim_word ≡ halted_from (word_at w.words claim_word)
   halt_here k w K = let n = word_at w.words claim_word in let wide = K.wide in get_or-set_same w.words claim_word (halted_from n) 0 (omega arith)
 
-  pub keeps_sender_halts : (k : Shape) (w : World T) (p : ℕ) (r : SenderRecord T) → get_elem? w.senders p ≡ some r → KeepsRule k w
+  pub keeps_sender_halts : (k : Shape T) (w : World T) (p : ℕ) (r : SenderRecord T) → get_elem? w.senders p ≡ some r → KeepsRule k w
       → KeepsRule k (record w { words = halted_words w; senders = set w.senders p (sender_looked r claim_word (halted_from (word_at w.words claim_word))) })
   keeps_sender_halts k w p r at K =
       let n = word_at w.words claim_word in let us = halted_words w in let was = K.sent p r at in let rises = halt_rises k w K in let here = halt_here k w K in
@@ -192,7 +190,7 @@ module _ {T : Type 0} where
       (λ q x ne there. sender_stays k w.words us w.stages w.stages q x rises (λ s t old _. old) (λ s t old _. old) (K.sent q x there)))
       (past_rises k w.words us w.halter.looks rises K.halter) K
 
-  pub keeps_halter_halts : (k : Shape) (w : World T) → KeepsRule k w
+  pub keeps_halter_halts : (k : Shape T) (w : World T) → KeepsRule k w
       → KeepsRule k (record w { words = halted_words w; halter = halter_halted w.halter (word_at w.words claim_word) })
   keeps_halter_halts k w K =
       let n = word_at w.words claim_word in let us = halted_words w in let rises = halt_rises k w K in let here = halt_here k w K in

@@ -10,10 +10,11 @@ use Rattle.dr_runs.specs.Looks.{look, last_look}
 use Rattle.dr_runs.proofs.Elements.{each_set}
 use Rattle.dr_runs.proofs.Looks.{last_look_more, last_look_else, past_more}
 use Rattle.dr_plain_senders.specs.Meaning.Shape.{Shape, handlers_of}
-use Rattle.dr_plain_senders.specs.Meaning.Words.{claim_word, claimed_in, is_halted, count_word, mark_start, mark_word}
+use Rattle.dr_plain_senders.specs.Meaning.Words.{claim_word, claimed_in, is_halted, count_word, mark_start, mark_word, is_there}
 use Rattle.dr_plain_senders.specs.declared.record.Lent.{Lent}
+use Rattle.dr_plain_senders.specs.declared.record.MarkLook.{MarkLook}
 use Rattle.dr_plain_senders.specs.declared.record.ReceiverRecord.{ReceiverRecord}
-use Rattle.dr_plain_senders.specs.Meaning.Records.{receiver_looked, tells_drained, claims_looked, taken_at_mark, mark_looked, taken_at_count, completed_to}
+use Rattle.dr_plain_senders.specs.Meaning.Records.{mark_look, receiver_looked, tells_drained, claims_looked, taken_at_mark, mark_looked, taken_at_count, completed_to}
 use Rattle.dr_plain_senders.specs.Meaning.Rule.{World, ArePast, IsOutWith, ReceiverKept, KeepsRule}
 use Rattle.dr_plain_senders.specs.Meaning.Steps.{receiver_knows, AreNext}
 use Rattle.dr_plain_senders.proofs.Places.{word_at, more_cases, Rises, rises_set, past_rises}
@@ -23,7 +24,7 @@ use Rattle.dr_plain_senders.proofs.Barriers.{Offers, offers_at_count, offers_at_
 
 module _ {T : Type 0} where
   -- a receiver's record changes
-  receiver_changes : (k : Shape) (w : World T) (h : ℕ) (r : ReceiverRecord T) → ReceiverKept k w.words w.stages h r → KeepsRule k w
+  receiver_changes : (k : Shape T) (w : World T) (h : ℕ) (r : ReceiverRecord T) → ReceiverKept k w.words w.stages h r → KeepsRule k w
       → KeepsRule k (receiver_knows w h r)
   receiver_changes k w h r now K = record {
     shape = K.shape;
@@ -35,20 +36,19 @@ module _ {T : Type 0} where
     room = K.room;
     marks = K.marks;
     marked = K.marked;
-    exact = K.exact;
     sent = K.sent;
     received = each_set (ReceiverKept k w.words w.stages) w.receivers h r now (λ j q ne there. K.received j q there);
     halter = K.halter;
   }
 
   -- a look that tells a receiver that the ring drained tells the truth
-  pub tells_truth : (k : Shape) (w : World T) (r : ReceiverRecord T) → tells_drained r (word_at w.words claim_word) ≡ true → KeepsRule k w
+  pub tells_truth : (k : Shape T) (w : World T) (r : ReceiverRecord T) → tells_drained r (word_at w.words claim_word) ≡ true → KeepsRule k w
       → (is_halted (word_at w.words claim_word) ≡ true) × (length w.stages ≡ length r.received)
   tells_truth k w r tells K =
       let n = word_at w.words claim_word in let both : (is_halted n ≡ true) × ((claimed_in n == length r.received) ≡ true) = and_parts _ _ tells in
       (both.0, sym K.claim ∙ eqb-true _ _ both.1)
 
-  pub keeps_claims_look : (k : Shape) (w : World T) (h : ℕ) (r : ReceiverRecord T) → get_elem? w.receivers h ≡ some r → KeepsRule k w
+  pub keeps_claims_look : (k : Shape T) (w : World T) (h : ℕ) (r : ReceiverRecord T) → get_elem? w.receivers h ≡ some r → KeepsRule k w
       → KeepsRule k (receiver_knows w h (claims_looked r (word_at w.words claim_word)))
   keeps_claims_look k w h r at K = let was = K.received h r at in let n = word_at w.words claim_word in receiver_changes k w h (claims_looked r n) (record {
     number = was.number;
@@ -65,7 +65,7 @@ module _ {T : Type 0} where
   }) K
 
   -- a receiver takes its next events
-  takes_kept : (k : Shape) (w : World T) (h n : ℕ) (r : ReceiverRecord T) (lents : List (Lent T)) (marks looks : List Look) → get_elem? w.receivers h ≡ some r
+  takes_kept : (k : Shape T) (w : World T) (h n : ℕ) (r : ReceiverRecord T) (lents : List (Lent T)) (marks : List MarkLook) (looks : List Look) → get_elem? w.receivers h ≡ some r
       → Offers k w h r n → AreNext w r n lents → ArePast k w.words looks → claimed_in (last_look 0 looks claim_word) ≡ claimed_in (last_look 0 r.looks claim_word) → KeepsRule k w
       → KeepsRule k (receiver_knows w h (record r { received = r.received ++ lents; marks = marks; looks = looks }))
   takes_kept k w h n r lents marks looks at O N past same K =
@@ -84,13 +84,13 @@ module _ {T : Type 0} where
         looks = past;
       }) K
 
-  pub keeps_mark_look : (k : Shape) (w : World T) (h room : ℕ) (r : ReceiverRecord T) (lents : List (Lent T)) → get_elem? w.receivers h ≡ some r → upstreams_of k.upstreams h ≡ []
+  pub keeps_mark_look : (k : Shape T) (w : World T) (h room : ℕ) (r : ReceiverRecord T) (lents : List (Lent T)) → get_elem? w.receivers h ≡ some r → upstreams_of k.upstreams h ≡ []
       → AreNext w r (taken_at_mark k r (word_at w.words (mark_word k (length r.received))) room) lents → KeepsRule k w
-      → KeepsRule k (receiver_knows w h (mark_looked k r (word_at w.words (mark_word k (length r.received))) lents))
+      → KeepsRule k (receiver_knows w h (mark_looked r (word_at w.words (mark_word k (length r.received))) lents))
   keeps_mark_look k w h room r lents at none N K = let found = word_at w.words (mark_word k (length r.received)) in
-      takes_kept k w h (taken_at_mark k r found room) r lents (r.marks ++ look (mark_word k (length r.received)) found ∷ []) r.looks at (offers_at_mark k w h room r none K) N (K.received h r at).looks refl K
+      takes_kept k w h (taken_at_mark k r found room) r lents (r.marks ++ mark_look (length r.received) found ∷ []) r.looks at (offers_at_mark k w h room r at none K) N (K.received h r at).looks refl K
 
-  pub keeps_count_look : (k : Shape) (w : World T) (h i room : ℕ) (r : ReceiverRecord T) (lents : List (Lent T)) → 0 < i → i < mark_start k → get_elem? w.receivers h ≡ some r
+  pub keeps_count_look : (k : Shape T) (w : World T) (h i room : ℕ) (r : ReceiverRecord T) (lents : List (Lent T)) → 0 < i → i < mark_start k → get_elem? w.receivers h ≡ some r
       → AreNext w r (taken_at_count k r i (word_at w.words i) room) lents → KeepsRule k w
       → KeepsRule k (receiver_knows w h (receiver_looked r i (word_at w.words i) lents))
   keeps_count_look k w h i room r lents pos low at N K = let found = word_at w.words i in let was = K.received h r at in
@@ -98,7 +98,7 @@ module _ {T : Type 0} where
       (past_more (mark_start k) w.words i found r.looks low (omega arith) was.looks)
       (ap claimed_in (last_look_else 0 r.looks i claim_word found (λ (e : i ≡ claim_word). omega arith))) K
 
-  pub keeps_completes : (k : Shape) (w : World T) (h n : ℕ) (r : ReceiverRecord T) → get_elem? w.receivers h ≡ some r → r.completed ≤ n → n ≤ length r.received
+  pub keeps_completes : (k : Shape T) (w : World T) (h n : ℕ) (r : ReceiverRecord T) → get_elem? w.receivers h ≡ some r → r.completed ≤ n → n ≤ length r.received
       → KeepsRule k w
       → KeepsRule k (record w { words = set w.words (count_word h) n; receivers = set w.receivers h (completed_to r n) })
   keeps_completes k w h n r at rise le K =
@@ -115,9 +115,8 @@ module _ {T : Type 0} where
         claim = ap claimed_in one ∙ K.claim;
         limit = K.limit;
         room = room_stays k w.words us (length w.stages) rises K.room;
-        marks = λ s low. K.marks s (let e = stays (mark_word k s) (λ e. omega arith) in omega arith);
-        marked = λ s x. (let a = K.marked s x in let e = stays (mark_word k s) (λ e. omega arith) in omega arith);
-        exact = λ s x near. stays (mark_word k s) (λ e. omega arith) ∙ K.exact s x near;
+        marks = λ s free near there. K.marks s free near (ap (is_there k s) (sym (stays (mark_word k s) (λ e. omega arith))) ∙ there);
+        marked = λ s x near. ap (is_there k s) (stays (mark_word k s) (λ e. omega arith)) ∙ K.marked s x near;
         sent = λ p q there. sender_stays k w.words us w.stages w.stages p q rises (λ s t x _. x) (λ s t x _. x) (K.sent p q there);
         received = each_set (ReceiverKept k us w.stages) w.receivers h (completed_to r n)
             (record {

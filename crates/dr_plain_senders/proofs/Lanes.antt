@@ -16,14 +16,14 @@ lanes_apart n h g x y lx ly ne e = elim (cases_lt h g) [
   | inr le ↦ (let lt : g < h = omega arith in let a = below_next n g h y lt ly in omega arith)
 ]
 
-pub inside_lanes : (k : Shape) (h s : ℕ) → 0 < k.size → h < lanes_of k → slot_of k h s < slots_of k
+pub inside_lanes : {T : Type 0} (k : Shape T) (h s : ℕ) → 0 < k.size → h < lanes_of k → slot_of k h s < slots_of k
 inside_lanes k h s some_slot lt = below_next k.size h (lanes_of k) (cell_of k s) lt (mod-lt s some_slot)
 
-pub other_lane : (k : Shape) (h g a b : ℕ) → 0 < k.size → h ≢ g → slot_of k h a ≢ slot_of k g b
+pub other_lane : {T : Type 0} (k : Shape T) (h g a b : ℕ) → 0 < k.size → h ≢ g → slot_of k h a ≢ slot_of k g b
 other_lane k h g a b some_slot ne = lanes_apart k.size h g (cell_of k a) (cell_of k b) (mod-lt a some_slot) (mod-lt b some_slot) ne
 
 -- two lanes, or two sequences less than a round apart
-pub slots_apart : (k : Shape) (h g a b : ℕ) → 0 < k.size → a < b + k.size → b < a + k.size → (h ≢ g) ⊎ (a ≢ b) → slot_of k h a ≢ slot_of k g b
+pub slots_apart : {T : Type 0} (k : Shape T) (h g a b : ℕ) → 0 < k.size → a < b + k.size → b < a + k.size → (h ≢ g) ⊎ (a ≢ b) → slot_of k h a ≢ slot_of k g b
 slots_apart k h g a b some_slot down up ne e =
     elim (cases_eq h g) [
       | inl same ↦ elim ne [
@@ -35,8 +35,8 @@ slots_apart k h g a b some_slot down up ne e =
     ]
 
 -- a round later a sequence has the same cell, and the same slots
-pub cell_later : (k : Shape) (s : ℕ) → cell_of k (k.size + s) ≡ cell_of k s
+pub cell_later : {T : Type 0} (k : Shape T) (s : ℕ) → cell_of k (k.size + s) ≡ cell_of k s
 cell_later k s = add-mod_left k.size s
 
-pub slot_later : (k : Shape) (h s : ℕ) → slot_of k h (k.size + s) ≡ slot_of k h s
+pub slot_later : {T : Type 0} (k : Shape T) (h s : ℕ) → slot_of k h (k.size + s) ≡ slot_of k h s
 slot_later k h s = ap (λ (c : ℕ). h * k.size + c) (cell_later k s)

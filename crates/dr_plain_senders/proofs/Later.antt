@@ -2,14 +2,12 @@
 use Rattle.std.proofs.Common.{◌≡◌, ℕ, suc, ◌+◌, ◌-◌, ◌<◌, ◌≤◌, ◌⊎◌, inl, inr, min, Bool, true, false, ◌==◌, if◌then◌else◌, List, [], ◌∷◌, ◌++◌, length, set}
 use Rattle.std.proofs.Common.{sym, refl, ap, ◌∙◌, subst, arith, append_assoc}
 use Rattle.std.specs.Prelude.{All, Contains, is_some}
-use Rattle.std.proofs.lemmas.Bool.{cases_Bool, cases_eq, cases_lt}
-use Rattle.std.proofs.lemmas.List.{append-nil, append_cancel_left, length-append, get_or_past}
+use Rattle.std.proofs.lemmas.Bool.{cases_Bool, cases_eq, cases_lt, both_ways}
+use Rattle.std.proofs.lemmas.List.{append-nil, append_cancel_left, get_or_past}
 use Rattle.std.proofs.lemmas.List.Elements.{All-append, All-nil, All-cons}
 use mathlib.Core.Option.{some, some-injective}
 use lib.ListN.{get_elem?}
 use Rattle.atomic_table.proofs.Lists.{set_here, set_else}
-use Rattle.dr_seq.specs.Rounds.{entry_of}
-use Rattle.dr_seq.proofs.Apart.{slots_differ}
 use Rattle.dr_graph.specs.Meaning.Graph.{least_of, upstreams_of}
 use Rattle.dr_meaning.specs.declared.command.Polled.{Polled}
 use Rattle.dr_meaning.specs.declared.command.Polled.TheVariants.{Batch, Drained, Gating, Idle}
@@ -18,19 +16,20 @@ use Rattle.dr_meaning.specs.Meaning.Transcript.{Transcript}
 use Rattle.dr_runs.specs.declared.look.Look.{Look}
 use Rattle.dr_runs.specs.Looks.{look, offered_by}
 use Rattle.dr_runs.specs.Polls.{handed}
-use Rattle.dr_runs.proofs.Elements.{there, at_below, value_at, contains_none}
+use Rattle.dr_runs.proofs.Elements.{there, at_below, value_at}
 use Rattle.dr_plain_senders.specs.Meaning.Shape.{Shape, handlers_of, ring_setup}
-use Rattle.dr_plain_senders.specs.Meaning.Words.{claim_word, claimed_in, count_word, mark_word}
+use Rattle.dr_plain_senders.specs.Meaning.Words.{claim_word, claimed_in, count_word, mark_word, in_word, is_there, marked_from}
 use Rattle.dr_plain_senders.specs.declared.record.Lent.{Lent}
+use Rattle.dr_plain_senders.specs.declared.record.MarkLook.{MarkLook}
 use Rattle.dr_plain_senders.specs.declared.record.Stage.{Stage}
 use Rattle.dr_plain_senders.specs.declared.record.SenderRecord.{SenderRecord}
 use Rattle.dr_plain_senders.specs.declared.record.ReceiverRecord.{ReceiverRecord}
 use Rattle.dr_plain_senders.specs.declared.record.Step.{Step}
 use Rattle.dr_plain_senders.specs.declared.record.Step.TheVariants.{SenderLooksAtClaims, SenderLooksAtCount, SenderClaims, SenderPublishes, SenderLooksAtMark, SenderHalts}
 use Rattle.dr_plain_senders.specs.declared.record.Step.TheVariants.{ReceiverLooksAtClaims, ReceiverLooksAtMark, ReceiverLooksAtCount, ReceiverCompletes, HalterHalts}
-use Rattle.dr_plain_senders.specs.Meaning.Records.{fresh_stage, is_published, sender_looked, receiver_looked, claims_looked, is_marked_next, taken_at_mark, mark_looked, completed_to}
+use Rattle.dr_plain_senders.specs.Meaning.Records.{fresh_stage, is_published, sender_looked, receiver_looked, claims_looked, mark_look, mark_looked, completed_to}
 use Rattle.dr_plain_senders.specs.Meaning.Rule.{World, IsOut, KeepsRule}
-use Rattle.dr_plain_senders.specs.Meaning.Steps.{Happens, AreNext, sender_knows, sender_claims}
+use Rattle.dr_plain_senders.specs.Meaning.Steps.{Happens, sender_knows, sender_claims}
 use Rattle.dr_plain_senders.specs.Meaning.Moments.{Runs, stage_at, picture_of}
 use Rattle.dr_plain_senders.specs.Calls.Ends.{count_looks, mark_looks}
 use Rattle.dr_plain_senders.specs.Calls.Receiving.{ups_of, WalksTo, PollLooks, offer, Answers}
@@ -43,26 +42,10 @@ use Rattle.dr_plain_senders.proofs.Keeps.{keeps_step, keeps_runs}
 use Rattle.dr_plain_senders.proofs.Pictures.{count_at, counts_of, takens, halted}
 use Rattle.dr_plain_senders.proofs.Rising.{Rose, rose_step, rose_runs}
 use Rattle.dr_plain_senders.proofs.Answering.{walks_low}
+use Rattle.dr_plain_senders.proofs.Bits.{same_word, run_stops}
+use Rattle.dr_plain_senders.proofs.Told.{same_receivers}
 
--- the mark of a sequence has a word of its own, but where there is one cell alone
-same_mark : (k : Shape) (s : ℕ) → mark_word k (s + 1) ≡ mark_word k s → k.size ≤ 1
-same_mark k s same = elim (cases_lt 1 k.size) [
-  | inl more ↦ absurd (slots_differ k.size (s + 1) s (λ (e : s + 1 ≡ s). omega arith) (omega arith) (omega arith) (omega arith))
-  | inr few ↦ few
-]
-
--- one look at a mark takes one event at most
-one_at_most : (b : Bool) (room : ℕ) → (if b then min room 1 else 0) ≤ 1
-one_at_most true room = let few : min room 1 ≤ 1 = omega arith in few
-one_at_most false room = let few : 0 ≤ 1 = omega arith in few
-
-none_or_one : (s n m : ℕ) → m ≡ s + n → n ≤ 1 → (m ≡ s) ⊎ (m ≡ s + 1)
-none_or_one s n m is few = elim (cases_lt 0 n) [
-  | inl one ↦ inr (omega arith)
-  | inr none ↦ inl (omega arith)
-]
-
--- as much as was there is handed over: up to what is claimed or there is room for, up to what was not published, or with one cell alone
+-- as much as was there is handed over: up to what is claimed or there is room for, or up to what was not published
 far_enough : (front stages claimed s room upto : ℕ) → front ≤ stages → stages ≤ claimed → min claimed (s + room + 1) ≤ upto
     → min (front - s) room ≤ min (upto - s) room
 far_enough front stages claimed s room upto within all far = omega arith
@@ -72,10 +55,6 @@ no_more n m s room le = omega arith
 
 up_to : (a b c : ℕ) → a ≤ b → b ≤ c → a ≤ c
 up_to a b c low high = omega arith
-
-one_alone : (front n size done s room upto : ℕ) → front ≤ n → n ≤ size + done → size ≤ 1 → done ≤ s → s < upto
-    → min (front - s) room ≤ min (upto - s) room
-one_alone front n size done s room upto within round few took on = omega arith
 
 module _ {T : Type 0} where
   -- a sequence that the picture has as published is so
@@ -90,44 +69,39 @@ module _ {T : Type 0} where
   ]
 
   -- what a look found was no more before
-  abbrev FoundLater : Shape → World T → Look → Type 0
+  abbrev FoundLater : Shape T → World T → Look → Type 0
   FoundLater k w x =
       (x.word ≡ claim_word → length w.stages ≤ claimed_in x.value)
       × ((f : ℕ) → f < handlers_of k → x.word ≡ count_word f → word_at w.words (count_word f) ≤ x.value)
 
-  -- a look at the mark of a sequence: it is of the sequence where that was published, and none beyond its round was claimed
-  abbrev IsMarkOf : Shape → List (Stage T) → ℕ → ℕ → Look → Type 0
-  IsMarkOf k stages n s x = (x.word ≡ mark_word k s) × (IsOut stages s → n ≤ s + k.size → x.value ≡ entry_of k.size s)
-
-  -- each look is at the mark of the event that is next then, from the sequence s on up to t
-  abbrev AreMarks : Shape → List (Stage T) → ℕ → ℕ → List Look → ℕ → Type 0
-  AreMarks k stages n s [] t = t ≡ s
-  AreMarks k stages n s (x ∷ xs) t = IsMarkOf k stages n s x × (AreMarks k stages n s xs t ⊎ AreMarks k stages n (s + 1) xs t)
+  -- a look at a mark: those of the sequences from there on in its word are there where these were published, and none beyond their round was claimed
+  abbrev IsMarkOf : Shape T → List (Stage T) → ℕ → MarkLook → Type 0
+  IsMarkOf k stages n x =
+      (i : ℕ) → i < in_word k x.sequence → IsOut stages (x.sequence + i) → n ≤ x.sequence + i + k.size → is_there k (x.sequence + i) x.found ≡ true
 
   -- the receiver h has looked since, and found it so each time
-  record SawLater (k : Shape) (w : World T) (n h : ℕ) (r r' : ReceiverRecord T) : Type 0 where
+  record SawLater (k : Shape T) (w : World T) (n h : ℕ) (r r' : ReceiverRecord T) : Type 0 where
     xs : List Look
     looks : r'.looks ≡ r.looks ++ xs
     found : All (FoundLater k w) xs
-    ms : List Look
+    ms : List MarkLook
     marks : r'.marks ≡ r.marks ++ ms
-    are : upstreams_of k.upstreams h ≡ [] → AreMarks k w.stages n (length r.received) ms (length r'.received)
+    are : All (IsMarkOf k w.stages n) ms
 
-  nothing_seen : (k : Shape) (w : World T) (n h : ℕ) (r r' : ReceiverRecord T) → r'.looks ≡ r.looks → r'.marks ≡ r.marks → r'.received ≡ r.received
-      → SawLater k w n h r r'
-  nothing_seen k w n h r r' same marked taken = record {
+  nothing_seen : (k : Shape T) (w : World T) (n h : ℕ) (r r' : ReceiverRecord T) → r'.looks ≡ r.looks → r'.marks ≡ r.marks → SawLater k w n h r r'
+  nothing_seen k w n h r r' same marked = record {
     xs = [];
     looks = same ∙ sym (append-nil r.looks);
     found = All-nil (FoundLater k w);
     ms = [];
     marks = marked ∙ sym (append-nil r.marks);
-    are = λ none. ap length taken;
+    are = All-nil (IsMarkOf k w.stages n);
   }
 
   -- a look finds the word as it is
-  one_seen : (k : Shape) (w : World T) (n h : ℕ) (r r' : ReceiverRecord T) (i : ℕ) → KeepsRule k w
-      → r'.looks ≡ r.looks ++ look i (word_at w.words i) ∷ [] → r'.marks ≡ r.marks → (upstreams_of k.upstreams h ≡ [] → length r'.received ≡ length r.received) → SawLater k w n h r r'
-  one_seen k w n h r r' i K same marked taken = record {
+  one_seen : (k : Shape T) (w : World T) (n h : ℕ) (r r' : ReceiverRecord T) (i : ℕ) → KeepsRule k w
+      → r'.looks ≡ r.looks ++ look i (word_at w.words i) ∷ [] → r'.marks ≡ r.marks → SawLater k w n h r r'
+  one_seen k w n h r r' i K same marked = record {
     xs = look i (word_at w.words i) ∷ [];
     looks = same;
     found = All-cons (FoundLater k w) (look i (word_at w.words i)) [] (
@@ -137,35 +111,33 @@ module _ {T : Type 0} where
         (All-nil (FoundLater k w));
     ms = [];
     marks = marked ∙ sym (append-nil r.marks);
-    are = taken;
+    are = All-nil (IsMarkOf k w.stages n);
   }
 
   -- and so does a look at a mark
-  mark_seen : (k : Shape) (w : World T) (n h room : ℕ) (r : ReceiverRecord T) (lents : List (Lent T)) → KeepsRule k w → length w.stages ≤ n
-      → AreNext w r (taken_at_mark k r (word_at w.words (mark_word k (length r.received))) room) lents
-      → SawLater k w n h r (mark_looked k r (word_at w.words (mark_word k (length r.received))) lents)
-  mark_seen k w n h room r lents K few N =
-      let s = length r.received in let found = word_at w.words (mark_word k s) in
-      let count : length lents ≡ (if is_marked_next k r found then min room 1 else 0) = N.count in
-      let one : length lents ≤ 1 = subst (λ (m : ℕ). m ≤ 1) (sym count) (one_at_most (is_marked_next k r found) room) in
-      let longer : length (r.received ++ lents) ≡ s + length lents = length-append r.received lents in record {
+  mark_seen : (k : Shape T) (w : World T) (n h : ℕ) (r : ReceiverRecord T) (lents : List (Lent T)) → KeepsRule k w → length w.stages ≤ n
+      → SawLater k w n h r (mark_looked r (word_at w.words (mark_word k (length r.received))) lents)
+  mark_seen k w n h r lents K few =
+      let s = length r.received in let found = word_at w.words (mark_word k s) in record {
         xs = [];
         looks = sym (append-nil r.looks);
         found = All-nil (FoundLater k w);
-        ms = look (mark_word k s) found ∷ [];
+        ms = mark_look s found ∷ [];
         marks = refl;
-        are = λ none. ((refl, (λ out near. K.exact s out (omega arith))), none_or_one s (length lents) (length (r.received ++ lents)) longer one);
+        are = All-cons (IsMarkOf k w.stages n) (mark_look s found) []
+            (λ i lt out near. ap (λ (j : ℕ). is_there k (s + i) (word_at w.words j)) (sym (same_word k s i lt)) ∙ K.marked (s + i) out (omega arith))
+            (All-nil (IsMarkOf k w.stages n));
       }
 
   -- the receiver h stands there, and has looked since
-  abbrev HasSeen : Shape → World T → ℕ → ℕ → ReceiverRecord T → List (ReceiverRecord T) → Type 0
+  abbrev HasSeen : Shape T → World T → ℕ → ℕ → ReceiverRecord T → List (ReceiverRecord T) → Type 0
   HasSeen k w n h r rs = (r' : ReceiverRecord T) × (get_elem? rs h ≡ some r') × SawLater k w n h r r'
 
-  stays : (k : Shape) (w : World T) (n h : ℕ) (r : ReceiverRecord T) → get_elem? w.receivers h ≡ some r → HasSeen k w n h r w.receivers
-  stays k w n h r at = (r, at, nothing_seen k w n h r r refl refl refl)
+  stays : (k : Shape T) (w : World T) (n h : ℕ) (r : ReceiverRecord T) → get_elem? w.receivers h ≡ some r → HasSeen k w n h r w.receivers
+  stays k w n h r at = (r, at, nothing_seen k w n h r r refl refl)
 
   -- the receiver g changes
-  changes : (k : Shape) (w : World T) (n h g : ℕ) (r q q' : ReceiverRecord T) → get_elem? w.receivers h ≡ some r → get_elem? w.receivers g ≡ some q
+  changes : (k : Shape T) (w : World T) (n h g : ℕ) (r q q' : ReceiverRecord T) → get_elem? w.receivers h ≡ some r → get_elem? w.receivers g ≡ some q
       → SawLater k w n g q q' → HasSeen k w n h r (set w.receivers g q')
   changes k w n h g r q q' at there_is saw =
       elim (cases_eq h g) [
@@ -175,84 +147,64 @@ module _ {T : Type 0} where
               subst (λ (j : ℕ). get_elem? (set w.receivers g q') j ≡ some q') (sym same) (set_here w.receivers g q' (at_below w.receivers g q there_is)),
               subst (λ (j : ℕ). SawLater k w n j r q') (sym same) (subst (λ (x : ReceiverRecord T). SawLater k w n g x q') is saw),
             ))
-        | inr ne ↦ (r, set_else w.receivers g h q' ne ∙ at, nothing_seen k w n h r r refl refl refl)
+        | inr ne ↦ (r, set_else w.receivers g h q' ne ∙ at, nothing_seen k w n h r r refl refl)
       ]
 
-  abbrev Stood : Shape → World T → ℕ → ℕ → ReceiverRecord T → World T → Type 0
+  abbrev Stood : Shape T → World T → ℕ → ℕ → ReceiverRecord T → World T → Type 0
   Stood k w n h r u = HasSeen k w n h r u.receivers
 
-  claims_stand : (k : Shape) (w : World T) (n h p c m : ℕ) (q : SenderRecord T) (r : ReceiverRecord T) (b : Bool) → get_elem? w.receivers h ≡ some r
+  claims_stand : (k : Shape T) (w : World T) (n h p c m : ℕ) (q : SenderRecord T) (r : ReceiverRecord T) (b : Bool) → get_elem? w.receivers h ≡ some r
       → Stood k w n h r (if b then sender_claims w p q c m else sender_knows w p (sender_looked q claim_word (word_at w.words claim_word)))
   claims_stand k w n h p c m q r true at = stays k w n h r at
   claims_stand k w n h p c m q r false at = stays k w n h r at
 
-  seen_step : (k : Shape) (s : Step T) (w u : World T) (n h : ℕ) (r : ReceiverRecord T) → length w.stages ≤ n → Happens k s w u → KeepsRule k w
+  seen_step : (k : Shape T) (s : Step T) (w u : World T) (n h : ℕ) (r : ReceiverRecord T) → length w.stages ≤ n → Happens k s w u → KeepsRule k w
       → get_elem? w.receivers h ≡ some r → Stood k w n h r u
   seen_step k (SenderLooksAtClaims p) w u n h r few H K at = subst (Stood k w n h r) (sym H.2) (stays k w n h r at)
   seen_step k (SenderLooksAtCount p f) w u n h r few H K at = subst (Stood k w n h r) (sym H.2.1) (stays k w n h r at)
   seen_step k (SenderClaims p c m) w u n h r few H K at =
       subst (Stood k w n h r) (sym H.2.2) (claims_stand k w n h p c m H.0 r (word_at w.words claim_word == c) at)
-  seen_step k (SenderPublishes p s events) w u n h r few H K at = subst (Stood k w n h r) (sym H.2.3.2) (stays k w n h r at)
+  seen_step k (SenderPublishes p s events) w u n h r few H K at =
+      subst (λ (rs : List (ReceiverRecord T)). HasSeen k w n h r rs) (sym (same_receivers k p s events w u H.1)) (stays k w n h r at)
   seen_step k (SenderLooksAtMark p s) w u n h r few H K at = subst (Stood k w n h r) (sym H.2) (stays k w n h r at)
   seen_step k (SenderHalts p) w u n h r few H K at = subst (Stood k w n h r) (sym H.2) (stays k w n h r at)
   seen_step k (ReceiverLooksAtClaims g) w u n h r few H K at =
       let q' = claims_looked H.0 (word_at w.words claim_word) in
-      subst (Stood k w n h r) (sym H.2) (changes k w n h g r H.0 q' at H.1 (one_seen k w n g H.0 q' claim_word K refl refl (λ none. refl)))
+      subst (Stood k w n h r) (sym H.2) (changes k w n h g r H.0 q' at H.1 (one_seen k w n g H.0 q' claim_word K refl refl))
   seen_step k (ReceiverLooksAtMark g room) w u n h r few H K at =
       subst (Stood k w n h r) (sym H.2.3)
-      (changes k w n h g r H.0 (mark_looked k H.0 (word_at w.words (mark_word k (length H.0.received))) H.2.1) at H.1
-      (mark_seen k w n g room H.0 H.2.1 K few H.2.2))
+      (changes k w n h g r H.0 (mark_looked H.0 (word_at w.words (mark_word k (length H.0.received))) H.2.1) at H.1
+      (mark_seen k w n g H.0 H.2.1 K few))
   seen_step k (ReceiverLooksAtCount g c room) w u n h r few H K at =
       let q' = receiver_looked H.0 (count_word c) (word_at w.words (count_word c)) H.2.1 in
       subst (Stood k w n h r) (sym H.2.3)
-      (changes k w n h g r H.0 q' at H.1 (one_seen k w n g H.0 q' (count_word c) K refl refl
-      (λ none. absurd (contains_none c (subst (λ (ups : List ℕ). Contains ups c) none H.2.0)))))
+      (changes k w n h g r H.0 q' at H.1 (one_seen k w n g H.0 q' (count_word c) K refl refl))
   seen_step k (ReceiverCompletes g m) w u n h r few H K at =
-      let q' = completed_to H.0 m in subst (Stood k w n h r) (sym H.2.2) (changes k w n h g r H.0 q' at H.1 (nothing_seen k w n g H.0 q' refl refl refl))
+      let q' = completed_to H.0 m in subst (Stood k w n h r) (sym H.2.2) (changes k w n h g r H.0 q' at H.1 (nothing_seen k w n g H.0 q' refl refl))
   seen_step k HalterHalts w u n h r few H K at = subst (Stood k w n h r) (sym H) (stays k w n h r at)
 
   -- what was found after a later moment was found after an earlier one
-  earlier_looks : (k : Shape) (w u : World T) (xs : List Look) → Rose k w u → All (FoundLater k u) xs → All (FoundLater k w) xs
+  earlier_looks : (k : Shape T) (w u : World T) (xs : List Look) → Rose k w u → All (FoundLater k u) xs → All (FoundLater k w) xs
   earlier_looks k w u xs rose all i d lt = (
     (λ e. let a = (all i d lt).0 e in let b = rose.claimed in omega arith),
     (λ f inside e. let a = (all i d lt).1 f inside e in let b = rose.words (count_word f) (omega arith) in omega arith),
   )
 
-  earlier_marks : (k : Shape) (w u : World T) (n s : ℕ) (ms : List Look) (t : ℕ) → Rose k w u → AreMarks k u.stages n s ms t
-      → AreMarks k w.stages n s ms t
-  earlier_marks k w u n s [] t rose all = all
-  earlier_marks k w u n s (m ∷ ms) t rose all = (
-    (all.0.0, (λ out near. all.0.1 (out_lasts w.stages u.stages rose.lasts s out) near)),
-    elim all.1 [
-      | inl still ↦ inl (earlier_marks k w u n s ms t rose still)
-      | inr next ↦ inr (earlier_marks k w u n (s + 1) ms t rose next)
-    ],
-  )
+  earlier_marks : (k : Shape T) (w u : World T) (n : ℕ) (ms : List MarkLook) → Rose k w u → All (IsMarkOf k u.stages n) ms → All (IsMarkOf k w.stages n) ms
+  earlier_marks k w u n ms rose all i d lt j within out near = all i d lt j within (out_lasts w.stages u.stages rose.lasts _ out) near
 
-  marks_on : (k : Shape) (stages : List (Stage T)) (n s : ℕ) (ms ns : List Look) (t end : ℕ) → AreMarks k stages n s ms t → AreMarks k stages n t ns end
-      → AreMarks k stages n s (ms ++ ns) end
-  marks_on k stages n s [] ns t end A B = subst (λ (q : ℕ). AreMarks k stages n q ns end) A B
-  marks_on k stages n s (m ∷ ms) ns t end A B = (
-    A.0,
-    elim A.1 [
-      | inl still ↦ inl (marks_on k stages n s ms ns t end still B)
-      | inr next ↦ inr (marks_on k stages n (s + 1) ms ns t end next B)
-    ],
-  )
-
-  saw_on : (k : Shape) (w v : World T) (n h : ℕ) (r q r' : ReceiverRecord T) → Rose k w v → SawLater k w n h r q → SawLater k v n h q r'
+  saw_on : (k : Shape T) (w v : World T) (n h : ℕ) (r q r' : ReceiverRecord T) → Rose k w v → SawLater k w n h r q → SawLater k v n h q r'
       → SawLater k w n h r r'
   saw_on k w v n h r q r' rose A B = record {
     xs = A.xs ++ B.xs;
     looks = B.looks ∙ ap (λ (ys : List Look). ys ++ B.xs) A.looks ∙ append_assoc r.looks A.xs B.xs;
     found = All-append (FoundLater k w) A.xs B.xs A.found (earlier_looks k w v B.xs rose B.found);
     ms = A.ms ++ B.ms;
-    marks = B.marks ∙ ap (λ (ys : List Look). ys ++ B.ms) A.marks ∙ append_assoc r.marks A.ms B.ms;
-    are = λ none. marks_on k w.stages n (length r.received) A.ms B.ms (length q.received) (length r'.received) (A.are none)
-        (earlier_marks k w v n (length q.received) B.ms (length r'.received) rose (B.are none));
+    marks = B.marks ∙ ap (λ (ys : List MarkLook). ys ++ B.ms) A.marks ∙ append_assoc r.marks A.ms B.ms;
+    are = All-append (IsMarkOf k w.stages n) A.ms B.ms A.are (earlier_marks k w v n B.ms rose B.are);
   }
 
-  seen_runs : (k : Shape) (steps : List (Step T)) (es : Transcript T) (w u : World T) (n h : ℕ) (r : ReceiverRecord T) → length u.stages ≤ n
+  seen_runs : (k : Shape T) (steps : List (Step T)) (es : Transcript T) (w u : World T) (n h : ℕ) (r : ReceiverRecord T) → length u.stages ≤ n
       → Runs k steps es w u → KeepsRule k w → get_elem? w.receivers h ≡ some r → Stood k w n h r u
   seen_runs k [] es w u n h r few R K at = subst (Stood k w n h r) R.1 (stays k w n h r at)
   seen_runs k (s ∷ steps) es w u n h r few R K at =
@@ -260,37 +212,23 @@ module _ {T : Type 0} where
       let one = seen_step k s w R.0 n h r (let a = rose.claimed in let b = on.claimed in omega arith) R.2 K at in
       let rest = seen_runs k steps R.1 R.0 u n h one.0 few R.4 next one.1 in (rest.0, rest.1, saw_on k w R.0 n h r one.0 rest.0 rose one.2 rest.2)
 
-  -- how far a walk goes: to its end, or to what was not published, or past one event where there is one cell alone
-  abbrev GoesFar : Shape → List (Stage T) → ℕ → ℕ → ℕ → ℕ → Type 0
-  GoesFar k stages n end s upto = (end ≤ upto) ⊎ ((n ≤ upto + k.size → IsOut stages upto → ⊥) ⊎ ((k.size ≤ 1) × (s < upto)))
+  -- how far a walk goes: to its end, or to what was not published
+  abbrev GoesFar : Shape T → List (Stage T) → ℕ → ℕ → ℕ → Type 0
+  GoesFar k stages n end upto = (end ≤ upto) ⊎ (n ≤ upto + k.size → IsOut stages upto → ⊥)
 
-  -- where the first look took nothing, though the mark was there
-  walk_stayed : (k : Shape) (stages : List (Stage T)) (n end s : ℕ) (ms : List ℕ) (upto t : ℕ) → AreMarks k stages n s (mark_looks k (s + 1) ms) t
-      → WalksTo k.size end (s + 1) ms upto → GoesFar k stages n end s upto
-  walk_stayed k stages n end s [] upto t A W = inl (let a = W.0 in let b = W.1 in omega arith)
-  walk_stayed k stages n end s (m ∷ ms) upto t A W =
-      inr (inr (same_mark k s A.0.0, (let low = walks_low k.size end (s + 1) upto (m ∷ ms) W in omega arith)))
-
-  walk_far : (k : Shape) (stages : List (Stage T)) (n end s : ℕ) (ms : List ℕ) (upto t : ℕ) → AreMarks k stages n s (mark_looks k s ms) t
-      → WalksTo k.size end s ms upto → GoesFar k stages n end s upto
-  walk_far k stages n end s [] upto t A W = inl (let a = W.0 in let b = W.1 in omega arith)
-  walk_far k stages n end s (m ∷ ms) upto t A W =
+  walk_far : (k : Shape T) (stages : List (Stage T)) (n end s : ℕ) (ms : List ℕ) (upto : ℕ) → All (IsMarkOf k stages n) (mark_looks k s ms)
+      → WalksTo k end s ms upto → GoesFar k stages n end upto
+  walk_far k stages n end s [] upto A W = inl (let a = W.0 in let b = W.1 in omega arith)
+  walk_far k stages n end s (m ∷ ms) upto A W =
       elim W.1 [
-        | inl hit ↦ elim A.1 [
-          | inl still ↦ walk_stayed k stages n end s ms upto t still hit.1
-          | inr next ↦ elim (walk_far k stages n end (s + 1) ms upto t next hit.1) [
-            | inl far ↦ inl far
-            | inr rest ↦ elim rest [
-              | inl never ↦ inr (inl never)
-              | inr alone ↦ inr (inr (alone.0, (let low = alone.1 in omega arith)))
-            ]
-          ]
-        ]
-        | inr stop ↦ inr (inl (λ near out. let at = stop.2 in stop.0 (A.0.1 (subst (IsOut stages) at out) (omega arith))))
+        | inl hit ↦ walk_far k stages n end (s + marked_from k s m) ms upto (λ i d lt. A (suc i) d (omega arith)) hit.1
+        | inr stop ↦ inr (λ near out. (let at = stop.2 in let run = marked_from k s m in
+            both_ways (is_there k (s + run) m) (run_stops k s m (in_word k s) stop.0)
+            (A 0 (mark_look 0 0) (omega arith) run stop.0 (subst (IsOut stages) at out) (omega arith))))
       ]
 
   -- the counts that were found are no less than what was completed
-  least_later : (k : Shape) (w : World T) (ups counts : List ℕ) → length counts ≡ length ups → ((u : ℕ) → Contains ups u → u < handlers_of k)
+  least_later : (k : Shape T) (w : World T) (ups counts : List ℕ) → length counts ≡ length ups → ((u : ℕ) → Contains ups u → u < handlers_of k)
       → All (FoundLater k w) (count_looks ups counts) → least_completed (picture_of k w) ups ≤ least_of counts
   least_later k w [] [] len inside all = omega arith
   least_later k w [] (n ∷ ns) len inside all = absurd (omega arith)
@@ -307,7 +245,7 @@ module _ {T : Type 0} where
       (λ i d l. all (suc i) d (omega arith)) in omega arith
 
   -- a barrier offers no less than it did, as far as there is room
-  offered_later : (k : Shape) (w : World T) (s room upto : ℕ) (ups counts : List ℕ) → length counts ≡ length ups
+  offered_later : (k : Shape T) (w : World T) (s room upto : ℕ) (ups counts : List ℕ) → length counts ≡ length ups
       → ((u : ℕ) → Contains ups u → u < handlers_of k) → All (FoundLater k w) (count_looks ups counts)
       → (ups ≡ [] → min (front (picture_of k w) - s) room ≤ min (upto - s) room)
       → min (offered (picture_of k w) ups - s) room ≤ min (offered_by upto counts - s) room
@@ -318,13 +256,13 @@ module _ {T : Type 0} where
       no_more (offered (picture_of k w) (u ∷ ups)) (offered_by upto (n ∷ ns)) s room (least_later k w (u ∷ ups) (n ∷ ns) len inside all)
 
   -- what an answer says of the poll's looks, and of what it hands over
-  record HasPolled (k : Shape) (r : ReceiverRecord T) (room : ℕ) (r' : ReceiverRecord T) (seen : PollLooks) (n : ℕ) : Type 0 where
+  record HasPolled (k : Shape T) (r : ReceiverRecord T) (room : ℕ) (r' : ReceiverRecord T) (seen : PollLooks) (n : ℕ) : Type 0 where
     looks : r'.looks ≡ r.looks ++ look claim_word seen.claims ∷ count_looks (ups_of k r) seen.counts
     marks : r'.marks ≡ r.marks ++ mark_looks k (length r.received) seen.marks
     completed : r'.completed ≡ r.completed
     hands : min (offer seen - length r.received) room ≤ n
 
-  polled_so : (k : Shape) (r : ReceiverRecord T) (room : ℕ) (r' : ReceiverRecord T) (seen : PollLooks) (polled : Polled) → Answers k r room r' seen polled
+  polled_so : (k : Shape T) (r : ReceiverRecord T) (room : ℕ) (r' : ReceiverRecord T) (seen : PollLooks) (polled : Polled) → Answers k r room r' seen polled
       → HasPolled k r room r' seen (handed polled)
   polled_so k r room r' seen (Batch first count last) A = record {
     looks = ap (λ (q : ReceiverRecord T). q.looks) A.5.2;
@@ -352,10 +290,10 @@ module _ {T : Type 0} where
   }
 
   -- no further than what is claimed, or not published
-  front_claimed : (k : Shape) (w : World T) → front (picture_of k w) ≤ length w.stages
+  front_claimed : (k : Shape T) (w : World T) → front (picture_of k w) ≤ length w.stages
   front_claimed k w = front_within k w.stages (takens w) (counts_of k w.words) (halted w.words)
 
-  front_low : (k : Shape) (w : World T) (n : ℕ) → (IsOut w.stages n → ⊥) → front (picture_of k w) ≤ n
+  front_low : (k : Shape T) (w : World T) (n : ℕ) → (IsOut w.stages n → ⊥) → front (picture_of k w) ≤ n
   front_low k w n never =
       elim (cases_Bool (is_published (stage_at w.stages n))) [
         | inl shown ↦ absurd (never (out_at w.stages n shown))
@@ -363,20 +301,17 @@ module _ {T : Type 0} where
       ]
 
   -- without upstreams a poll goes as far as was published, as far as there is room
-  walked_far : (k : Shape) (w : World T) (n s room claimed done : ℕ) (ms : List ℕ) (upto t : ℕ) → AreMarks k w.stages n s (mark_looks k s ms) t
-      → WalksTo k.size (min claimed (s + room + 1)) s ms upto → length w.stages ≤ claimed → length w.stages ≤ n → n ≤ k.size + done → done ≤ s
+  walked_far : (k : Shape T) (w : World T) (n s room claimed done : ℕ) (ms : List ℕ) (upto : ℕ) → All (IsMarkOf k w.stages n) (mark_looks k s ms)
+      → WalksTo k (min claimed (s + room + 1)) s ms upto → length w.stages ≤ claimed → n ≤ k.size + done → done ≤ s
       → min (front (picture_of k w) - s) room ≤ min (upto - s) room
-  walked_far k w n s room claimed done ms upto t marks walks all few round took =
-      let within = front_claimed k w in let low = walks_low k.size (min claimed (s + room + 1)) s upto ms walks in
-      elim (walk_far k w.stages n (min claimed (s + room + 1)) s ms upto t marks walks) [
+  walked_far k w n s room claimed done ms upto marks walks all round took =
+      let within = front_claimed k w in let low = walks_low k (min claimed (s + room + 1)) s upto ms walks in
+      elim (walk_far k w.stages n (min claimed (s + room + 1)) s ms upto marks walks) [
         | inl far ↦ far_enough (front (picture_of k w)) (length w.stages) claimed s room upto within all far
-        | inr rest ↦ elim rest [
-          | inl never ↦ no_more (front (picture_of k w)) upto s room (front_low k w upto (never (omega arith)))
-          | inr alone ↦ one_alone (front (picture_of k w)) n k.size done s room upto (omega arith) round alone.0 took alone.1
-        ]
+        | inr never ↦ no_more (front (picture_of k w)) upto s room (front_low k w upto (never (omega arith)))
       ]
 
-  pub hands_what_was_there : (k : Shape) (steps : List (Step T)) (es : Transcript T) (w u : World T) → Runs k steps es w u → KeepsRule k w → HandsWhatWasThere k w u
+  pub hands_what_was_there : (k : Shape T) (steps : List (Step T)) (es : Transcript T) (w u : World T) → Runs k steps es w u → KeepsRule k w → HandsWhatWasThere k w u
   hands_what_was_there k steps es w u R K h room r r' polled at there_is P =
       let seen = P.0 in let order = P.1 in let answer = polled_so k r room r' seen polled P.2 in let was = K.received h r at in let ups = ups_of k r in
       let s = length r.received in let n = length u.stages in let few : length u.stages ≤ n = omega arith in
@@ -389,12 +324,10 @@ module _ {T : Type 0} where
       let claims : length w.stages ≤ claimed_in seen.claims = (all 0 (look 0 0) (omega arith)).0 refl in
       let inside = handler_inside k w h r at K in let L = keeps_runs k steps es w u R K in let round = above k u L h inside in
       let count = (L.received h r' there_is).count in let done = answer.completed in let took = was.completed in
-      let stages : length w.stages ≤ n = (let rose = rose_runs k steps es w u R K in rose.claimed) in
       let published : ups ≡ [] → min (front (picture_of k w) - s) room ≤ min (seen.upto - s) room = λ none.
-      walked_far k w n s room (claimed_in seen.claims) r.completed seen.marks seen.upto (length r'.received)
-      (subst (λ (ys : List Look). AreMarks k w.stages n s ys (length r'.received))
-      (append_cancel_left r.marks later.ms (mark_looks k s seen.marks) (sym later.marks ∙ answer.marks)) (later.are (sym same ∙ none)))
-      (order.walks none) claims stages (omega arith) took in
+      walked_far k w n s room (claimed_in seen.claims) r.completed seen.marks seen.upto
+      (subst (All (IsMarkOf k w.stages n)) (append_cancel_left r.marks later.ms (mark_looks k s seen.marks) (sym later.marks ∙ answer.marks)) later.are)
+      (order.walks none) claims (omega arith) took in
       let handlers : (v : ℕ) → Contains ups v → v < handlers_of k = λ v has.
       upstream_inside k K.shape.graph h v inside (subst (λ (vs : List ℕ). Contains vs v) same has) in
       let more : min (offered (picture_of k w) ups - s) room ≤ min (offer seen - s) room =

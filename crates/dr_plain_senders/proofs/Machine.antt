@@ -35,7 +35,7 @@ owners_more T (suc n) p = ap (λ (xs : List ℕ). p ∷ xs) (owners_more T n p)
 
 module _ {T : Type 0} where
   -- a state by its stages
-  abbrev pub shown : Shape → List (Stage T) → List ℕ → List ℕ → Bool → State T
+  abbrev pub shown : Shape T → List (Stage T) → List ℕ → List ℕ → Bool → State T
   shown k stages t d b =
       record (opening (ring_setup k)) {
         owners = map (λ t. t.owner) stages;
@@ -68,7 +68,7 @@ module _ {T : Type 0} where
             ap (λ (t : Stage T). t.lent) a ∙ sym (fresh_there n p (s - length stages)) ∙ ap (λ (t : Stage T). t.lent) (sym b))
       ]
 
-  pub claim_step : (k : Shape) (stages : List (Stage T)) (p n : ℕ) (t d : List ℕ) → p < k.senders → 0 < n → n ≤ k.size → length stages + n ≤ k.limit
+  pub claim_step : (k : Shape T) (stages : List (Stage T)) (p n : ℕ) (t d : List ℕ) → p < k.senders → 0 < n → n ≤ k.size → length stages + n ≤ k.limit
       → length stages + n ≤ k.size + least_completed (shown k stages t d false) (finals k.upstreams)
       → step (ring_setup k) (shown k stages t d false)
       (Claim p n) ≡ record {
@@ -138,7 +138,7 @@ module _ {T : Type 0} where
   abbrev pub wrote : State T → ℕ → T → State T
   wrote m s e = record m { written = λ q. if q == s then Some e else m.written q }
 
-  pub write_step : (k : Shape) (stages : List (Stage T)) (p s : ℕ) (e : T) (t : Stage T) (ts d : List ℕ) (b : Bool) → p < k.senders → get_elem? stages s ≡ some t
+  pub write_step : (k : Shape T) (stages : List (Stage T)) (p s : ℕ) (e : T) (t : Stage T) (ts d : List ℕ) (b : Bool) → p < k.senders → get_elem? stages s ≡ some t
       → t.owner ≡ p → t.lent ≡ None
       → step (ring_setup k) (shown k stages ts d b) (Write p s e) ≡ record { reply = Written; values = []; state = wrote (shown k stages ts d b) s e }
   write_step k stages p s e t ts d b who at own unshown =
@@ -161,7 +161,7 @@ module _ {T : Type 0} where
       (shown, (ap not (eq-eqb (get_or m.owners s 0) p owner), (whole, tt)))
 
   -- and published
-  pub publish_step : (k : Shape) (stages : List (Stage T)) (p s : ℕ) (l : Lent T) (t : Stage T) (ts d : List ℕ) (b : Bool) → p < k.senders
+  pub publish_step : (k : Shape T) (stages : List (Stage T)) (p s : ℕ) (l : Lent T) (t : Stage T) (ts d : List ℕ) (b : Bool) → p < k.senders
       → get_elem? stages s ≡ some t → t.owner ≡ p → t.lent ≡ None
       → step (ring_setup k) (wrote (shown k stages ts d b) s l.event) (Publish p s s)
       ≡ record { reply = Published; values = []; state = shown k (set stages s (published l t)) ts d b }
@@ -240,12 +240,12 @@ module _ {T : Type 0} where
       (lt-leb (handlers c) h inside, (here, (le-ltb n (get_or m.completed h 0) rise, (le-ltb (get_or m.taken h 0) n le, tt))))
 
   -- the front is within what is claimed, and beyond what is published from the first on
-  pub front_within : (k : Shape) (stages : List (Stage T)) (t d : List ℕ) (b : Bool) → front (shown k stages t d b) ≤ length stages
+  pub front_within : (k : Shape T) (stages : List (Stage T)) (t d : List ℕ) (b : Bool) → front (shown k stages t d b) ≤ length stages
   front_within k stages t d b =
       let m = shown k stages t d b in let l : IsLeast m.published (next m) (front m) = least_is m.published (next m) in let a = l.within in
       let e = count_owners stages in omega arith
 
-  pub front_beyond : (k : Shape) (stages : List (Stage T)) (t d : List ℕ) (b : Bool) (n : ℕ) → n < length stages → ((s : ℕ) → s ≤ n → IsOut stages s)
+  pub front_beyond : (k : Shape T) (stages : List (Stage T)) (t d : List ℕ) (b : Bool) (n : ℕ) → n < length stages → ((s : ℕ) → s ≤ n → IsOut stages s)
       → n < front (shown k stages t d b)
   front_beyond k stages t d b n lt all =
       let m = shown k stages t d b in let l : IsLeast m.published (next m) (front m) = least_is m.published (next m) in let e = count_owners stages in
@@ -257,7 +257,7 @@ module _ {T : Type 0} where
       ]
 
   -- the front is no further than what is not published
-  pub front_at_most : (k : Shape) (stages : List (Stage T)) (t d : List ℕ) (b : Bool) (n : ℕ) → is_published (stage_at stages n) ≡ false
+  pub front_at_most : (k : Shape T) (stages : List (Stage T)) (t d : List ℕ) (b : Bool) (n : ℕ) → is_published (stage_at stages n) ≡ false
       → front (shown k stages t d b) ≤ n
   front_at_most k stages t d b n off =
       let m = shown k stages t d b in let l : IsLeast m.published (next m) (front m) = least_is m.published (next m) in

@@ -75,13 +75,13 @@ module _ {T : Type 0} where
   pub cut_rest : (e : EndRecord T) (es all : List (EndRecord T)) (me me' : Sitting T) → me ≡ fresh_seat all → all ≡ e ∷ es → me' ≡ rest_cut me → me' ≡ fresh_seat es
   cut_rest e es all me me' was next is = is ∙ ap rest_cut was ∙ ap (λ (xs : List (EndRecord T)). rest_cut (fresh_seat xs)) next
 
-  pub sender_sits : (at own : TableId) (key k : Shape) (me : Sitting T) (p : ℕ) → IsAtTable own at k → IsKeyed key k → p < k.senders
+  pub sender_sits : (at own : TableId) (key k : Shape T) (me : Sitting T) (p : ℕ) → IsAtTable own at k → IsKeyed key k → p < k.senders
       → me ≡ own_seat (Sends (fresh_sender p)) → SenderSits at own key k (me.0.ends, me.1) p 0
   sender_sits at own key k me p table keyed lt is =
       subst (λ (m : Sitting T). SenderSits at own key k (m.0.ends, m.1) p 0) (sym is)
       (record { table = table; keyed = keyed; end = refl; own = refl; sender = lt; looks = refl })
 
-  pub receiver_sits : (at own : TableId) (key k : Shape) (me : Sitting T) (h : ℕ) → IsAtTable own at k → IsKeyed key k → h < handlers_of k
+  pub receiver_sits : (at own : TableId) (key k : Shape T) (me : Sitting T) (h : ℕ) → IsAtTable own at k → IsKeyed key k → h < handlers_of k
       → me ≡ own_seat (Receives (fresh_receiver h)) → ReceiverSits at own key k (me.0.ends, me.1) h 0
   receiver_sits at own key k me h table keyed lt is =
       subst (λ (m : Sitting T). ReceiverSits at own key k (m.0.ends, m.1) h 0) (sym is)
@@ -91,7 +91,7 @@ module _ {T : Type 0} where
   no_own : (p s : ℕ) (t : Stage T) → Owns {T = T} (fresh_sender p) s t → ⊥
   no_own p s t own = some-ne-none _ (sym own.1)
 
-  marks_new : (k : Shape) (p : ℕ) → MarksFit {T = T} k (fresh_sender p) (no_marks k.size)
+  marks_new : (k : Shape T) (p : ℕ) → MarksFit {T = T} k (fresh_sender p) (no_marks k.size)
   marks_new k p = let z : ℕ = 0 in record {
     claims = length-replicate k.size z;
     writes = length-replicate k.size z;
@@ -103,7 +103,7 @@ module _ {T : Type 0} where
     shown = λ s t own m. absurd (no_own p s t own);
   }
 
-  pub sender_fits : (own : TableId) (k : Shape) (p n : ℕ) (m : Sitting T) (o : Owned) (tokens : List (Token T)) → m ≡ own_seat (Sends (fresh_sender p)) → n ≡ k.size
+  pub sender_fits : (own : TableId) (k : Shape T) (p n : ℕ) (m : Sitting T) (o : Owned) (tokens : List (Token T)) → m ≡ own_seat (Sends (fresh_sender p)) → n ≡ k.size
       → o ≡ record { claimed = replicate n 0; written = replicate n 0; published = replicate n 0 } → length tokens ≡ k.size → SenderFits (sender_stand own k m) o 0 tokens
   sender_fits own k p n m o tokens is size marks count =
       let P : Sitting T → Owned → Type 0 = λ q w. SenderFits (sender_stand own k q) w 0 tokens in
@@ -122,14 +122,14 @@ module _ {T : Type 0} where
   blank_cells zero = refl
   blank_cells (suc n) = ap (λ (xs : List (Option T)). None ∷ xs) (blank_cells n)
 
-  pub sender_view : (t own : TableId) (k k' : Shape) (me : Sitting T) (p n : ℕ) (o : Owned) (tokens : List (Token T)) → own ≡ t → k' ≡ k → me ≡ own_seat (Sends (fresh_sender p))
+  pub sender_view : (t own : TableId) (k k' : Shape T) (me : Sitting T) (p n : ℕ) (o : Owned) (tokens : List (Token T)) → own ≡ t → k' ≡ k → me ≡ own_seat (Sends (fresh_sender p))
       → tokens ≡ replicate n no_token → n ≡ k.size → sender_end (sender_stand own k' me) o tokens ≡ sender_at t k (fresh_sender p)
   sender_view t own k k' me p n o tokens same plan is blank size =
       (λ i. sender_end (sender_stand (same i) (plan i) (is i)) o ((blank ∙ ap (λ (m : ℕ). replicate m no_token) size) i))
       ∙ ap (λ (cs : List (Option T)). record (sender_at {T = T} t k (fresh_sender p)) { cells = cs }) (blank_cells k.size)
 
   -- a receiver that has not stepped took nothing
-  pub receiver_fits : (own : TableId) (k : Shape) (h : ℕ) (m : Sitting T) (parts : List (Token T)) → m ≡ own_seat (Receives (fresh_receiver h)) → length parts ≡ k.size
+  pub receiver_fits : (own : TableId) (k : Shape T) (h : ℕ) (m : Sitting T) (parts : List (Token T)) → m ≡ own_seat (Receives (fresh_receiver h)) → length parts ≡ k.size
       → ReceiverFits (receiver_stand own k m) 0 0 parts
   receiver_fits own k h m parts is count = subst (λ (q : Sitting T). ReceiverFits (receiver_stand own k q) 0 0 parts) (sym is) (record {
     taken = refl;
@@ -140,22 +140,22 @@ module _ {T : Type 0} where
     hand = refl;
   })
 
-  pub receiver_view : (t own : TableId) (k k' : Shape) (me : Sitting T) (h : ℕ) → own ≡ t → k' ≡ k → me ≡ own_seat (Receives (fresh_receiver h))
+  pub receiver_view : (t own : TableId) (k k' : Shape T) (me : Sitting T) (h : ℕ) → own ≡ t → k' ≡ k → me ≡ own_seat (Receives (fresh_receiver h))
       → receiver_end (receiver_stand own k' me) ≡ receiver_at t k (fresh_receiver h)
   receiver_view t own k k' me h same plan is = λ i. receiver_end (receiver_stand (same i) (plan i) (is i))
 
-  pub sender_listed : (t : TableId) (k : Shape) (p n : ℕ) (items new : List (SenderEnd T)) (e : SenderEnd T) (whole : List (SenderEnd T)) → p < n
+  pub sender_listed : (t : TableId) (k : Shape T) (p n : ℕ) (items new : List (SenderEnd T)) (e : SenderEnd T) (whole : List (SenderEnd T)) → p < n
       → items ++ map (sender_at t k) (fresh_senders p (n - p)) ≡ whole → new ≡ items ++ e ∷ [] → e ≡ sender_at t k (fresh_sender p)
       → new ++ map (sender_at t k) (fresh_senders (p + 1) (n - (p + 1))) ≡ whole
   sender_listed t k p n items new e whole lt was is own =
       listed_more (sender_at t k) items new e (fresh_sender p) (fresh_senders (p + 1) (n - (p + 1))) (fresh_senders p (n - p)) whole was (fresh_senders_next p n lt) is own
 
-  pub receiver_listed : (t : TableId) (k : Shape) (h n : ℕ) (items new : List (ReceiverEnd T)) (e : ReceiverEnd T) (whole : List (ReceiverEnd T)) → h < n
+  pub receiver_listed : (t : TableId) (k : Shape T) (h n : ℕ) (items new : List (ReceiverEnd T)) (e : ReceiverEnd T) (whole : List (ReceiverEnd T)) → h < n
       → items ++ map (receiver_at t k) (fresh_receivers h (n - h)) ≡ whole → new ≡ items ++ e ∷ [] → e ≡ receiver_at t k (fresh_receiver h)
       → new ++ map (receiver_at t k) (fresh_receivers (h + 1) (n - (h + 1))) ≡ whole
   receiver_listed t k h n items new e whole lt was is own =
       listed_more (receiver_at t k) items new e (fresh_receiver h) (fresh_receivers (h + 1) (n - (h + 1))) (fresh_receivers h (n - h)) whole was
       (fresh_receivers_next h n lt) is own
 
-pub some_words : (k : Shape) (n : ℕ) (ws : List ℕ) → n ≡ length ws → ws ≡ replicate (words_of k) 0 → 0 < n
+pub some_words : {T : Type 0} (k : Shape T) (n : ℕ) (ws : List ℕ) → n ≡ length ws → ws ≡ replicate (words_of k) 0 → 0 < n
 some_words k n ws count is = let z : ℕ = 0 in let same = ap length is in let len = length-replicate (words_of k) z in omega arith

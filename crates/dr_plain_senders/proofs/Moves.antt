@@ -1,5 +1,5 @@
 -- The tokens that each kind of step takes or gives.
-use Rattle.std.proofs.Common.{◌≡◌, ℕ, zero, suc, ◌+◌, ◌-◌, ◌<◌, ◌≤◌, List, [], ◌∷◌, ◌++◌, length, set, take, drop, None, sym, refl, ap, ◌∙◌, subst, arith, inl, inr}
+use Rattle.std.proofs.Common.{◌≡◌, ℕ, zero, suc, ◌+◌, ◌-◌, ◌<◌, ◌≤◌, List, [], ◌∷◌, ◌++◌, length, set, take, drop, sym, refl, ap, ◌∙◌, subst, arith, inl, inr}
 use Rattle.std.proofs.lemmas.List.{length-append, length-take, length-drop}
 use Rattle.std.proofs.lemmas.Bool.{cases_lt}
 use mathlib.Core.Option.{some, some-ne-none}
@@ -22,11 +22,11 @@ use Rattle.dr_plain_senders.specs.declared.record.ReceiverRecord.{ReceiverRecord
 use Rattle.dr_plain_senders.specs.Meaning.Records.{SeesRoom, completed_to}
 use Rattle.dr_plain_senders.specs.Meaning.Rule.{World, Room, KeepsRule}
 use Rattle.dr_plain_senders.specs.Meaning.Lying.{Laid, unlent, lent, placed, IsLaid, Lies}
-use Rattle.dr_plain_senders.specs.Meaning.Steps.{sender_claims, sender_publishes, receiver_knows, AreNext}
-use Rattle.dr_plain_senders.specs.Inside.Seats.{Hand, exchange, IsOfRound, LayIn, taken_by_claim, given_by_publication, taken_by_poll, given_by_completion, lent_all}
+use Rattle.dr_plain_senders.specs.Meaning.Steps.{sender_claims, receiver_knows, AreNext}
+use Rattle.dr_plain_senders.specs.Inside.Seats.{Hand, exchange, IsOfRound, LayIn, LayAsLent, taken_by_claim, taken_by_poll, given_by_completion, lent_all}
 use Rattle.dr_plain_senders.proofs.Places.{word_at, claimed_low}
-use Rattle.dr_plain_senders.proofs.Facts.{handler_inside, ahead_of_all, above, near_open, owned, completed_out, taken_claimed}
-use Rattle.dr_plain_senders.proofs.Moving.{Counts, all_laid, claims_take, publishes_give, same_lies, receiver_takes, receiver_gives}
+use Rattle.dr_plain_senders.proofs.Facts.{handler_inside, ahead_of_all, above, completed_out, taken_claimed, owned}
+use Rattle.dr_plain_senders.proofs.Moving.{Counts, laid_lent, all_laid, claims_take, same_lies, receiver_takes, receiver_gives}
 
 -- an element of some of a list's elements
 taken_at_least : {A : Type 0} (xs : List A) (n i : ℕ) (a : A) → get_elem? (take n xs) i ≡ some a → (i < n) × (get_elem? xs i ≡ some a)
@@ -54,34 +54,34 @@ at_slice xs m n i a lt at = taken_there (drop m xs) n i a lt (dropped_at xs m i 
 
 module _ {T : Type 0} where
   -- what a step moves, and what its seat then has in hand
-  abbrev pub MovesTo : Shape → World T → Hand T → List (maybe.Option (Token T)) → Hand T → Type 0
+  abbrev pub MovesTo : Shape T → World T → Hand T → List (maybe.Option (Token T)) → Hand T → Type 0
   MovesTo k u hand homes after = (m : Moves (exchange k) u hand homes) × (carried_after hand m.act ≡ after)
 
   -- nothing moves
-  pub stays : (k : Shape) (u : World T) (hand : Hand T) (homes : List (maybe.Option (Token T))) → Lies k u homes → MovesTo k u hand homes hand
+  pub stays : (k : Shape T) (u : World T) (hand : Hand T) (homes : List (maybe.Option (Token T))) → Lies k u homes → MovesTo k u hand homes hand
   stays k u hand homes lies = (record { act = keeps; valid = tt; lies = lies }, refl)
 
-  takes_moves : (k : Shape) (u : World T) (hand xs : Hand T) (homes : List (maybe.Option (Token T))) → AreHome homes xs → Apart xs → Lies k u (emptied homes xs)
+  takes_moves : (k : Shape T) (u : World T) (hand xs : Hand T) (homes : List (maybe.Option (Token T))) → AreHome homes xs → Apart xs → Lies k u (emptied homes xs)
       → MovesTo k u hand homes (xs ++ hand)
   takes_moves k u hand xs homes home apart lies = (
     record { act = take_all xs; valid = take_valid homes hand xs apart home; lies = subst (Lies k u) (sym (take_homes homes hand xs)) lies },
     take_carried hand xs,
   )
 
-  gives_moves : (k : Shape) (u : World T) (rest xs : Hand T) (homes : List (maybe.Option (Token T))) → Lies k u (filled homes xs) → MovesTo k u (xs ++ rest) homes rest
+  pub gives_moves : (k : Shape T) (u : World T) (rest xs : Hand T) (homes : List (maybe.Option (Token T))) → Lies k u (filled homes xs) → MovesTo k u (xs ++ rest) homes rest
   gives_moves k u rest xs homes lies = (
     record { act = give_all xs; valid = give_valid homes (xs ++ rest) xs; lies = subst (Lies k u) (sym (give_homes homes rest xs)) lies },
     give_carried rest xs,
   )
 
-  of_round : (k : Shape) (stages : List (Stage T)) (q : ℕ) (a : Laid T) → IsLaid k stages q a → IsOfRound k q a
+  of_round : (k : Shape T) (stages : List (Stage T)) (q : ℕ) (a : Laid T) → IsLaid k stages q a → IsOfRound k q a
   of_round k stages q (unlent x) is = is
   of_round k stages q (lent l) is = let e = is.1 in omega arith
 
   -- a claim takes what is kept of what lies in the cells, and each handler's part of it
-  pub claim_moves : (k : Shape) (w : World T) (p c n : ℕ) (r : SenderRecord T) (hand : Hand T) (homes : List (maybe.Option (Token T))) → get_elem? w.senders p ≡ some r
+  pub claim_moves : (k : Shape T) (w : World T) (p c n : ℕ) (r : SenderRecord T) (hand : Hand T) (homes : List (maybe.Option (Token T))) → get_elem? w.senders p ≡ some r
       → SeesRoom k r c n → word_at w.words claim_word ≡ c → KeepsRule k w → Lies k w homes
-      → (laid : List (Laid T)) × LayIn k c n laid × MovesTo k (sender_claims w p r c n) hand homes (taken_by_claim k c laid ++ hand)
+      → (laid : List (Laid T)) × LayIn k c n laid × MovesTo k (sender_claims w p r c n) hand homes (taken_by_claim k c laid ++ hand) × LayAsLent k r c laid
   claim_moves k w p c n r hand homes at room found K lies =
       let small = K.shape.small in let fits = room.limit in let low : c < halt_bit = omega arith in
       let now : c ≡ length w.stages = sym (claimed_low c low) ∙ ap claimed_in (sym found) ∙ K.claim in
@@ -104,29 +104,21 @@ module _ {T : Type 0} where
         },
         subst (λ (j : ℕ). MovesTo k (sender_claims w p r c n) hand homes (rows (placed k) (lanes_of k) j a.0 ++ hand)) (sym now)
             (takes_moves k (sender_claims w p r c n) hand (rows (placed k) (lanes_of k) (length w.stages) a.0) homes t.0 t.1 t.2),
+        λ i s x u l at_i place own out. laid_lent k w.stages (length w.stages + i) s l x (a.2 i x at_i).laid (omega arith) (u, (owned k w p r s own.0 u at own.1 K).1, out),
       )
 
-  -- a publication gives what is kept of the cell, and each handler its part
-  pub publication_moves : (k : Shape) (w : World T) (p s i : ℕ) (r : SenderRecord T) (t : Stage T) (l : Lent T) (rest : Hand T) (homes : List (maybe.Option (Token T)))
-      → get_elem? w.senders p ≡ some r → get_elem? r.own i ≡ some record { sequence = s; stage = t } → t.lent ≡ None → KeepsRule k w → Lies k w homes
-      → MovesTo k (sender_publishes k w p r s t l) (given_by_publication k s (l ∷ []) ++ rest) homes rest
-  publication_moves k w p s i r t l rest homes at has unshown K lies =
-      let own = owned k w p r s i t at has K in let near = near_open k w s t own.1 unshown K in
-      gives_moves k (sender_publishes k w p r s t l) rest (given_by_publication k s (l ∷ [])) homes
-      (publishes_give k K.shape.some_slot w.receivers w.stages s t l homes lies K.outlets own.1 unshown near)
-
-  counts_of : (k : Shape) (w : World T) (h : ℕ) (r : ReceiverRecord T) → get_elem? w.receivers h ≡ some r → KeepsRule k w → Counts k w.stages r
+  counts_of : (k : Shape T) (w : World T) (h : ℕ) (r : ReceiverRecord T) → get_elem? w.receivers h ≡ some r → KeepsRule k w → Counts k w.stages r
   counts_of k w h r at K = let was = K.received h r at in let a = above k w K h (handler_inside k w h r at K) in let c = was.count in
       record { held = was.completed; room = omega arith }
 
   -- a look of a receiver that takes nothing
-  pub look_moves : (k : Shape) (w : World T) (h : ℕ) (r r' : ReceiverRecord T) (hand : Hand T) (homes : List (maybe.Option (Token T))) → get_elem? w.receivers h ≡ some r
+  pub look_moves : (k : Shape T) (w : World T) (h : ℕ) (r r' : ReceiverRecord T) (hand : Hand T) (homes : List (maybe.Option (Token T))) → get_elem? w.receivers h ≡ some r
       → r'.completed ≡ r.completed → length r'.received ≡ length r.received → KeepsRule k w → Lies k w homes → MovesTo k (receiver_knows w h r') hand homes hand
   look_moves k w h r r' hand homes at done took K lies =
       stays k (receiver_knows w h r') hand homes (same_lies k K.shape.some_slot w.receivers w.stages h r r' homes lies at done took)
 
   -- a poll takes the handler's parts of the next events
-  pub poll_moves : (k : Shape) (w : World T) (h n : ℕ) (r r' : ReceiverRecord T) (lents : List (Lent T)) (hand : Hand T) (homes : List (maybe.Option (Token T)))
+  pub poll_moves : (k : Shape T) (w : World T) (h n : ℕ) (r r' : ReceiverRecord T) (lents : List (Lent T)) (hand : Hand T) (homes : List (maybe.Option (Token T)))
       → get_elem? w.receivers h ≡ some r → AreNext w r n lents → r'.completed ≡ r.completed → r'.received ≡ r.received ++ lents → KeepsRule k w → Lies k w homes
       → MovesTo k (receiver_knows w h r') hand homes (taken_by_poll k r lents ++ hand)
   poll_moves k w h n r r' lents hand homes at N done took K lies =
@@ -138,7 +130,7 @@ module _ {T : Type 0} where
       (takes_moves k (receiver_knows w h r') hand (xs h) homes t.0 t.1 t.2)
 
   -- a completion gives them back
-  pub completion_moves : (k : Shape) (w : World T) (h n : ℕ) (r : ReceiverRecord T) (rest : Hand T) (homes : List (maybe.Option (Token T))) → get_elem? w.receivers h ≡ some r
+  pub completion_moves : (k : Shape T) (w : World T) (h n : ℕ) (r : ReceiverRecord T) (rest : Hand T) (homes : List (maybe.Option (Token T))) → get_elem? w.receivers h ≡ some r
       → r.completed ≤ n → n ≤ length r.received → KeepsRule k w → Lies k w homes
       → MovesTo k (record w { words = set w.words (count_word h) n; receivers = set w.receivers h (completed_to r n) }) (given_by_completion k r n ++ rest) homes rest
   completion_moves k w h n r rest homes at rise le K lies =

@@ -36,12 +36,19 @@ one_lent stages s l m x y = let same = one_value stages s x.0 y.0 x.1 y.1 in som
     some_of : {A : Type 0} (a b : A) → ◌≡◌ {A = Option A} (Some a) (Some b) → a ≡ b
     some_of a b e = cc
 
+-- what lies in a cell is what its last sequence published
+pub laid_lent : {T : Type 0} (k : Shape T) (stages : List (Stage T)) (q s : ℕ) (l : Lent T) (a : Laid T) → IsLaid k stages q a → q ≡ k.size + s → IsOutWith stages s l → a ≡ lent l
+laid_lent k stages q s l (unlent x) is at out = absurd (let early = is.0 in omega arith)
+laid_lent k stages q s l (lent m) is at out =
+    let e = is.1 in let same : is.0 ≡ s = omega arith in
+    ap (λ (x : Lent _). lent x) (one_lent stages s m l (subst (λ (n : ℕ). IsOutWith stages n m) same is.2) out)
+
 -- what a receiver's counts have to do with what is claimed
-pub record Counts {T : Type 0} (k : Shape) (stages : List (Stage T)) (r : ReceiverRecord T) : Type 0 where
+pub record Counts {T : Type 0} (k : Shape T) (stages : List (Stage T)) (r : ReceiverRecord T) : Type 0 where
   pub held : r.completed ≤ length r.received
   pub room : length stages ≤ k.size + r.completed
 
-module _ {T : Type 0} (k : Shape) (some_slot : 0 < k.size) where
+module _ {T : Type 0} (k : Shape T) (some_slot : 0 < k.size) where
   pub token_later : (lane s : ℕ) (a : Laid T) → token_of k lane (k.size + s) a ≡ token_of k lane s a
   token_later zero s (unlent x) = ap (λ (c : ℕ). token_at k.strip c (whole x)) (cell_later k s)
   token_later zero s (lent l) = ap (λ (c : ℕ). token_at k.strip c (kept l.round (handlers_of k) l.event)) (cell_later k s)
@@ -224,7 +231,7 @@ module _ {T : Type 0} (k : Shape) (some_slot : 0 < k.size) where
   -- an event that was lent lies in its cell
   is_lent : (receivers : List (ReceiverRecord T)) (stages : List (Stage T)) (homes : List (maybe.Option (Token T))) (s : ℕ) (l : Lent T) (a : Laid T) → LiesIn k receivers stages homes (k.size + s) a
       → IsOutWith stages s l → a ≡ lent l
-  is_lent receivers stages homes s l (unlent x) I out = absurd (let lt = I.laid in omega arith)
+  is_lent receivers stages homes s l (unlent x) I out = absurd (let lt = I.laid.0 in omega arith)
   is_lent receivers stages homes s l (lent m) I out =
       let z : I.laid.0 ≡ s = (let e = I.laid.1 in omega arith) in
       ap (λ (y : Lent T). lent y) (one_lent stages s m l (subst (λ (j : ℕ). IsOutWith stages j m) z I.laid.2) out)

@@ -77,14 +77,14 @@ offered_same a b [] lt = absurd (omega arith)
 offered_same a b (n ∷ counts) lt = refl
 
 -- what the upstreams let through, once all their counts were looked at
-barrier_is : (k : Shape) (h claimed : ℕ) (looks : List Look) (counts : List ℕ) → (let us = upstreams_of k.upstreams h in
+barrier_is : {T : Type 0} (k : Shape T) (h claimed : ℕ) (looks : List Look) (counts : List ℕ) → (let us = upstreams_of k.upstreams h in
     IsStrictlyIncreasing us → length counts ≡ length us → 0 < length us → barrier_seen k h (looks ++ count_looks us counts) ≡ offered_by claimed counts)
 barrier_is k h claimed looks counts rising e some =
     let us = upstreams_of k.upstreams h in
     ap (λ (ns : List ℕ). offered_by 0 ns) (seen_counts looks us counts rising e) ∙ offered_same 0 claimed counts (omega arith)
 
 module _ {T : Type 0} where
-  pub first_none : (k : Shape) (r : ReceiverRecord T) (claimed : ℕ) → LooksAtFirst k r claimed 0 r claimed
+  pub first_none : (k : Shape T) (r : ReceiverRecord T) (claimed : ℕ) → LooksAtFirst k r claimed 0 r claimed
   first_none k r claimed = record {
     counts = [];
     each = refl;
@@ -95,7 +95,7 @@ module _ {T : Type 0} where
     told = λ told lt. absurd (omega arith);
   }
 
-  pub first_more : (k : Shape) (r s s' : ReceiverRecord T) (claimed least least' i u v : ℕ) → LooksAtFirst k r claimed i s least → i < length (ups_of k r)
+  pub first_more : (k : Shape T) (r s s' : ReceiverRecord T) (claimed least least' i u v : ℕ) → LooksAtFirst k r claimed i s least → i < length (ups_of k r)
       → get_or (ups_of k r) i 0 ≡ u → s' ≡ receiver_saw s (look (count_word u) v ∷ []) → FindsEvents k s (count_word u) v
       → least' ≡ lesser_of (i == 0) v least → LooksAtFirst k r claimed (i + 1) s' least'
   first_more k r s s' claimed least least' i u v L lt at is finds new =
@@ -122,7 +122,7 @@ module _ {T : Type 0} where
       }
 
   -- at the last upstream it takes
-  pub round_last : (k : Shape) (r s s' : ReceiverRecord T) (room claimed least available i u v : ℕ) (hand hand' : Hand T) (lents : List (Lent T))
+  pub round_last : (k : Shape T) (r s s' : ReceiverRecord T) (room claimed least available i u v : ℕ) (hand hand' : Hand T) (lents : List (Lent T))
       → IsStrictlyIncreasing (ups_of k r)
       → LooksAtFirst k r claimed i s least → i + 1 ≡ length (ups_of k r) → get_or (ups_of k r) i 0 ≡ u
       → length lents ≡ taken_at_count k s (count_word u) v room → s' ≡ receiver_looked s (count_word u) v lents → hand' ≡ taken_by_poll k s lents ++ hand

@@ -25,7 +25,7 @@ use Rattle.dr_plain_senders.proofs.Machine.{at_stage, owner_at, wrote}
 use Rattle.dr_plain_senders.proofs.Owners.{AllOwned}
 use Rattle.dr_plain_senders.proofs.Pictures.{Leads, leads_on, leads_one}
 
-module _ {T : Type 0} (k : Shape) (w : World T) (K : KeepsRule k w) where
+module _ {T : Type 0} (k : Shape T) (w : World T) (K : KeepsRule k w) where
   -- the picture, where this is written
   abbrev writing : (ℕ → Option T) → State T
   writing f = record (picture_of k w) { written = f }

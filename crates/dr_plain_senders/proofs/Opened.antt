@@ -10,7 +10,7 @@ use Rattle.dr_plain_senders.specs.Inside.Rows.{blank_row, blank_rows}
 use Rattle.dr_plain_senders.specs.Inside.Seats.{Hand}
 use Rattle.dr_plain_senders.proofs.Rowing.{blank_row_count}
 
-module _ {T : Type 0} (k : Shape) where
+module _ {T : Type 0} (k : Shape T) where
   -- one row and what comes after it
   next_rows : Bool → ℕ → Hand T → Hand T
   next_rows b s hand = if b then blank_row k s ++ hand else hand
@@ -87,7 +87,7 @@ count_end is s upto count end =
     let none : upto - s ≡ 0 = omega arith in let z : open_count is s (upto - s) ≡ 0 = ap (λ (n : ℕ). open_count is s n) none in omega arith
 
 -- each has a row
-pub open_slots : (T : Type 0) (k : Shape) (is : ℕ → Bool) (s n : ℕ) → length (open_rows {T = T} k is s n) ≡ lanes_of k * open_count is s n
+pub open_slots : (T : Type 0) (k : Shape T) (is : ℕ → Bool) (s n : ℕ) → length (open_rows {T = T} k is s n) ≡ lanes_of k * open_count is s n
 open_slots T k is s zero = omega arith
 open_slots T k is s (suc n) =
     let row : Hand T = blank_row k s in let left : Hand T = open_rows k is (s + 1) n in let count = open_count is (s + 1) n in let more = open_slots T k is (s + 1) n in

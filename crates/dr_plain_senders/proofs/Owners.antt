@@ -15,10 +15,10 @@ use Rattle.dr_plain_senders.specs.declared.record.Step.TheVariants.{SenderLooksA
 use Rattle.dr_plain_senders.specs.declared.record.Step.TheVariants.{ReceiverLooksAtClaims, ReceiverLooksAtMark, ReceiverLooksAtCount, ReceiverCompletes, HalterHalts}
 use Rattle.dr_plain_senders.specs.Meaning.Records.{Owns, fresh_stage, sender_looked, claimed_from}
 use Rattle.dr_plain_senders.specs.Meaning.Rule.{World, KeepsRule}
-use Rattle.dr_plain_senders.specs.Meaning.Steps.{Happens, sender_knows, sender_claims}
+use Rattle.dr_plain_senders.specs.Meaning.Steps.{Happens, PublishesOne, sender_knows, sender_claims}
 use Rattle.dr_plain_senders.specs.Meaning.Moments.{new_world, Runs}
 use Rattle.dr_plain_senders.proofs.Places.{word_at, more_cases, at_replicate}
-use Rattle.dr_plain_senders.proofs.Keeps.{keeps_step, keeps_runs}
+use Rattle.dr_plain_senders.proofs.Keeps.{along_all, keeps_step, keeps_runs}
 use Rattle.dr_plain_senders.proofs.Beginning.{kept_new_world}
 
 module _ {T : Type 0} where
@@ -54,7 +54,12 @@ module _ {T : Type 0} where
     | inr y ↦ all q x y.1
   ])
 
-  owners_step : (k : Shape) (s : Step T) (w u : World T) → Happens k s w u → KeepsRule k w → OwnersThere w → OwnersThere u
+  owners_one : (k : Shape T) (p s : ℕ) (event : T) (w u : World T) → PublishesOne k p s event w u → KeepsRule k w → OwnersThere w → OwnersThere u
+  owners_one k p s event w u H K all =
+      let own = H.2.1 in let mine = (K.sent p H.0 H.1).own own.0 record { sequence = s; stage = H.2.0 } own.1 in
+      subst OwnersThere (sym H.2.3.2) (owners_bring w p s _ H.2.0 _ mine.1 refl all)
+
+  owners_step : (k : Shape T) (s : Step T) (w u : World T) → Happens k s w u → KeepsRule k w → OwnersThere w → OwnersThere u
   owners_step k (SenderLooksAtClaims p) w u H K all = subst OwnersThere (sym H.2) (one_changes w.stages w.senders p _ all)
   owners_step k (SenderLooksAtCount p f) w u H K all = subst OwnersThere (sym H.2.1) (one_changes w.stages w.senders p _ all)
   owners_step k (SenderClaims p c n) w u H K all =
@@ -64,9 +69,7 @@ module _ {T : Type 0} where
         | inl is ↦ subst P (sym (eq-eqb found c is)) (owners_claim w p c n r H.1 all)
         | inr ne ↦ subst P (sym (ne_eqb found c ne)) (one_changes w.stages w.senders p _ all)
       ])
-  owners_step k (SenderPublishes p s events) w u H K all =
-      let own = H.2.1 in let mine = (K.sent p H.0 H.1).own own.0 record { sequence = s; stage = H.2.0 } own.1 in
-      subst OwnersThere (sym H.2.3.2) (owners_bring w p s _ H.2.0 _ mine.1 refl all)
+  owners_step k (SenderPublishes p s events) w u H K all = along_all k p OwnersThere (owners_one k p) s events w u H.1 K all
   owners_step k (SenderLooksAtMark p s) w u H K all = subst OwnersThere (sym H.2) (one_changes w.stages w.senders p _ all)
   owners_step k (SenderHalts p) w u H K all = subst OwnersThere (sym H.2) (one_changes w.stages w.senders p _ all)
   owners_step k (ReceiverLooksAtClaims h) w u H K all = subst OwnersThere (sym H.2) all
@@ -75,12 +78,12 @@ module _ {T : Type 0} where
   owners_step k (ReceiverCompletes h n) w u H K all = subst OwnersThere (sym H.2.2) all
   owners_step k HalterHalts w u H K all = subst OwnersThere (sym H) all
 
-  owners_runs : (k : Shape) (steps : List (Step T)) (es : Transcript T) (w u : World T) → Runs k steps es w u → KeepsRule k w → OwnersThere w → OwnersThere u
+  owners_runs : (k : Shape T) (steps : List (Step T)) (es : Transcript T) (w u : World T) → Runs k steps es w u → KeepsRule k w → OwnersThere w → OwnersThere u
   owners_runs k [] es w u R K all = subst OwnersThere R.1 all
   owners_runs k (s ∷ steps) es w u R K all = owners_runs k steps R.1 R.0 u R.4 (keeps_step k s w R.0 R.2 K) (owners_step k s w R.0 R.2 K all)
 
   -- from the opening on
-  pub owned_since : (k : Shape) (steps : List (Step T)) (es : Transcript T) (u : World T) → IsShape k → Runs k steps es (new_world k) u → AllOwned u
+  pub owned_since : (k : Shape T) (steps : List (Step T)) (es : Transcript T) (u : World T) → IsShape k → Runs k steps es (new_world k) u → AllOwned u
   owned_since k steps es u shape R s t at =
       let first = kept_new_world T k shape in let K = keeps_runs k steps es (new_world k) u R first in
       let inside = owners_runs k steps es (new_world k) u R first (λ q x none. absurd (some-ne-none x (sym none))) s t at in

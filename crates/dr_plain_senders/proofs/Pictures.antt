@@ -2,13 +2,12 @@
 use Rattle.std.proofs.Common.{◌≡◌, ◌≢◌, ℕ, zero, suc, ◌+◌, ◌-◌, ◌<◌, ◌≤◌, inl, inr, Bool, true, false, ◌==◌, if◌then◌else◌, List, [], ◌∷◌, ◌++◌, length, get_or, set, map, replicate, take, drop, Option, None, Some, sym, refl, ap, ◌∙◌, subst, arith, get_or-set_same, get_or-set_other}
 use Rattle.std.specs.Prelude.{Contains, is_some}
 use Rattle.std.specs.List.{range_with_len, filter_map, cons_option}
-use Rattle.std.proofs.lemmas.Bool.{cases_eq, cases_Bool, eq-eqb, ne_eqb, cases_lt}
+use Rattle.std.proofs.lemmas.Bool.{cases_eq, cases_Bool, eq-eqb, ne_eqb, cases_lt, both_ways}
 use Rattle.std.proofs.lemmas.List.{length-map, length-append, get_or-map, get_or_past}
 use Rattle.std.proofs.lemmas.List.FromFn.{get_or-map-range_with_len}
 use lib.Seq.{map-set, map-set_same}
 use mathlib.Core.Option.{some}
 use lib.ListN.{get_elem?}
-use Rattle.dr_seq.specs.Rounds.{entry_of}
 use Rattle.dr_meaning.specs.declared.command.Command.{Command}
 use Rattle.dr_meaning.specs.declared.command.Command.TheVariants.{Claim, Write, Publish, Poll, Complete, Halt}
 use Rattle.dr_meaning.specs.declared.command.Reply.{Reply}
@@ -21,7 +20,7 @@ use Rattle.dr_runs.proofs.Elements.{at_below, value_at, there}
 use Rattle.dr_runs.proofs.Offers.{final_inside, counts_below, offered_at_most, offered_at_least}
 use Rattle.dr_runs.proofs.Lists.{map_same, map_but}
 use Rattle.dr_plain_senders.specs.Meaning.Shape.{Shape, handlers_of, ring_setup}
-use Rattle.dr_plain_senders.specs.Meaning.Words.{claim_word, claimed_in, is_halted, halted_from, halt_bit, count_word, mark_start, mark_word}
+use Rattle.dr_plain_senders.specs.Meaning.Words.{claim_word, claimed_in, is_halted, halted_from, halt_bit, count_word, mark_start, mark_word, mark_bit, flipped}
 use Rattle.dr_plain_senders.specs.declared.record.Lent.{Lent}
 use Rattle.dr_plain_senders.specs.declared.record.Stage.{Stage}
 use Rattle.dr_plain_senders.specs.declared.record.SenderRecord.{SenderRecord}
@@ -30,31 +29,31 @@ use Rattle.dr_plain_senders.specs.declared.record.Step.{Step}
 use Rattle.dr_plain_senders.specs.declared.record.Step.TheVariants.{SenderLooksAtClaims, SenderLooksAtCount, SenderClaims, SenderPublishes, SenderLooksAtMark, SenderHalts}
 use Rattle.dr_plain_senders.specs.declared.record.Step.TheVariants.{ReceiverLooksAtClaims, ReceiverLooksAtMark, ReceiverLooksAtCount, ReceiverCompletes, HalterHalts}
 use Rattle.dr_plain_senders.specs.Meaning.Records.{fresh_stage, published, is_published, sender_looked, receiver_looked, tells_drained, claims_looked, taken_at_mark, taken_at_count, mark_looked, completed_to, SeesRoom}
-use Rattle.dr_plain_senders.specs.Meaning.Rule.{World, IsOut, KeepsRule}
-use Rattle.dr_plain_senders.specs.Meaning.Steps.{Happens, sender_knows, sender_claims, sender_publishes, receiver_knows, halted_words}
+use Rattle.dr_plain_senders.specs.Meaning.Rule.{World, IsOut, has_mark, KeepsRule}
+use Rattle.dr_plain_senders.specs.Meaning.Steps.{Happens, PublishesOne, PublishesAll, sender_knows, sender_claims, sender_publishes, receiver_knows, halted_words}
 use Rattle.dr_plain_senders.specs.Meaning.Moments.{fresh_receiver, taken_of, stage_at, event_in, event_of, picture_of, receiver_at, events_from, poll_of, batch_of, published_by, entries_of, Runs}
 use Rattle.dr_plain_senders.proofs.Places.{word_at, claimed_low, halted_low, is_halted_from}
 use Rattle.dr_runs.proofs.Looks.{last_look_le}
 use Rattle.dr_plain_senders.proofs.Facts.{cases_option, none_or_some, receiver_of_handler, handler_inside, orderly, upstream_inside, taken_out, taken_claimed, owned, above}
 use Rattle.dr_plain_senders.proofs.Barriers.{Offers, offers_at_mark, offers_at_count}
 use Rattle.dr_plain_senders.proofs.KeepsReceiving.{tells_truth}
-use Rattle.dr_plain_senders.proofs.Keeps.{keeps_step}
+use Rattle.dr_plain_senders.proofs.Keeps.{keeps_one, keeps_step}
 use Rattle.dr_plain_senders.proofs.Machine.{shown, at_stage, wrote, claim_step, write_step, publish_step, take_step, drained_step, complete_step, front_within, front_beyond, front_at_most}
 use Rattle.dr_meaning.specs.Meaning.Machine as machine
 
 -- counts by their words
-abbrev pub counts_of : Shape → List ℕ → List ℕ
+abbrev pub counts_of : {T : Type 0} → Shape T → List ℕ → List ℕ
 counts_of k words = map (λ h. word_at words (count_word h)) (range_with_len 0 (handlers_of k))
 
-pub count_at : (k : Shape) (words : List ℕ) (h : ℕ) → h < handlers_of k → get_or (counts_of k words) h 0 ≡ word_at words (count_word h)
+pub count_at : {T : Type 0} (k : Shape T) (words : List ℕ) (h : ℕ) → h < handlers_of k → get_or (counts_of k words) h 0 ≡ word_at words (count_word h)
 count_at k words h lt = get_or-map-range_with_len (λ h. word_at words (count_word h)) 0 (handlers_of k) h h 0 lt (omega arith)
 
-counts_stay : (k : Shape) (words : List ℕ) (i v : ℕ) → ((h : ℕ) → h < handlers_of k → count_word h ≢ i) → counts_of k (set words i v) ≡ counts_of k words
+counts_stay : {T : Type 0} (k : Shape T) (words : List ℕ) (i v : ℕ) → ((h : ℕ) → h < handlers_of k → count_word h ≢ i) → counts_of k (set words i v) ≡ counts_of k words
 counts_stay k words i v ne =
     map_same (λ h. word_at (set words i v) (count_word h)) (λ h. word_at words (count_word h)) 0 (handlers_of k)
     (λ j low high. get_or-set_other words i (count_word j) v 0 (ne j (omega arith)))
 
-count_set : (k : Shape) (words : List ℕ) (h v : ℕ) → h < handlers_of k → count_word h < length words
+count_set : {T : Type 0} (k : Shape T) (words : List ℕ) (h v : ℕ) → h < handlers_of k → count_word h < length words
     → counts_of k (set words (count_word h) v) ≡ set (counts_of k words) h v
 count_set k words h v lt inside =
     map_but (λ h. word_at words (count_word h)) (λ j. word_at (set words (count_word h) v) (count_word j)) 0 (handlers_of k) h v lt
@@ -73,14 +72,14 @@ least_low f (x ∷ y ∷ ys) zero u lt e = let s = ap f e in omega arith
 least_low f (x ∷ y ∷ ys) (suc i) u lt e = let rest = least_low f (y ∷ ys) i u (omega arith) e in omega arith
 
 module _ {T : Type 0} where
-  abbrev pub Leads : Shape → Transcript T → State T → State T → Type 0
+  abbrev pub Leads : Shape T → Transcript T → State T → State T → Type 0
   Leads k es m n = LeadsFrom (ring_setup k) m es n
 
   pub leads_on : (c : Setup) (m n end : State T) (es more : Transcript T) → LeadsFrom c m es n → LeadsFrom c n more end → LeadsFrom c m (es ++ more) end
   leads_on c m n end [] more a b = subst (λ (x : State T). LeadsFrom c x more end) (sym a) b
   leads_on c m n end (e ∷ es) more a b = (a.0, a.1, leads_on c (machine.step c m e.command).state n end es more a.2 b)
 
-  pub leads_one : (k : Shape) (command : Command T) (reply : Reply) (values : List T) (m n : State T)
+  pub leads_one : (k : Shape T) (command : Command T) (reply : Reply) (values : List T) (m n : State T)
       → machine.step (ring_setup k) m command ≡ record { reply = reply; values = values; state = n } → Leads k (entry command reply values) m n
   leads_one k command reply values m n is = (ap (λ (o : Outcome T). o.reply) is, ap (λ (o : Outcome T). o.values) is, ap (λ (o : Outcome T). o.state) is)
 
@@ -95,18 +94,18 @@ module _ {T : Type 0} where
   pub taken_at : (w : World T) (h : ℕ) (r : ReceiverRecord T) → get_elem? w.receivers h ≡ some r → get_or (takens w) h 0 ≡ length r.received
   taken_at w h r at = get_or-map taken_of w.receivers h r 0 (at_below w.receivers h r at) ∙ ap taken_of (value_at w.receivers h r r at)
 
-  same_picture : (k : Shape) (w : World T) (h : ℕ) (r q : ReceiverRecord T) → get_elem? w.receivers h ≡ some r → taken_of q ≡ taken_of r
+  same_picture : (k : Shape T) (w : World T) (h : ℕ) (r q : ReceiverRecord T) → get_elem? w.receivers h ≡ some r → taken_of q ≡ taken_of r
       → picture_of k w ≡ picture_of k (receiver_knows w h q)
   same_picture k w h r q at same = ap (λ (t : List ℕ). shown k w.stages t (counts_of k w.words) (halted w.words)) (sym (same_taken w h r q at same))
 
   pub is_receiver : (w : World T) (h : ℕ) (r : ReceiverRecord T) → get_elem? w.receivers h ≡ some r → receiver_at w h ≡ r
   is_receiver w h r at = value_at w.receivers h r (fresh_receiver 0) at
 
-  sender_inside : (k : Shape) (w : World T) (p : ℕ) (r : SenderRecord T) → get_elem? w.senders p ≡ some r → KeepsRule k w → p < k.senders
+  sender_inside : (k : Shape T) (w : World T) (p : ℕ) (r : SenderRecord T) → get_elem? w.senders p ≡ some r → KeepsRule k w → p < k.senders
   sender_inside k w p r at K = let b = at_below w.senders p r at in let e = K.inlets in omega arith
 
   -- what a claim has room for, the machine has
-  claim_room : (k : Shape) (w : World T) (p c n : ℕ) (r : SenderRecord T) (m : State T) → m.completed ≡ counts_of k w.words → get_elem? w.senders p ≡ some r
+  claim_room : (k : Shape T) (w : World T) (p c n : ℕ) (r : SenderRecord T) (m : State T) → m.completed ≡ counts_of k w.words → get_elem? w.senders p ≡ some r
       → SeesRoom k r c n → KeepsRule k w → c + n ≤ k.size + least_completed m (finals k.upstreams)
   claim_room k w p c n r m same at room K =
       let g : IsGated k.upstreams nobody (λ h. 0) 0 = K.shape.graph.gate nobody (λ h. 0) (λ h u has. omega arith) 0 K.shape.graph.some refl in
@@ -117,7 +116,7 @@ module _ {T : Type 0} where
       let e : get_or m.completed f 0 ≡ word_at w.words (count_word f) = ap (λ (d : List ℕ). get_or d f 0) same ∙ count_at k w.words f i in omega arith))
 
   -- a claim is of the size at most
-  claim_fits : (k : Shape) (w : World T) (p n : ℕ) (r : SenderRecord T) → get_elem? w.senders p ≡ some r → SeesRoom k r (length w.stages) n → KeepsRule k w
+  claim_fits : (k : Shape T) (w : World T) (p n : ℕ) (r : SenderRecord T) → get_elem? w.senders p ≡ some r → SeesRoom k r (length w.stages) n → KeepsRule k w
       → n ≤ k.size
   claim_fits k w p n r at room K =
       let some_one = K.shape.graph.some in
@@ -128,7 +127,7 @@ module _ {T : Type 0} where
       let d : word_at w.words (count_word g.last) ≤ word_at w.words (count_word 0) = g.behind in
       let t = receiver_of_handler k w K 0 some_one in let e = t.2.count in let f = t.2.completed in let h = taken_claimed k w 0 t.0 t.1 K in omega arith
 
-  lead_claim : (k : Shape) (w : World T) (p c n : ℕ) (r : SenderRecord T) → get_elem? w.senders p ≡ some r → 0 < n → SeesRoom k r c n
+  lead_claim : (k : Shape T) (w : World T) (p c n : ℕ) (r : SenderRecord T) → get_elem? w.senders p ≡ some r → 0 < n → SeesRoom k r c n
       → word_at w.words claim_word ≡ c → KeepsRule k w
       → Leads k (entry (Claim p n) (Claimed c (c + n - 1)) []) (picture_of k w) (picture_of k (sender_claims w p r c n))
   lead_claim k w p c n r at some_one room found K =
@@ -157,7 +156,7 @@ module _ {T : Type 0} where
   abbrev claim_of : ℕ → ℕ → ℕ → Bool → Transcript T
   claim_of p c n b = if b then entry (Claim p n) (Claimed c (c + n - 1)) [] else []
 
-  lead_exchange : (k : Shape) (w : World T) (p c n : ℕ) (r : SenderRecord T) → get_elem? w.senders p ≡ some r → 0 < n → SeesRoom k r c n → KeepsRule k w
+  lead_exchange : (k : Shape T) (w : World T) (p c n : ℕ) (r : SenderRecord T) → get_elem? w.senders p ≡ some r → 0 < n → SeesRoom k r c n → KeepsRule k w
       → Leads k (claim_of p c n (word_at w.words claim_word == c)) (picture_of k w) (picture_of k (exchanged w p r c n (word_at w.words claim_word == c)))
   lead_exchange k w p c n r at some_one room K =
       let P : Bool → Type 0 = λ b. Leads k (claim_of p c n b) (picture_of k w) (picture_of k (exchanged w p r c n b)) in
@@ -166,19 +165,19 @@ module _ {T : Type 0} where
         | inr ne ↦ subst P (sym (ne_eqb (word_at w.words claim_word) c ne)) refl
       ]
 
-  -- a store of a mark shows in the stages alone
-  picture_publishes : (k : Shape) (w : World T) (p s : ℕ) (r : SenderRecord T) (t : Stage T) (l : Lent T)
+  -- the flip of a mark shows in the stages alone
+  picture_publishes : (k : Shape T) (w : World T) (p s : ℕ) (r : SenderRecord T) (t : Stage T) (l : Lent T)
       → picture_of k (sender_publishes k w p r s t l) ≡ shown k (set w.stages s (published l t)) (takens w) (counts_of k w.words) (halted w.words)
   picture_publishes k w p s r t l =
-      let word = mark_word k s in let v = entry_of k.size s in
+      let word = mark_word k s in let v = flipped (word_at w.words word) (mark_bit k s) 1 in
       let counts : counts_of k (set w.words word v) ≡ counts_of k w.words = counts_stay k w.words word v (λ h inside e. omega arith) in
       let still : halted (set w.words word v) ≡ halted w.words =
       ap is_halted (get_or-set_other w.words word claim_word v 0 (λ (e : claim_word ≡ word). omega arith)) in
       λ i. shown k (set w.stages s (published l t)) (takens w) (counts i) (still i)
 
-  lead_publish : (k : Shape) (w : World T) (p s : ℕ) (r : SenderRecord T) (t : Stage T) (l : Lent T) → p < k.senders → get_elem? w.stages s ≡ some t → t.owner ≡ p
+  lead_publish : (k : Shape T) (w : World T) (p s : ℕ) (r : SenderRecord T) (t : Stage T) (l : Lent T) → p < k.senders → get_elem? w.stages s ≡ some t → t.owner ≡ p
       → t.lent ≡ None
-      → Leads k (published_by p s (l.event ∷ [])) (picture_of k w) (picture_of k (sender_publishes k w p r s t l))
+      → Leads k (entry (Write p s l.event) Written [] ++ entry (Publish p s s) Published []) (picture_of k w) (picture_of k (sender_publishes k w p r s t l))
   lead_publish k w p s r t l who at own unshown =
       let end = picture_publishes k w p s r t l in let m = picture_of k w in
       leads_on (ring_setup k) m (wrote m s l.event) (picture_of k (sender_publishes k w p r s t l)) (entry (Write p s l.event) Written []) (entry (Publish p s s) Published [])
@@ -189,7 +188,7 @@ module _ {T : Type 0} where
       (publish_step k w.stages p s l t (takens w) (counts_of k w.words) (halted w.words) who at own unshown)))
 
   -- a halt shows alone
-  lead_halt : (k : Shape) (w : World T) → KeepsRule k w
+  lead_halt : (k : Shape T) (w : World T) → KeepsRule k w
       → Leads k (entry Halt Halting []) (picture_of k w) (shown k w.stages (takens w) (counts_of k (halted_words w)) (halted (halted_words w)))
   lead_halt k w K =
       let n = word_at w.words claim_word in let wide = K.wide in
@@ -201,7 +200,7 @@ module _ {T : Type 0} where
       (leads_one k Halt Halting [] (picture_of k w) (shown k w.stages (takens w) (counts_of k w.words) true) refl)
 
   -- what is offered to a handler is claimed
-  pub offer_claimed : (k : Shape) (w : World T) (h : ℕ) → h < handlers_of k → KeepsRule k w → available (ring_setup k) (picture_of k w) h ≤ length w.stages
+  pub offer_claimed : (k : Shape T) (w : World T) (h : ℕ) → h < handlers_of k → KeepsRule k w → available (ring_setup k) (picture_of k w) h ≤ length w.stages
   offer_claimed k w h inside K =
       offered_at_most (picture_of k w) (upstreams_of k.upstreams h) (length w.stages)
       (front_within k w.stages (takens w) (counts_of k w.words) (halted w.words))
@@ -212,7 +211,7 @@ module _ {T : Type 0} where
   drained_of h b = if b then told_drained h ∷ [] else []
 
   -- a look at the claim word that may tell a poll that the ring drained
-  lead_claims_look : (k : Shape) (w : World T) (h : ℕ) (r : ReceiverRecord T) → get_elem? w.receivers h ≡ some r → KeepsRule k w
+  lead_claims_look : (k : Shape T) (w : World T) (h : ℕ) (r : ReceiverRecord T) → get_elem? w.receivers h ≡ some r → KeepsRule k w
       → Leads k (drained_of h (tells_drained r (word_at w.words claim_word))) (picture_of k w) (picture_of k w)
   lead_claims_look k w h r at K =
       let n = word_at w.words claim_word in let m = picture_of k w in let inside = handler_inside k w h r at K in
@@ -227,8 +226,8 @@ module _ {T : Type 0} where
       ]
 
   -- what is not marked is not published
-  pub unmarked_offers : (k : Shape) (w : World T) (h : ℕ) (r : ReceiverRecord T) → get_elem? w.receivers h ≡ some r → upstreams_of k.upstreams h ≡ [] → KeepsRule k w
-      → word_at w.words (mark_word k (length r.received)) ≢ entry_of k.size (length r.received) → available (ring_setup k) (picture_of k w) h ≤ length r.received
+  pub unmarked_offers : (k : Shape T) (w : World T) (h : ℕ) (r : ReceiverRecord T) → get_elem? w.receivers h ≡ some r → upstreams_of k.upstreams h ≡ [] → KeepsRule k w
+      → has_mark k w (length r.received) ≡ false → available (ring_setup k) (picture_of k w) h ≤ length r.received
   unmarked_offers k w h r at none K miss =
       let n = length r.received in let m = picture_of k w in
       let was = K.received h r at in let room = above k w K h (handler_inside k w h r at K) in let d = was.count in let c = was.completed in
@@ -236,7 +235,7 @@ module _ {T : Type 0} where
         | inr on ↦ absurd (elim (cases_lt n (length w.stages)) [
           | inl lt ↦ (let t = there w.stages n lt in
               let lent : t.0.lent ≡ Some on.0 = ap (λ (x : Stage T). x.lent) (sym (at_stage w.stages n t.0 t.1)) ∙ on.1 in
-              miss (K.exact n (on.0, (t.0, t.1, lent)) (omega arith)))
+              both_ways (has_mark k w n) miss (K.marked n (on.0, (t.0, t.1, lent)) (omega arith)))
           | inr past ↦ none_or_some (stage_at w.stages n).lent on.0 (ap (λ (x : Stage T). x.lent) (get_or_past w.stages n (fresh_stage 0) past)) on.1
         ])
         | inl still ↦ ap is_some still
@@ -247,14 +246,14 @@ module _ {T : Type 0} where
   offered_below m [] u has = absurd (let lt = has.1 in omega arith)
   offered_below m (x ∷ xs) u has = least_low (λ h. get_or m.completed h 0) (x ∷ xs) has.0 u has.1 has.2
 
-  pub behind_offers : (k : Shape) (w : World T) (h u : ℕ) (r : ReceiverRecord T) → get_elem? w.receivers h ≡ some r → Contains (upstreams_of k.upstreams h) u
+  pub behind_offers : (k : Shape T) (w : World T) (h u : ℕ) (r : ReceiverRecord T) → get_elem? w.receivers h ≡ some r → Contains (upstreams_of k.upstreams h) u
       → KeepsRule k w → word_at w.words (count_word u) ≤ length r.received → available (ring_setup k) (picture_of k w) h ≤ length r.received
   behind_offers k w h u r at has K low =
       let i = upstream_inside k K.shape.graph h u (handler_inside k w h r at K) has in let c = count_at k w.words u i in
       let all = offered_below (picture_of k w) (upstreams_of k.upstreams h) u has in omega arith
 
   -- so much is offered as a receiver takes
-  offered_next : (k : Shape) (w : World T) (h n : ℕ) (r : ReceiverRecord T) → get_elem? w.receivers h ≡ some r → 0 < n → Offers k w h r n → KeepsRule k w
+  offered_next : (k : Shape T) (w : World T) (h n : ℕ) (r : ReceiverRecord T) → get_elem? w.receivers h ≡ some r → 0 < n → Offers k w h r n → KeepsRule k w
       → length r.received + n ≤ available (ring_setup k) (picture_of k w) h
   offered_next k w h n r at some_one O K =
       let a = length r.received in let inside = handler_inside k w h r at K in
@@ -296,7 +295,7 @@ module _ {T : Type 0} where
   poll_some h taken [] to n is some_one = absurd (omega arith)
   poll_some h taken (e ∷ es) to n is some_one = λ i. entry (Poll h (is i)) (Batch taken (is i) (taken + is i == to)) (e ∷ es)
 
-  lead_batch : (k : Shape) (w : World T) (h n : ℕ) (r q : ReceiverRecord T) → get_elem? w.receivers h ≡ some r → Offers k w h r n
+  lead_batch : (k : Shape T) (w : World T) (h n : ℕ) (r q : ReceiverRecord T) → get_elem? w.receivers h ≡ some r → Offers k w h r n
       → taken_of q ≡ taken_of r + n → KeepsRule k w
       → Leads k (batch_of k w h r n) (picture_of k w) (picture_of k (receiver_knows w h q))
   lead_batch k w h n r q at O longer K =
@@ -319,7 +318,7 @@ module _ {T : Type 0} where
             (leads_one k (Poll h n) (Batch a n (a + n == to)) es m (record m { taken = set ts h (a + n) }) exact)))
       ]
 
-  lead_complete : (k : Shape) (w : World T) (h n : ℕ) (r : ReceiverRecord T) → get_elem? w.receivers h ≡ some r → r.completed ≤ n → n ≤ length r.received
+  lead_complete : (k : Shape T) (w : World T) (h n : ℕ) (r : ReceiverRecord T) → get_elem? w.receivers h ≡ some r → r.completed ≤ n → n ≤ length r.received
       → KeepsRule k w
       → Leads k (entry (Complete h n) Completed []) (picture_of k w)
       (picture_of k (record w { words = set w.words (count_word h) n; receivers = set w.receivers h (completed_to r n) }))
@@ -336,16 +335,28 @@ module _ {T : Type 0} where
       subst (λ (x : State T). Leads k (entry (Complete h n) Completed []) m x) end
       (leads_one k (Complete h n) Completed [] m _ (complete_step (ring_setup k) m h n inside refl (omega arith) (omega arith)))
 
-  pub lead_step : (k : Shape) (s : Step T) (w u : World T) → Happens k s w u → KeepsRule k w → Leads k (entries_of k s w) (picture_of k w) (picture_of k u)
+  -- a publication of one event, and of many
+  lead_one : (k : Shape T) (p s : ℕ) (event : T) (w u : World T) → PublishesOne k p s event w u → KeepsRule k w
+      → Leads k (entry (Write p s event) Written [] ++ entry (Publish p s s) Published []) (picture_of k w) (picture_of k u)
+  lead_one k p s event w u H K = let own = owned k w p H.0 s H.2.1.0 H.2.0 H.1 H.2.1.1 K in
+      subst (λ (e : T). Leads k (entry (Write p s e) Written [] ++ entry (Publish p s s) Published []) (picture_of k w) (picture_of k u)) (sym H.2.3.1)
+      (subst (λ (x : World T). Leads k (entry (Write p s H.2.3.0.event) Written [] ++ entry (Publish p s s) Published []) (picture_of k w) (picture_of k x)) (sym H.2.3.2)
+      (lead_publish k w p s H.0 H.2.0 H.2.3.0 (sender_inside k w p H.0 H.1 K) own.1 own.0 H.2.2))
+
+  lead_all : (k : Shape T) (p s : ℕ) (events : List T) (w u : World T) → PublishesAll k p s events w u → KeepsRule k w
+      → Leads k (published_by p s events) (picture_of k w) (picture_of k u)
+  lead_all k p s [] w u A K = ap (picture_of k) (sym A)
+  lead_all k p s (event ∷ events) w u A K =
+      leads_on (ring_setup k) (picture_of k w) (picture_of k A.0) (picture_of k u) (entry (Write p s event) Written [] ++ entry (Publish p s s) Published [])
+      (published_by p (s + 1) events) (lead_one k p s event w A.0 A.1 K) (lead_all k p (s + 1) events A.0 u A.2 (keeps_one k p s event w A.0 A.1 K))
+
+  pub lead_step : (k : Shape T) (s : Step T) (w u : World T) → Happens k s w u → KeepsRule k w → Leads k (entries_of k s w) (picture_of k w) (picture_of k u)
   lead_step k (SenderLooksAtClaims p) w u H K = ap (picture_of k) (sym H.2)
   lead_step k (SenderLooksAtCount p f) w u H K = ap (picture_of k) (sym H.2.1)
   lead_step k (SenderClaims p c n) w u H K =
       subst (λ (x : World T). Leads k (claim_of p c n (word_at w.words claim_word == c)) (picture_of k w) (picture_of k x)) (sym H.2.2)
       (lead_exchange k w p c n H.0 H.1 H.2.0 H.2.1 K)
-  lead_step k (SenderPublishes p s events) w u H K = let own = owned k w p H.0 s H.2.1.0 H.2.0 H.1 H.2.1.1 K in
-      subst (λ (es : List T). Leads k (published_by p s es) (picture_of k w) (picture_of k u)) (sym H.2.3.1)
-      (subst (λ (x : World T). Leads k (published_by p s (H.2.3.0.event ∷ [])) (picture_of k w) (picture_of k x)) (sym H.2.3.2)
-      (lead_publish k w p s H.0 H.2.0 H.2.3.0 (sender_inside k w p H.0 H.1 K) own.1 own.0 H.2.2))
+  lead_step k (SenderPublishes p s events) w u H K = lead_all k p s events w u H.1 K
   lead_step k (SenderLooksAtMark p s) w u H K = ap (picture_of k) (sym H.2)
   lead_step k (SenderHalts p) w u H K = subst (λ (x : World T). Leads k (entry Halt Halting []) (picture_of k w) (picture_of k x)) (sym H.2) (lead_halt k w K)
   lead_step k (ReceiverLooksAtClaims h) w u H K =
@@ -355,10 +366,10 @@ module _ {T : Type 0} where
       ∙ ap (picture_of k) (sym H.2)) (lead_claims_look k w h H.0 H.1 K))
   lead_step k (ReceiverLooksAtMark h room) w u H K =
       let mark : ReceiverRecord T → ℕ = λ r. word_at w.words (mark_word k (length r.received)) in
-      let n = taken_at_mark k H.0 (mark H.0) room in let lents = H.2.1 in let q = mark_looked k H.0 (mark H.0) lents in let m = picture_of k w in
+      let n = taken_at_mark k H.0 (mark H.0) room in let lents = H.2.1 in let q = mark_looked H.0 (mark H.0) lents in let m = picture_of k w in
       subst (λ (r : ReceiverRecord T). Leads k (batch_of k w h r (taken_at_mark k r (mark r) room)) m (picture_of k u)) (sym (is_receiver w h H.0 H.1))
       (subst (λ (x : World T). Leads k (batch_of k w h H.0 n) m (picture_of k x)) (sym H.2.3)
-      (lead_batch k w h n H.0 q H.1 (offers_at_mark k w h room H.0 H.2.0 K) (let c = H.2.2.count in let l = length-append H.0.received lents in omega arith) K))
+      (lead_batch k w h n H.0 q H.1 (offers_at_mark k w h room H.0 H.1 H.2.0 K) (let c = H.2.2.count in let l = length-append H.0.received lents in omega arith) K))
   lead_step k (ReceiverLooksAtCount h c room) w u H K =
       let found = word_at w.words (count_word c) in let n = taken_at_count k H.0 (count_word c) found room in let lents = H.2.1 in
       let q = receiver_looked H.0 (count_word c) found lents in let m = picture_of k w in
@@ -372,7 +383,7 @@ module _ {T : Type 0} where
       (lead_complete k w h n H.0 H.1 H.2.0 H.2.1 K)
   lead_step k HalterHalts w u H K = subst (λ (x : World T). Leads k (entry Halt Halting []) (picture_of k w) (picture_of k x)) (sym H) (lead_halt k w K)
 
-  pub lead_runs : (k : Shape) (steps : List (Step T)) (es : Transcript T) (w u : World T) → Runs k steps es w u → KeepsRule k w
+  pub lead_runs : (k : Shape T) (steps : List (Step T)) (es : Transcript T) (w u : World T) → Runs k steps es w u → KeepsRule k w
       → Leads k es (picture_of k w) (picture_of k u)
   lead_runs k [] es w u R K = subst (λ (xs : Transcript T). Leads k xs (picture_of k w) (picture_of k u)) (sym R.0) (ap (picture_of k) R.1)
   lead_runs k (s ∷ steps) es w u R K = subst (λ (xs : Transcript T). Leads k xs (picture_of k w) (picture_of k u)) (sym R.3)

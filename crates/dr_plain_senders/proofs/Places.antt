@@ -1,17 +1,14 @@
 -- Places of lists, words and looks.
-use Rattle.std.proofs.Common.{◌≡◌, ◌≢◌, ℕ, zero, suc, ◌+◌, ◌*◌, ◌/◌, ◌%◌, ◌<◌, ◌≤◌, ◌⊎◌, inl, inr, true, false, List, [], ◌∷◌, ◌++◌}
+use Rattle.std.proofs.Common.{◌≡◌, ◌≢◌, ℕ, zero, suc, ◌+◌, ◌%◌, ◌<◌, ◌≤◌, ◌⊎◌, inl, inr, true, false, List, [], ◌∷◌, ◌++◌}
 use Rattle.std.proofs.Common.{length, get_or, set, replicate, sym, refl, ap, ◌∙◌, arith, get_or-set_same, get_or-set_other}
 use Rattle.std.proofs.lemmas.Bool.{cases_eq, cases_lt, lt-ltb, le-ltb, le-leb, lt-leb}
-use Rattle.std.proofs.lemmas.Nat.{div-add-mod'}
-use Rattle.std.proofs.Math.Nat.{mod-lt, mul-le-mul_right}
 use mathlib.Core.Option.{some, some-injective, some-ne-none}
 use lib.ListN.{get_elem?}
 use Rattle.atomic_table.proofs.Lists as lists
 use Rattle.atomic_table.proofs.Lists.{at_longer, at_snoc, one_turn}
-use Rattle.dr_seq.specs.Rounds.{entry_of}
 use Rattle.dr_runs.specs.declared.look.Look.{Look}
 use Rattle.dr_plain_senders.specs.Meaning.Shape.{Shape}
-use Rattle.dr_plain_senders.specs.Meaning.Words.{claimed_in, is_halted, halted_from, halt_bit, mark_start, mark_word}
+use Rattle.dr_plain_senders.specs.Meaning.Words.{claimed_in, is_halted, halted_from, halt_bit, mark_start}
 use Rattle.dr_plain_senders.specs.Meaning.Rule.{ArePast}
 
 abbrev pub word_at : List ℕ → ℕ → ℕ
@@ -40,6 +37,12 @@ in_replicate (suc n) a (suc i) lt = in_replicate n a i (omega arith)
 
 pub set_else : {A : Type 0} (l : List A) (s i : ℕ) (a t : A) → i ≢ s → get_elem? l i ≡ some t → get_elem? (set l s a) i ≡ some t
 set_else l s i a t ne at = lists.set_else l s i a ne ∙ at
+
+-- what is set last at a place stays
+pub set_twice : {A : Type 0} (l : List A) (i : ℕ) (a b : A) → set (set l i a) i b ≡ set l i b
+set_twice [] i a b = refl
+set_twice (x ∷ xs) zero a b = refl
+set_twice (x ∷ xs) (suc i) a b = ap (λ (ys : List _). x ∷ ys) (set_twice xs i a b)
 
 -- one place has one value
 pub one_value : {A : Type 0} (l : List A) (i : ℕ) (a b : A) → get_elem? l i ≡ some a → get_elem? l i ≡ some b → a ≡ b
@@ -71,48 +74,23 @@ is_halted_from n = elim (cases_lt n halt_bit) [
 ]
 
 -- words that only rise
-abbrev pub Rises : Shape → List ℕ → List ℕ → Type 0
+abbrev pub Rises : {T : Type 0} → Shape T → List ℕ → List ℕ → Type 0
 Rises k words us = (i : ℕ) → i < mark_start k → word_at words i ≤ word_at us i
 
-pub rises_set : (k : Shape) (words : List ℕ) (i n : ℕ) → i < length words → (i < mark_start k → word_at words i ≤ n) → Rises k words (set words i n)
+pub rises_set : {T : Type 0} (k : Shape T) (words : List ℕ) (i n : ℕ) → i < length words → (i < mark_start k → word_at words i ≤ n) → Rises k words (set words i n)
 rises_set k words i n inside up j low = elim (cases_eq j i) [
   | inl e ↦ (let a : word_at (set words i n) j ≡ n = ap (λ (m : ℕ). word_at (set words i n) m) e ∙ get_or-set_same words i n 0 inside in
       let b : word_at words j ≡ word_at words i = ap (λ (m : ℕ). word_at words m) e in let c = up (omega arith) in omega arith)
   | inr ne ↦ (let a : word_at (set words i n) j ≡ word_at words j = get_or-set_other words i j n 0 ne in omega arith)
 ]
 
-pub past_rises : (k : Shape) (words us : List ℕ) (looks : List Look) → Rises k words us → ArePast k words looks → ArePast k us looks
+pub past_rises : {T : Type 0} (k : Shape T) (words us : List ℕ) (looks : List Look) → Rises k words us → ArePast k words looks → ArePast k us looks
 past_rises k words us looks up all j x at =
     let d = all j x at in record { rises = d.rises; before = let a = d.before in let b = up x.word d.rises in omega arith }
 
 -- two sequences less than a round apart have slots of their own
-pub own_slot : (k : Shape) (a b : ℕ) → a ≢ b → b < a + k.size → a < b + k.size → a % k.size ≢ b % k.size
+pub own_slot : {T : Type 0} (k : Shape T) (a b : ℕ) → a ≢ b → b < a + k.size → a < b + k.size → a % k.size ≢ b % k.size
 own_slot k a b ne up down e = elim (cases_lt a b) [
   | inl lt ↦ ne (one_turn a b k.size (omega arith) up e)
   | inr ge ↦ ne (sym (one_turn b a k.size ge down (sym e)))
 ]
-
--- a slot and a mark's entry name one sequence
-pub same_sequence : (k : Shape) (a b : ℕ) → 0 < k.size → mark_word k a ≡ mark_word k b → entry_of k.size a ≡ entry_of k.size b → a ≡ b
-same_sequence k a b pos slot round =
-    let n = k.size in let p = div-add-mod' a n in let q = div-add-mod' b n in
-    let same : a / n ≡ b / n = omega arith in let rest : a % n ≡ b % n = omega arith in
-    sym p ∙ (λ i. same i * n + rest i) ∙ q
-
--- a later sequence has no earlier round
-pub rounds_rise : (a b size : ℕ) → 0 < size → a ≤ b → entry_of size a ≤ entry_of size b
-rounds_rise a b size pos le =
-    let p = div-add-mod' a size in let q = div-add-mod' b size in let r = mod-lt b pos in
-    elim (cases_lt (b / size) (a / size)) [
-      | inl lt ↦ absurd (let m : (b / size + 1) * size ≤ a / size * size = mul-le-mul_right size (let x : b / size + 1 ≤ a / size = omega arith in x) in omega (arith, m, p, q, r))
-      | inr ge ↦ omega arith
-    ]
-
--- of two sequences in one slot, the one with the lesser mark is a round or more behind
-pub same_or_behind : (k : Shape) (a b : ℕ) → 0 < k.size → mark_word k a ≡ mark_word k b → entry_of k.size a ≤ entry_of k.size b → (a ≡ b) ⊎ (a + k.size ≤ b)
-same_or_behind k a b pos slot le =
-    let n = k.size in let p = div-add-mod' a n in let q = div-add-mod' b n in let rest : a % n ≡ b % n = omega arith in
-    elim (cases_lt (a / n) (b / n)) [
-      | inl lt ↦ inr (let m : (a / n + 1) * n ≤ b / n * n = mul-le-mul_right n (let x : a / n + 1 ≤ b / n = omega arith in x) in omega (arith, m, p, q, rest))
-      | inr ge ↦ inl (same_sequence k a b pos slot (omega arith))
-    ]

@@ -6,14 +6,14 @@ use Rattle.dr_plain_senders.specs.Meaning.Shape.{Shape, IsShape}
 use Rattle.dr_plain_senders.specs.Calls.Plans.{IsPlan}
 use Rattle.dr_plain_senders.specs.Meaning.Words.{words_of}
 
-pub slot_inside : (k : Shape) (s : ℕ) → IsPlan k → s % k.size < k.size
+pub slot_inside : {T : Type 0} (k : Shape T) (s : ℕ) → IsPlan k → s % k.size < k.size
 slot_inside k s is = mod-lt s (size_positive k.size is.size)
 
-pub few_slots : (k : Shape) → IsPlan k → k.size ≤ 65536
+pub few_slots : {T : Type 0} (k : Shape T) → IsPlan k → k.size ≤ 65536
 few_slots k is = size_at_most k.size is.size
 
-pub few_words : (k : Shape) → IsPlan k → words_of k ≤ 300000
+pub few_words : {T : Type 0} (k : Shape T) → IsPlan k → words_of k ≤ 300000
 few_words k is = let few = is.few in let small : k.size ≤ 65536 = few_slots k is in omega arith
 
-pub is_shape : (k : Shape) → IsPlan k → IsShape k
+pub is_shape : {T : Type 0} (k : Shape T) → IsPlan k → IsShape k
 is_shape k is = record { graph = is.graph; some_slot = size_positive k.size is.size; small = let l = is.limit in omega arith }

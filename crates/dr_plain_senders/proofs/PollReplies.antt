@@ -29,7 +29,7 @@ use Rattle.dr_plain_senders.specs.Calls.Replies.{Replies, OffersNothing, Decides
 use Rattle.dr_plain_senders.proofs.Facts.{handler_inside}
 use Rattle.dr_plain_senders.proofs.Pictures.{count_at, taken_at, offer_claimed, unmarked_offers, behind_offers}
 
-module _ {T : Type 0} (k : Shape) (w : World T) (K : KeepsRule k w) where
+module _ {T : Type 0} (k : Shape T) (w : World T) (K : KeepsRule k w) where
   abbrev m : State T
   m = picture_of k w
 

@@ -1,13 +1,12 @@
 -- What stands in a receiver's fields once it took events.
-use Rattle.std.proofs.Common.{◌≡◌, ℕ, ◌+◌, ◌-◌, ◌<◌, ◌≤◌, inl, inr, Bool, ◌==◌, if◌then◌else◌, min}
+use Rattle.std.proofs.Common.{◌≡◌, ℕ, ◌+◌, ◌-◌, ◌<◌, ◌≤◌, inl, inr}
 use Rattle.std.proofs.Common.{List, ◌++◌, length, take, drop, sym, ap, ◌∙◌, subst, arith}
-use Rattle.std.proofs.lemmas.Bool.{cases_eq, cases_lt, eq-eqb, ne_eqb}
+use Rattle.std.proofs.lemmas.Bool.{cases_lt}
 use Rattle.std.proofs.lemmas.List.{length-append}
 use mathlib.Core.Option.{some}
 use lib.ListN.{get_elem?}
 use Rattle.atomic_table.proofs.Lists.{at_longer}
 use Rattle.dr_cells.specs.declared.token.Token.{Token}
-use Rattle.dr_seq.specs.Rounds.{entry_of}
 use Rattle.dr_seq.proofs.Apart.{slots_differ}
 use Rattle.dr_runs.specs.Stretches.{stretch}
 use Rattle.dr_runs.proofs.Lists.{take_whole}
@@ -16,8 +15,7 @@ use Rattle.dr_plain_senders.specs.Meaning.Shape.{Shape}
 use Rattle.dr_plain_senders.specs.Meaning.Words.{cell_of, lane_of}
 use Rattle.dr_plain_senders.specs.Meaning.Lying.{lent, part_of, placed}
 use Rattle.dr_plain_senders.specs.declared.record.Lent.{Lent}
-use Rattle.dr_plain_senders.specs.declared.record.ReceiverRecord.{ReceiverRecord}
-use Rattle.dr_plain_senders.specs.Meaning.Records.{taken_at_mark, is_marked_next}
+use Rattle.dr_plain_senders.specs.Meaning.Records.{taken_at_mark}
 use Rattle.dr_plain_senders.specs.Calls.Ends.{ReceiverStand}
 use Rattle.dr_plain_senders.specs.Calls.Finds.{FindsNext}
 use Rattle.dr_plain_senders.specs.Inside.Fits.{ReceiverFits}
@@ -28,22 +26,10 @@ use Rattle.dr_plain_senders.proofs.Trading.{parts_count}
 use Rattle.dr_plain_senders.proofs.Taken.{blanks_both, drop_seam}
 
 module _ {T : Type 0} where
-  -- one look at a mark takes one event at most, which there is a cell for
-  pub next_count : (k : Shape) (r : ReceiverRecord T) (mark entry room count : ℕ) → room ≤ 1 → entry ≡ entry_of k.size (length r.received)
-      → count ≡ (if mark == entry then room else 0) → count ≡ taken_at_mark k r mark room
-  next_count k r mark entry room count few is count_is =
-      count_is ∙ ap (λ (n : ℕ). if mark == n then room else 0) is
-      ∙ (let least : room ≡ min room 1 = omega arith in ap (λ (n : ℕ). if is_marked_next k r mark then n else 0) least)
-
+  -- what one look at a mark takes there are cells for
   pub next_near : (e : ReceiverStand T) (t c : ℕ) (parts : List (Token T)) (mark room count : ℕ) → ReceiverFits e t c parts → FindsNext e.plan e.knows mark
-      → room ≤ 1 → count ≡ taken_at_mark e.plan e.knows mark room → t + count ≤ c + e.plan.size
-  next_near e t c parts mark room count F finds few is =
-      let entry = entry_of e.plan.size (length e.knows.received) in let near = F.near in let all = F.taken in let done = F.completed in
-      elim (cases_eq mark entry) [
-        | inl same ↦ (let lt = (finds same).1 in
-            let n : count ≡ min room 1 = is ∙ ap (λ (b : Bool). if b then min room 1 else 0) (eq-eqb mark entry same) in omega arith)
-        | inr other ↦ (let n : count ≡ 0 = is ∙ ap (λ (b : Bool). if b then min room 1 else 0) (ne_eqb mark entry other) in omega arith)
-      ]
+      → count ≡ taken_at_mark e.plan e.knows mark room → t + count ≤ c + e.plan.size
+  next_near e t c parts mark room count F finds is = let near = finds.1 in let all = F.taken in let done = F.completed in omega arith
 
 -- a receiver's station took these events, whose parts are first in hand
 module _ {T : Type 0} (e e' : ReceiverStand T) (t c count : ℕ) (parts : List (Token T)) (lents : List (Lent T)) (F : ReceiverFits e t c parts)
@@ -55,10 +41,10 @@ module _ {T : Type 0} (e e' : ReceiverStand T) (t c count : ℕ) (parts : List (
 
   pub may_take : (t ≤ t + count) × (t + count ≤ length e'.knows.received) × (t + count ≤ t + e'.plan.size)
   may_take = let len = received_count in let rises = F.rises in
-      let size : e'.plan.size ≡ e.plan.size = ap (λ (p : Shape). p.size) plan in (omega arith, omega arith, omega arith)
+      let size : e'.plan.size ≡ e.plan.size = ap (λ (p : Shape T). p.size) plan in (omega arith, omega arith, omega arith)
 
   pub parts_room : length parts ≡ e'.plan.size
-  parts_room = F.parts.count ∙ ap (λ (p : Shape). p.size) (sym plan)
+  parts_room = F.parts.count ∙ ap (λ (p : Shape T). p.size) (sym plan)
 
   pub new_in_hand : e'.hand ≡ parts_between e'.plan e'.knows t (t + count) ++ e.hand
   new_in_hand =
@@ -80,17 +66,17 @@ module _ {T : Type 0} (e e' : ReceiverStand T) (t c count : ℕ) (parts : List (
         → get_elem? parts' (cell_of e'.plan q) ≡ some (part_of e'.plan q (lent l))
     held_still q l low lt at =
         let rises = F.rises in let all = F.taken in let is_done = F.completed in
-        let size : e'.plan.size ≡ e.plan.size = ap (λ (p : Shape). p.size) plan in
+        let size : e'.plan.size ≡ e.plan.size = ap (λ (p : Shape T). p.size) plan in
         let a = there e.knows.received q (omega arith) in
         let same : some a.0 ≡ some l = sym (at_longer e.knows.received lents q a.0 a.1) ∙ ap (λ (xs : List (Lent T)). get_elem? xs q) (sym received) ∙ at in
         P.others (cell_of e'.plan q) (λ p from to. slots_differ e'.plan.size p q (λ (z : p ≡ q). omega arith) (omega arith) (omega arith))
-        ∙ subst (λ (p : Shape). get_elem? parts (cell_of p q) ≡ some (part_of p q (lent l))) (sym plan) (F.parts.held q l (omega arith) (a.1 ∙ same))
+        ∙ subst (λ (p : Shape T). get_elem? parts (cell_of p q) ≡ some (part_of p q (lent l))) (sym plan) (F.parts.held q l (omega arith) (a.1 ∙ same))
 
     pub fits_taken : (s : ReceiverStand T) → s ≡ with_hand e' (drop (t + count - t) e'.hand ++ blanks_between e'.plan e'.knows t (t + count))
         → ReceiverFits s (t + count) c parts'
     fits_taken s is =
         let rises = F.rises in let is_done = F.completed in let len = received_count in
-        let size : e'.plan.size ≡ e.plan.size = ap (λ (p : Shape). p.size) plan in
+        let size : e'.plan.size ≡ e.plan.size = ap (λ (p : Shape T). p.size) plan in
         subst (λ (x : ReceiverStand T). ReceiverFits x (t + count) c parts') (sym is) (record {
           taken = sym len;
           completed = is_done ∙ sym done;

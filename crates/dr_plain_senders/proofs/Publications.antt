@@ -1,8 +1,8 @@
 -- What a loop that publishes comes to.
-use Rattle.std.proofs.Common.{◌≡◌, ◌≢◌, ℕ, zero, suc, ◌+◌, ◌%◌, ◌<◌, ◌≤◌, inl, inr, Bool, true, false, not, ◌==◌, ◌&&◌, if◌then◌else◌, List, [], ◌∷◌, ◌++◌, map, length, get_or, set, sym, refl, ap, ◌∙◌, subst, arith, append_assoc, get_or-set_other}
+use Rattle.std.proofs.Common.{◌≡◌, ◌≢◌, ℕ, zero, suc, ◌+◌, ◌%◌, ◌<◌, ◌≤◌, inl, inr, Bool, true, false, not, ◌==◌, ◌&&◌, if◌then◌else◌, List, [], ◌∷◌, ◌++◌, map, length, get_or, set, sym, refl, ap, ◌∙◌, subst, arith, get_or-set_other}
 use Rattle.std.specs.Prelude.{None, Some, Option, nat_le, nat_lt}
 use Rattle.std.proofs.lemmas.Bool.{cases_Bool, cases_eq, cases_lt, eq-eqb, ne_eqb, lt-ltb, le-ltb, lt-leb, le-leb}
-use Rattle.std.proofs.lemmas.List.{append-nil, length-append, length-map, map-set}
+use Rattle.std.proofs.lemmas.List.{length-append, length-map, map-set}
 use Rattle.std.proofs.Math.Nat.{mod-lt}
 use mathlib.Core.Option.{some, some-injective, some-ne-none}
 use lib.ListN.{get_elem?}
@@ -11,23 +11,21 @@ use Rattle.dr_cells.specs.declared.token.Token.{Token}
 use Rattle.dr_cells.specs.Hold.{held}
 use Rattle.dr_cells.specs.Tokens.{no_token}
 use Rattle.dr_seq.specs.Rounds.{entry_of, is_marked}
+use Rattle.dr_seq.proofs.Apart.{slots_differ}
 use Rattle.dr_runs.proofs.Elements.{value_at}
 use Rattle.dr_runs.proofs.Lists.{map_there}
 use Rattle.dr_plain_senders.specs.Meaning.Shape.{Shape}
 use Rattle.dr_plain_senders.specs.Meaning.Words.{cell_of}
-use Rattle.dr_plain_senders.specs.Meaning.Records.{published, own_after, own_published, has_published, events_of}
+use Rattle.dr_plain_senders.specs.Meaning.Records.{published, own_after, own_published, has_published}
 use Rattle.dr_plain_senders.specs.declared.owned.Owned.{Owned}
 use Rattle.dr_plain_senders.specs.declared.record.Lent.{Lent}
 use Rattle.dr_plain_senders.specs.declared.record.Own.{Own}
 use Rattle.dr_plain_senders.specs.declared.record.SenderRecord.{SenderRecord}
-use Rattle.dr_plain_senders.specs.declared.record.Step.{Step}
-use Rattle.dr_plain_senders.specs.declared.record.Step.TheVariants.{SenderPublishes}
-use Rattle.dr_plain_senders.specs.Calls.Ends.{SenderStand, HasStored}
+use Rattle.dr_plain_senders.specs.Calls.Ends.{SenderStand}
 use Rattle.dr_plain_senders.specs.Calls.Writing.{written_where}
-use Rattle.dr_plain_senders.specs.Calls.Publishing.{is_between, publications}
+use Rattle.dr_plain_senders.specs.Calls.Publishing.{is_between}
 use Rattle.dr_plain_senders.specs.Inside.Fits.{SenderFits, is_open, is_ready, cells_of, written_in, writes_of}
-use Rattle.dr_plain_senders.specs.Inside.Publishing.{HasPublishedAll}
-use Rattle.dr_plain_senders.proofs.Stations.{begins_same, begins_on}
+use Rattle.dr_plain_senders.specs.Inside.Publishing.{ArePublic}
 use Rattle.dr_plain_senders.proofs.Places.{more_cases}
 use Rattle.dr_plain_senders.proofs.Granting.{first_of, second_of, unready}
 use Rattle.dr_plain_senders.proofs.Owning.{mark_here, mark_beside, marked_apart}
@@ -74,32 +72,8 @@ module _ {T : Type 0} where
       ap (λ (xs : List (Own T)). record r { own = xs })
       (ap (λ (n : ℕ). map (own_after n (published l)) (own_published lo ls r.own)) (sym at) ∙ sym (own_more lo ls l r.own))
 
-  stored_more : (p s : ℕ) (events : List T) (event : T)
-      → publications p s (events ++ event ∷ []) ≡ publications p s events ++ SenderPublishes p (s + length events) (event ∷ []) ∷ []
-  stored_more p s [] event = let at : s ≡ s + 0 = omega arith in ap (λ (n : ℕ). SenderPublishes p n (event ∷ []) ∷ []) at
-  stored_more p s (x ∷ events) event =
-      let at : s + 1 + length events ≡ s + suc (length events) = omega arith in
-      ap (λ (xs : List (Step T)). SenderPublishes p s (x ∷ []) ∷ xs) (stored_more p (s + 1) events event)
-      ∙ ap (λ (n : ℕ). publications p s (x ∷ events) ++ SenderPublishes p n (event ∷ []) ∷ []) at
-
-  events_more : (ls : List (Lent T)) (l : Lent T) → events_of (ls ++ l ∷ []) ≡ events_of ls ++ l.event ∷ []
-  events_more [] l = refl
-  events_more (x ∷ ls) l = ap (λ (xs : List T). x.event ∷ xs) (events_more ls l)
-
-  many_events : (ls : List (Lent T)) → length (events_of ls) ≡ length ls
-  many_events [] = refl
-  many_events (x ∷ ls) = ap suc (many_events ls)
-
-  -- one more publication
-  pub publications_more : (p lo s : ℕ) (ls : List (Lent T)) (l : Lent T) → lo + length ls ≡ s
-      → publications p lo (events_of ls) ++ SenderPublishes p s (l.event ∷ []) ∷ [] ≡ publications p lo (events_of (ls ++ l ∷ []))
-  publications_more p lo s ls l at =
-      let many = many_events ls in let here : lo + length (events_of ls) ≡ s = omega arith in
-      ap (λ (n : ℕ). publications p lo (events_of ls) ++ SenderPublishes p n (l.event ∷ []) ∷ []) (sym here)
-      ∙ sym (stored_more p lo (events_of ls) l.event) ∙ ap (publications p lo) (sym (events_more ls l))
-
 -- The sender has published its open sequence s, whose cell is then not with it.
-module _ {T : Type 0} (k : Shape) (e : SenderStand T) (o o' : Owned) (end s : ℕ) (tokens tokens' : List (Token T)) (F : SenderFits e o end tokens)
+module _ {T : Type 0} (k : Shape T) (e : SenderStand T) (o o' : Owned) (end s : ℕ) (tokens tokens' : List (Token T)) (F : SenderFits e o end tokens)
     (plan : e.plan ≡ k) (opened : is_open o s ≡ true)
     (put : tokens' ≡ set tokens (cell_of e.plan s) no_token)
     (marks : o' ≡ record o { published = set o.published (s % length o.published) (entry_of (length o.published) s) }) where
@@ -151,20 +125,20 @@ module _ {T : Type 0} (k : Shape) (e : SenderStand T) (o o' : Owned) (end s : �
   ]
 
   pub one_left : (q : ℕ) → written_in k o' tokens' q ≡ (if q == s then None else written_in k o tokens q)
-  one_left q = (λ i. written_in (sym plan i) (marks i) tokens' q) ∙ each_left q ∙ ap (λ (p : Shape). if q == s then None else written_in p o tokens q) plan
+  one_left q = (λ i. written_in (sym plan i) (marks i) tokens' q) ∙ each_left q ∙ ap (λ (p : Shape T). if q == s then None else written_in p o tokens q) plan
 
   pub ready_left : (q : ℕ) → q ≢ s → is_ready o' q ≡ is_ready o q
   ready_left q ne = ap (λ (w : Owned). is_ready w q) marks ∙ ap (λ (b : Bool). b && is_marked o.written q) (open_beside q ne)
 
   pub cell_left : (i : ℕ) → i ≢ cell_of k s → get_elem? (cells_of tokens') i ≡ get_elem? (cells_of tokens) i
   cell_left i ne = ap (λ (xs : List (Option T)). get_elem? xs i) cells_are
-      ∙ set_else (cells_of tokens) (cell_of e.plan s) i None (subst (λ (p : Shape). i ≢ cell_of p s) (sym plan) ne)
+      ∙ set_else (cells_of tokens) (cell_of e.plan s) i None (subst (λ (p : Shape T). i ≢ cell_of p s) (sym plan) ne)
 
   pub cell_lost : get_elem? (cells_of tokens') (cell_of k s) ≡ some None
   cell_lost =
       let f : Token T → Option T = λ x. held x.hold in let many : length (cells_of tokens) ≡ length tokens = length-map tokens f in
       let count = F.count in let within = mod-lt s size in
-      ap (λ (p : Shape). get_elem? (cells_of tokens') (cell_of p s)) (sym plan) ∙ ap (λ (xs : List (Option T)). get_elem? xs (cell_of e.plan s)) cells_are
+      ap (λ (p : Shape T). get_elem? (cells_of tokens') (cell_of p s)) (sym plan) ∙ ap (λ (xs : List (Option T)). get_elem? xs (cell_of e.plan s)) cells_are
       ∙ set_here (cells_of tokens) (cell_of e.plan s) None (omega arith)
 
   -- what was written of it, once it was written, is what lay in its cell
@@ -172,21 +146,17 @@ module _ {T : Type 0} (k : Shape) (e : SenderStand T) (o o' : Owned) (end s : �
       → written_in k o tokens s ≡ Some event
   written_there t event done at is =
       let f : Token T → Option T = λ x. held x.hold in
-      ap (λ (p : Shape). written_in p o tokens s) (sym plan)
+      ap (λ (p : Shape T). written_in p o tokens s) (sym plan)
       ∙ (λ i. if opened i && done i then value_at (cells_of tokens) (cell_of e.plan s) (f t) None (map_there f tokens (cell_of e.plan s) t at) i else None) ∙ is
 
 -- The loop.
-module _ {T : Type 0} (e : SenderStand T) (o : Owned) (tokens : List (Token T)) (lo : ℕ) where
-  pub published_first : HasPublishedAll e o tokens lo lo e o tokens
-  published_first = record {
-    lents = [];
+module _ {T : Type 0} (k : Shape T) (r : SenderRecord T) (o : Owned) (tokens : List (Token T)) (lo : ℕ) where
+  pub public_first : ArePublic k r o tokens lo lo [] r o tokens
+  public_first = record {
     many = omega arith;
     events = λ i l at. absurd (some-ne-none l (sym at));
-    stays = (refl, refl);
     knows = refl;
-    past = begins_same e.past;
-    stored = sym (append-nil e.stored);
-    writes = λ q. (let w : Option T = written_in e.plan o tokens q in sym (ap (λ (b : Bool). if b then None else w) (none_between q)));
+    writes = λ q. (let w : Option T = written_in k o tokens q in sym (ap (λ (b : Bool). if b then None else w) (none_between q)));
     cells = record { lost = λ s low high. absurd (omega arith); others = λ i apart. refl };
     ready = λ q le. refl;
   }
@@ -194,7 +164,7 @@ module _ {T : Type 0} (e : SenderStand T) (o : Owned) (tokens : List (Token T)) 
       none_between : (q : ℕ) → is_between lo lo q ≡ false
       none_between q = elim (cases_lt q lo) [ inl lt ↦ below lo lo q lt | inr ge ↦ above lo lo q ge ]
 
-  module _ (s end : ℕ) (a : SenderStand T) (b : Owned) (ts : List (Token T)) (P : HasPublishedAll e o tokens lo s a b ts) (F : SenderFits a b end ts)
+  module _ (s end : ℕ) (a : SenderStand T) (b : Owned) (ts : List (Token T)) (ls : List (Lent T)) (plan : a.plan ≡ k) (P : ArePublic k r o tokens lo s ls a.knows b ts) (F : SenderFits a b end ts)
       (low : lo ≤ s) (can : is_ready o s ≡ true) where
     ready_now : is_ready b s ≡ true
     ready_now = P.ready s (omega arith) ∙ can
@@ -202,23 +172,15 @@ module _ {T : Type 0} (e : SenderStand T) (o : Owned) (tokens : List (Token T)) 
     pub open_now : is_open b s ≡ true
     open_now = first_of (is_open b s) (is_marked b.written s) ready_now
 
-    pub published_next : (e' : SenderStand T) (o' : Owned) (ts' : List (Token T)) (l : Lent T) (t : Token T) → get_elem? ts (cell_of a.plan s) ≡ some t → held t.hold ≡ Some l.event
-        → HasStored a (SenderPublishes a.knows.number s (l.event ∷ [])) (has_published a.knows s (l ∷ [])) e'.hand e'
+    pub public_next : (r' : SenderRecord T) (o' : Owned) (ts' : List (Token T)) (l : Lent T) (t : Token T) → get_elem? ts (cell_of a.plan s) ≡ some t → held t.hold ≡ Some l.event
+        → r' ≡ has_published a.knows s (l ∷ [])
         → ts' ≡ set ts (cell_of a.plan s) no_token → o' ≡ record b { published = set b.published (s % length b.published) (entry_of (length b.published) s) }
-        → HasPublishedAll e o tokens lo (s + 1) e' o' ts'
-    published_next e' o' ts' l t at is S put marks =
-        let plan = P.stays.1 in let k = e.plan in let before = P.past in let next = S.3 in
-        let number : a.knows.number ≡ e.knows.number = ap (λ (q : SenderRecord T). q.number) P.knows in
+        → ArePublic k r o tokens lo (s + 1) (ls ++ l ∷ []) r' o' ts'
+    public_next r' o' ts' l t at is knows put marks =
         let left = one_left k a b o' end s ts ts' F plan open_now put marks in record {
-          lents = P.lents ++ l ∷ [];
-          many = let many = P.many in omega (arith, length-append P.lents (l ∷ []));
+          many = let many = P.many in omega (arith, length-append ls (l ∷ []));
           events = each_event;
-          stays = (S.0.0 ∙ P.stays.0, S.0.1 ∙ plan);
-          knows = S.1 ∙ ap (λ (r : SenderRecord T). has_published r s (l ∷ [])) P.knows ∙ published_more e.knows lo s P.lents l P.many;
-          past = begins_on e.past a.past e'.past P.past S.3;
-          stored = S.4 ∙ (λ i. P.stored i ++ SenderPublishes (number i) s (l.event ∷ []) ∷ [])
-              ∙ append_assoc e.stored (publications e.knows.number lo (events_of P.lents)) (SenderPublishes e.knows.number s (l.event ∷ []) ∷ [])
-              ∙ ap (λ (xs : List (Step T)). e.stored ++ xs) (publications_more e.knows.number lo s P.lents l P.many);
+          knows = knows ∙ ap (λ (q : SenderRecord T). has_published q s (l ∷ [])) P.knows ∙ published_more r lo s ls l P.many;
           writes = λ q. left q ∙ each_write q;
           cells = record {
             lost = λ z from upto. elim (cases_eq (cell_of k z) (cell_of k s)) [
@@ -231,14 +193,14 @@ module _ {T : Type 0} (e : SenderStand T) (o : Owned) (tokens : List (Token T)) 
           ready = λ q le. ready_left k a b o' end s ts ts' F plan open_now put marks q (λ (same : q ≡ s). omega arith) ∙ P.ready q (omega arith);
         }
       where
-        earlier : (z : ℕ) → z < s + 1 → cell_of e.plan z ≢ cell_of e.plan s → z < s
+        earlier : (z : ℕ) → z < s + 1 → cell_of k z ≢ cell_of k s → z < s
         earlier z upto ne = elim (cases_lt z s) [
           | inl lt ↦ lt
-          | inr ge ↦ absurd (ne (let same : z ≡ s = omega arith in ap (cell_of e.plan) same))
+          | inr ge ↦ absurd (ne (let same : z ≡ s = omega arith in ap (cell_of k) same))
         ]
 
-        each_write : (q : ℕ) → (if q == s then None else written_in e.plan b ts q) ≡ (if is_between lo (s + 1) q then None else written_in e.plan o tokens q)
-        each_write q = let none : Option T = None in let w : Option T = written_in e.plan b ts q in let v : Option T = written_in e.plan o tokens q in elim (cases_eq q s) [
+        each_write : (q : ℕ) → (if q == s then None else written_in k b ts q) ≡ (if is_between lo (s + 1) q then None else written_in k o tokens q)
+        each_write q = let none : Option T = None in let w : Option T = written_in k b ts q in let v : Option T = written_in k o tokens q in elim (cases_eq q s) [
           | inl same ↦ ap (λ (c : Bool). if c then none else w) (eq-eqb q s same)
               ∙ sym (ap (λ (c : Bool). if c then none else v) (inside lo (s + 1) q (omega arith) (omega arith)))
           | inr ne ↦ ap (λ (c : Bool). if c then none else w) (ne_eqb q s ne) ∙ P.writes q ∙ sym (ap (λ (c : Bool). if c then none else v) (between_else lo s q ne))
@@ -248,17 +210,61 @@ module _ {T : Type 0} (e : SenderStand T) (o : Owned) (tokens : List (Token T)) 
         only zero x there_at = (refl, some-injective l x there_at)
         only (suc j) x there_at = absurd (some-ne-none x (sym there_at))
 
-        this_event : written_in e.plan o tokens s ≡ Some l.event
-        this_event = let v : Option T = written_in e.plan o tokens s in
+        this_event : written_in k o tokens s ≡ Some l.event
+        this_event = let v : Option T = written_in k o tokens s in
             sym (P.writes s ∙ ap (λ (c : Bool). if c then None else v) (above lo s s (omega arith)))
-            ∙ written_there e.plan a b o' end s ts ts' F P.stays.1 open_now put marks t l.event (second_of (is_open b s) (is_marked b.written s) ready_now) at is
+            ∙ written_there k a b o' end s ts ts' F plan open_now put marks t l.event (second_of (is_open b s) (is_marked b.written s) ready_now) at is
 
-        each_event : (i : ℕ) (x : Lent T) → get_elem? (P.lents ++ l ∷ []) i ≡ some x → written_in e.plan o tokens (lo + i) ≡ Some x.event
-        each_event i x there_at = elim (more_cases P.lents (l ∷ []) i x there_at) [
+        each_event : (i : ℕ) (x : Lent T) → get_elem? (ls ++ l ∷ []) i ≡ some x → written_in k o tokens (lo + i) ≡ Some x.event
+        each_event i x there_at = elim (more_cases ls (l ∷ []) i x there_at) [
           | inl old ↦ P.events i x old
           | inr new ↦ (let one = only new.0 x new.2 in let first = one.0 in let place = new.1 in let many = P.many in let at_s : lo + i ≡ s = omega arith in
-              ap (written_in e.plan o tokens) at_s ∙ this_event ∙ ap (λ (y : Lent T). Some y.event) one.1)
+              ap (written_in k o tokens) at_s ∙ this_event ∙ ap (λ (y : Lent T). Some y.event) one.1)
         ]
+
+-- One stretch after another.
+
+module _ {T : Type 0} where
+  own_both : (s : ℕ) (ls ms : List (Lent T)) (own : List (Own T)) → own_published s (ls ++ ms) own ≡ own_published (s + length ls) ms (own_published s ls own)
+  own_both s [] ms own = let at : s ≡ s + 0 = omega arith in ap (λ (n : ℕ). own_published n ms own) at
+  own_both s (l ∷ ls) ms own = let at : s + 1 + length ls ≡ s + suc (length ls) = omega arith in
+      own_both (s + 1) ls ms (map (own_after s (published l)) own) ∙ ap (λ (n : ℕ). own_published n ms (own_published s (l ∷ ls) own)) at
+
+  published_both : (r : SenderRecord T) (lo s : ℕ) (ls ms : List (Lent T)) → lo + length ls ≡ s → has_published (has_published r lo ls) s ms ≡ has_published r lo (ls ++ ms)
+  published_both r lo s ls ms at =
+      ap (λ (xs : List (Own T)). record r { own = xs }) (ap (λ (n : ℕ). own_published n ms (own_published lo ls r.own)) (sym at) ∙ sym (own_both lo ls ms r.own))
+
+  pub public_both : (k : Shape T) (r r1 r2 : SenderRecord T) (o o1 o2 : Owned) (ts ts1 ts2 : List (Token T)) (lo s upto : ℕ) (ls ms : List (Lent T)) → upto ≤ lo + k.size
+      → ArePublic k r o ts lo s ls r1 o1 ts1 → ArePublic k r1 o1 ts1 s upto ms r2 o2 ts2 → ArePublic k r o ts lo upto (ls ++ ms) r2 o2 ts2
+  public_both k r r1 r2 o o1 o2 ts ts1 ts2 lo s upto ls ms near A B = let first = A.many in let second = B.many in let none : Option T = None in record {
+    many = omega (arith, length-append ls ms);
+    events = λ i l at. elim (more_cases ls ms i l at) [
+      | inl old ↦ A.events i l old
+      | inr new ↦ (let place = new.1 in let z : lo + i ≡ s + new.0 = omega arith in let v : Option T = written_in k o ts (s + new.0) in
+          ap (written_in k o ts) z
+          ∙ sym (A.writes (s + new.0) ∙ ap (λ (b : Bool). if b then none else v) (above lo s (s + new.0) (omega arith))) ∙ B.events new.0 l new.2)
+    ];
+    knows = B.knows ∙ ap (λ (q : SenderRecord T). has_published q s ms) A.knows ∙ published_both r lo s ls ms A.many;
+    writes = λ q. (let v : Option T = written_in k o ts q in let w : Option T = written_in k o1 ts1 q in
+        B.writes q ∙ elim (cases_lt q s) [
+          | inl low ↦ ap (λ (b : Bool). if b then none else w) (below s upto q low) ∙ A.writes q
+              ∙ ap (λ (b : Bool). if nat_le lo q && b then none else v) (lt-ltb q s low ∙ sym (lt-ltb q upto (omega arith)))
+          | inr from ↦ elim (cases_lt q upto) [
+            | inl inside_it ↦ ap (λ (b : Bool). if b then none else w) (inside s upto q from inside_it)
+                ∙ sym (ap (λ (b : Bool). if b then none else v) (inside lo upto q (omega arith) inside_it))
+            | inr past ↦ ap (λ (b : Bool). if b then none else w) (above s upto q past) ∙ A.writes q
+                ∙ ap (λ (b : Bool). if b then none else v) (above lo s q from) ∙ sym (ap (λ (b : Bool). if b then none else v) (above lo upto q past))
+          ]
+        ]);
+    cells = record {
+      lost = λ z low high. elim (cases_lt z s) [
+        | inl early ↦ B.cells.others (cell_of k z) (λ q from to. slots_differ k.size q z (λ (e : q ≡ z). omega arith) (omega arith) (omega arith)) ∙ A.cells.lost z low early
+        | inr late ↦ B.cells.lost z late high
+      ];
+      others = λ i apart. B.cells.others i (λ z from to. apart z (omega arith) to) ∙ A.cells.others i (λ z from to. apart z from (omega arith));
+    };
+    ready = λ q le. B.ready q le ∙ A.ready q (omega arith);
+  }
 
 -- What a caller sees.
 
@@ -285,9 +291,9 @@ module _ {T : Type 0} where
   writes_where such f g each (x ∷ own) = (λ i. each x.sequence i ∷ writes_where such f g each own i)
 
   -- what is written once all are published
-  pub all_left : (e : SenderStand T) (o : Owned) (tokens : List (Token T)) (lo upto : ℕ) (e' : SenderStand T) (o' : Owned) (ts' : List (Token T))
-      → HasPublishedAll e o tokens lo upto e' o' ts'
+  pub all_left : (e : SenderStand T) (o : Owned) (tokens : List (Token T)) (lo upto : ℕ) (ls : List (Lent T)) (e' : SenderStand T) (o' : Owned) (ts' : List (Token T))
+      → e'.plan ≡ e.plan → ArePublic e.plan e.knows o tokens lo upto ls e'.knows o' ts'
       → writes_of e'.plan o' ts' e'.knows.own ≡ written_where (is_between lo upto) None e.knows.own (writes_of e.plan o tokens e.knows.own)
-  all_left e o tokens lo upto e' o' ts' P =
-      (λ i. writes_of (P.stays.1 i) o' ts' (P.knows i).own) ∙ all_after (written_in e.plan o' ts') lo P.lents e.knows.own
+  all_left e o tokens lo upto ls e' o' ts' plan P =
+      (λ i. writes_of (plan i) o' ts' (P.knows i).own) ∙ all_after (written_in e.plan o' ts') lo ls e.knows.own
       ∙ writes_where (is_between lo upto) (written_in e.plan o' ts') (written_in e.plan o tokens) P.writes e.knows.own

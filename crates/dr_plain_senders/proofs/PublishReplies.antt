@@ -1,6 +1,6 @@
 -- What a sender's publication answers.
 use Rattle.std.proofs.Common.{◌≡◌, ◌≢◌, ℕ, ◌+◌, ◌-◌, ◌<◌, ◌≤◌, inl, inr, Bool, true, false, not, if◌then◌else◌, List, [], ◌++◌, get_or, sym, refl, ap, ◌∙◌, subst, arith}
-use Rattle.std.specs.Prelude.{◌&&◌, Some, None, Option, is_none, flat_map, nat_le, nat_lt, Ok, Err}
+use Rattle.std.specs.Prelude.{◌&&◌, Some, None, is_none, flat_map, nat_le, nat_lt, Ok, Err}
 use Rattle.std.specs.List.{range_with_len}
 use Rattle.std.proofs.lemmas.Bool.{cases_lt, eq-eqb, ne_eqb, lt-ltb, le-ltb, lt-leb, le-leb}
 use Rattle.std.proofs.lemmas.List.{append-nil}
@@ -8,25 +8,24 @@ use Rattle.std.proofs.Math.Nat.{mod-lt}
 use Rattle.dr_cells.specs.declared.token.Token.{Token}
 use Rattle.dr_cells.specs.Hold.{whole, held}
 use Rattle.dr_cells.specs.Tokens.{token_at}
-use Rattle.dr_seq.specs.Rounds.{entry_of, is_marked, IsFront}
+use Rattle.dr_seq.specs.Rounds.{is_marked, IsFront}
 use Rattle.dr_meaning.specs.declared.refusal.Refusal.{Refusal}
 use Rattle.dr_meaning.specs.declared.refusal.Refusal.TheVariants.{NotClaimed, AlreadyPublished, NotWritten, BadCount}
 use Rattle.dr_meaning.specs.Meaning.Refusals.{sequence_causes, publish_causes, NoneHolds, IsFirst}
 use Rattle.dr_meaning.specs.declared.ends.Trouble.TheVariants.{Refused}
 use Rattle.dr_meaning.specs.Calls.Ends.{Verdict, Exactly, unknown, MayHold, MayFail, IsAnswerOf}
 use Rattle.dr_meaning.proofs.Causes.{none_join, first_left, none_of_stretch, first_of_stretch}
-use Rattle.dr_runs.specs.declared.look.Look.{Look}
 use Rattle.dr_runs.specs.Runs.{IsBeginning}
 use Rattle.dr_runs.proofs.Elements.{there, at_below, value_at}
 use Rattle.dr_runs.proofs.Lists.{map_there}
 use Rattle.dr_plain_senders.specs.Meaning.Shape.{Shape}
-use Rattle.dr_plain_senders.specs.Meaning.Words.{claimed_in, mark_word, cell_of}
-use Rattle.dr_plain_senders.specs.Meaning.Records.{mark_found, has_published, events_of}
+use Rattle.dr_plain_senders.specs.Meaning.Words.{claimed_in, cell_of, is_out_by}
 use Rattle.dr_plain_senders.specs.declared.owned.Owned.{Owned}
 use Rattle.dr_plain_senders.specs.declared.record.SenderRecord.{SenderRecord}
 use Rattle.dr_plain_senders.specs.Calls.Ends.{SenderStand, SenderEnd, Stays, HasLoaded}
-use Rattle.dr_plain_senders.specs.Calls.Writing.{Sight, Has, Found, Unasked, IsSight, Holds, marks_of, sight_tests}
-use Rattle.dr_plain_senders.specs.Calls.Publishing.{is_between, LosesCells, Reach, Inside, Outside, Looked, IsReach, reach_looks, reach_unclaimed, IsReady, PublishLooks, stretch_tests, tests_of_publication, publications, PublishCall}
+use Rattle.dr_plain_senders.specs.Calls.Writing.{Sight, Has, Found, Unasked, IsSight, Holds, marks_of, claims_of, sight_tests}
+use Rattle.dr_runs.specs.declared.look.Look.{Look}
+use Rattle.dr_plain_senders.specs.Calls.Publishing.{Reach, Inside, Outside, Looked, IsReach, reach_looks, reach_unclaimed, IsReady, PublishLooks, stretch_tests, tests_of_publication, PublishCall}
 use Rattle.dr_plain_senders.specs.Inside.Fits.{SenderFits, is_open, is_ready, cells_of, written_in, writes_of}
 use Rattle.dr_plain_senders.specs.Inside.Publishing.{HasPublishedAll, Reaches}
 use Rattle.dr_plain_senders.specs.Inside.Refusing.{RefusesBy}
@@ -35,14 +34,15 @@ use Rattle.dr_plain_senders.proofs.Fitting.{owns_same}
 use Rattle.dr_plain_senders.proofs.Granting.{first_of, second_of, unhidden, unready}
 use Rattle.dr_plain_senders.proofs.Publications.{all_left}
 use Rattle.dr_plain_senders.proofs.Stations.{begins_same, begins_on}
-use Rattle.dr_plain_senders.proofs.Written.{holds, some_of}
+use Rattle.dr_plain_senders.proofs.Written.{holds}
+use Rattle.dr_plain_senders.proofs.Marks.{said_out}
 
 -- a refused call that looked at nothing
-looked_nowhere : {T : Type 0} (r : SenderRecord T) → r ≡ record r { marks = r.marks ++ []; looks = r.looks ++ [] }
-looked_nowhere r = λ i. record r { marks = sym (append-nil r.marks) i; looks = sym (append-nil r.looks) i }
+looked_nowhere : {T : Type 0} (r : SenderRecord T) → r ≡ record r { marks = r.marks ++ []; looks = (r.looks ++ []) ++ [] }
+looked_nowhere r = λ i. record r { marks = sym (append-nil r.marks) i; looks = (sym (append-nil r.looks) ∙ sym (append-nil (r.looks ++ []))) i }
 
-found_nothing : {T : Type 0} (r : SenderRecord T) → r ≡ record r { marks = r.marks ++ [] }
-found_nothing r = ap (λ (xs : List Look). record r { marks = xs }) (sym (append-nil r.marks))
+found_nothing : {T : Type 0} (r : SenderRecord T) → r ≡ record r { marks = r.marks ++ []; looks = r.looks ++ [] }
+found_nothing r = λ i. record r { marks = sym (append-nil r.marks) i; looks = sym (append-nil r.looks) i }
 
 module _ {T : Type 0} (e : SenderEnd T) (lo hi : ℕ) where
   abbrev nothing_seen : PublishLooks T
@@ -60,6 +60,8 @@ module _ {T : Type 0} (e : SenderEnd T) (lo hi : ℕ) where
     knows = looked_nowhere e.knows;
     writes = refl;
     cells = refl;
+    steps = [];
+    published = refl;
     stored = refl;
     past = begins_same e.past;
   }
@@ -76,6 +78,8 @@ module _ {T : Type 0} (e : SenderEnd T) (lo hi : ℕ) where
     knows = looked_nowhere e.knows;
     writes = refl;
     cells = refl;
+    steps = [];
+    published = refl;
     stored = refl;
     past = begins_same e.past;
   }
@@ -111,7 +115,7 @@ reached e e' o end hi tokens true is F mine below R = record {
 }
 reached e e' o end hi tokens false is F mine below R = record {
   reach = Looked R.0;
-  sees = (below, λ t own. F.marks.old hi t own (sym mine));
+  sees = (below, λ t own. (F.marks.old hi t own (sym mine)).0);
   stays = R.1.0;
   knows = R.1.1;
   hand = R.1.2;
@@ -121,7 +125,7 @@ reached e e' o end hi tokens false is F mine below R = record {
 }
 
 -- the tests of a stretch, of which one sequence alone was asked
-module _ {T : Type 0} (k : Shape) (lo : ℕ) (seen : PublishLooks T) where
+module _ {T : Type 0} (k : Shape T) (lo : ℕ) (seen : PublishLooks T) where
   abbrev causes : ℕ → List (Verdict × Refusal)
   causes s = sequence_causes (stretch_tests k lo seen s)
 
@@ -162,17 +166,17 @@ module _ {T : Type 0} (k : Shape) (lo : ℕ) (seen : PublishLooks T) where
     ),
   )
 
-by_sequence_mark : (b : Bool) (refusal : Refusal) → refusal ≡ (if b then AlreadyPublished else NotClaimed)
+by_looks : (b : Bool) (refusal : Refusal) → refusal ≡ (if b then AlreadyPublished else NotClaimed)
     → IsFirst MayHold MayFail refusal (sequence_causes (record { published = Exactly b; not_owned = Exactly true; unwritten = unknown }))
-by_sequence_mark true refusal is = inl (refl, sym is)
-by_sequence_mark false refusal is = inr (refl, inl (refl, sym is))
+by_looks true refusal is = inl (refl, sym is)
+by_looks false refusal is = inr (refl, inl (refl, sym is))
 
 unready_part : (a b c : Bool) → ((a && not b) && c) ≡ false → a ≡ true → b ≡ false → c ≡ false
 unready_part true false c is mine hidden = is
 unready_part true true c is mine hidden = absurd (cc)
 unready_part false b c is mine hidden = absurd (cc)
 
-some_held : {T : Type 0} (t : Token T) (k : Shape) (s : ℕ) (w : (x : T) × (t ≡ token_at k.strip (cell_of k s) (whole x))) → held t.hold ≡ Some w.0
+some_held : {T : Type 0} (t : Token T) (k : Shape T) (s : ℕ) (w : (x : T) × (t ≡ token_at k.strip (cell_of k s) (whole x))) → held t.hold ≡ Some w.0
 some_held {T} t k s w = ap (λ (x : Token T). held x.hold) w.1
 
 -- a sender, with its marks and its tokens
@@ -206,6 +210,8 @@ module _ {T : Type 0} (e : SenderStand T) (o : Owned) (end : ℕ) (tokens : List
     knows = R.knows ∙ (let r : SenderRecord T = record e.knows { looks = e.knows.looks ++ reach_looks R.reach } in found_nothing r);
     writes = (λ i. writes_of (R.stays.1 i) o tokens (R.knows i).own);
     cells = refl;
+    steps = [];
+    published = refl;
     stored = R.stored;
     past = R.past;
   }
@@ -213,7 +219,7 @@ module _ {T : Type 0} (e : SenderStand T) (o : Owned) (end : ℕ) (tokens : List
   -- A publication that reached a sequence that it may not publish, after some that it may.
   module _ (a : SenderStand T) (lo hi stop : ℕ) (R : Reached e hi a true) (front : IsFront (is_ready o) lo (hi + 1) stop) (high : stop ≤ hi) where
     publish_stops : (e' : SenderStand T) (x : Sight T) (refusal : Refusal) → IsSight me stop x → IsFirst MayHold MayFail refusal (sequence_causes (sight_tests e.plan stop x)) → Stays a e'
-        → e'.knows ≡ record a.knows { marks = a.knows.marks ++ marks_of e.plan stop x } → e'.stored ≡ a.stored → IsBeginning a.past e'.past
+        → e'.knows ≡ record a.knows { marks = a.knows.marks ++ marks_of stop x; looks = a.knows.looks ++ claims_of x } → e'.stored ≡ a.stored → IsBeginning a.past e'.past
         → PublishCall me lo hi (sender_end e' o tokens) (Err refusal)
     publish_stops e' x refusal sight first stays knows stored past =
         let low = front.low in let at : lo + (stop - lo) ≡ stop = omega arith in let seen : PublishLooks T = record { reach = R.reach; ready = stop - lo; stop = x } in
@@ -228,10 +234,12 @@ module _ {T : Type 0} (e : SenderStand T) (o : Owned) (end : ℕ) (tokens : List
           lents = [];
           lent = refl;
           knows =
-              knows ∙ ap (λ (q : SenderRecord T). record q { marks = q.marks ++ marks_of e.plan stop x }) R.knows
-              ∙ ap (λ (s : ℕ). record e.knows { marks = e.knows.marks ++ marks_of e.plan s x; looks = e.knows.looks ++ reach_looks R.reach }) (sym at);
+              knows ∙ ap (λ (q : SenderRecord T). record q { marks = q.marks ++ marks_of stop x; looks = q.looks ++ claims_of x }) R.knows
+              ∙ ap (λ (s : ℕ). record e.knows { marks = e.knows.marks ++ marks_of s x; looks = (e.knows.looks ++ reach_looks R.reach) ++ claims_of x }) (sym at);
           writes = (λ i. writes_of (plan i) o tokens (own i));
           cells = refl;
+          steps = [];
+          published = refl;
           stored = stored ∙ R.stored;
           past = begins_on e.past a.past e'.past R.past past;
         }
@@ -240,13 +248,17 @@ module _ {T : Type 0} (e : SenderStand T) (o : Owned) (end : ℕ) (tokens : List
         → PublishCall me lo hi (sender_end e' o tokens) (Err refusal)
     publish_foreign e' refusal limit unmarked B =
         let plan = R.stays.1 in let own : a.knows.own ≡ e.knows.own = ap (λ (q : SenderRecord T). q.own) R.knows in
-        publish_stops e' (Found B.0) refusal (
+        publish_stops e' (Found B.before B.mark B.after) refusal (
           omega arith,
-          λ t mine. (let shown = F.marks.old stop t mine unmarked in let l = some_of t.lent shown in
-              (shown, subst (λ (k : Shape). entry_of k.size stop ≤ B.0) plan (B.2 t l.0 (owns_same e.knows a.knows stop t own mine) l.1))),
+          λ t mine. (let x = F.marks.old stop t mine unmarked in (
+            x.0,
+            said_out e.plan stop B.before B.mark B.after (B.first stop t (owns_same e.knows a.knows stop t own mine))
+                (inr (let past = x.1.3 in let again = B.last x.1.0 x.1.1 (owns_same e.knows a.knows x.1.0 x.1.1 own x.1.2) in omega arith)),
+          )),
         )
-        (by_sequence_mark (nat_le (entry_of e.plan.size stop) B.0) refusal (B.3 ∙ ap (λ (k : Shape). if nat_le (entry_of k.size stop) B.0 then AlreadyPublished else NotClaimed) plan))
-        B.1.0 (B.1.1 ∙ ap (λ (k : Shape). mark_found a.knows (mark_word k stop) B.0) plan) B.1.4 B.1.3
+        (by_looks (is_out_by e.plan stop B.before B.mark B.after) refusal
+        (B.is ∙ ap (λ (k : Shape T). if is_out_by k stop B.before B.mark B.after then AlreadyPublished else NotClaimed) plan))
+        B.loaded.0 B.loaded.1 B.loaded.4 B.loaded.3
 
     pub publish_late : is_marked o.claimed stop ≡ true → is_marked o.published stop ≡ true → PublishCall me lo hi (sender_end a o tokens) (Err AlreadyPublished)
     publish_late mine shown = let x = F.marks.own stop mine in
@@ -267,20 +279,22 @@ module _ {T : Type 0} (e : SenderStand T) (o : Owned) (end : ℕ) (tokens : List
       let high = front.high in let n = hi + 1 - lo in
       let ready : (s : ℕ) → lo ≤ s → s < lo + n → IsReady me s = λ s low lt. ready_is s (front.below s low (omega arith)) in
       let seen : PublishLooks T = record { reach = Inside; ready = n; stop = Unasked } in record {
-        place = (λ i. (P.stays.0 i, P.stays.1 i, (P.knows i).number));
+        place = (λ i. (P.stays.0 i, P.stays.1 i, (P.all.knows i).number));
         seen = seen;
         sees = record { reach = λ le. F.marks.own hi (mine_ready hi (front.below hi order past)); ready = ready; stop = tt; empty = λ none. absurd (omega arith); nobodys = λ nobody. refl };
         answer = accepts e.plan lo seen hi order (omega arith) refl;
         all = omega arith;
         lents = P.lents;
         lent = (
-          P.many,
-          λ i l at. (let many = P.many in let inside = at_below P.lents i l at in let x = ready (lo + i) (omega arith) (omega arith) in
-              (x.0, subst (Holds me (lo + i) x.0) (P.events i l at) (holds e o tokens (lo + i) x.0 (x.2.0, x.2.1)))),
+          P.all.many,
+          λ i l at. (let many = P.all.many in let inside = at_below P.lents i l at in let x = ready (lo + i) (omega arith) (omega arith) in
+              (x.0, subst (Holds me (lo + i) x.0) (P.all.events i l at) (holds e o tokens (lo + i) x.0 (x.2.0, x.2.1)))),
         );
-        knows = P.knows;
-        writes = all_left e o tokens lo (hi + 1) e' o' ts' P;
-        cells = P.cells;
+        knows = P.all.knows;
+        writes = all_left e o tokens lo (hi + 1) P.lents e' o' ts' P.stays.1 P.all;
+        cells = P.all.cells;
+        steps = P.steps;
+        published = P.published;
         stored = P.stored;
         past = P.past;
       }
@@ -288,18 +302,16 @@ module _ {T : Type 0} (e : SenderStand T) (o : Owned) (end : ℕ) (tokens : List
 -- what is published from a stand that knows the same
 pub from_here : {T : Type 0} (e a e' : SenderStand T) (o o' : Owned) (ts ts' : List (Token T)) (lo upto : ℕ) → HasLoaded e e.knows e.hand a
     → HasPublishedAll a o ts lo upto e' o' ts' → HasPublishedAll e o ts lo upto e' o' ts'
-from_here {T} e a e' o o' ts ts' lo upto L P = let none : Option T = None in record {
-  lents = P.lents;
-  many = P.many;
-  events = λ i l at. subst (λ (k : Shape). written_in k o ts (lo + i) ≡ Some l.event) L.0.1 (P.events i l at);
-  stays = (P.stays.0 ∙ L.0.0, P.stays.1 ∙ L.0.1);
-  knows = P.knows ∙ ap (λ (r : SenderRecord T). has_published r lo P.lents) L.1;
-  past = begins_on e.past a.past e'.past L.3 P.past;
-  stored = P.stored ∙ (λ i. L.4 i ++ publications (L.1 i).number lo (events_of P.lents));
-  writes = λ q. subst (λ (k : Shape). written_in k o' ts' q ≡ (if is_between lo upto q then none else written_in k o ts q)) L.0.1 (P.writes q);
-  cells = subst (λ (k : Shape). LosesCells k lo upto (cells_of ts) (cells_of ts')) L.0.1 P.cells;
-  ready = P.ready;
-}
+from_here {T} e a e' o o' ts ts' lo upto L P = subst (λ (x : SenderStand T). HasPublishedAll x o ts lo upto e' o' ts')
+    (λ i. record e { ring = L.0.0 i; plan = L.0.1 i; knows = L.1 i; stored = L.4 i }) (record {
+      lents = P.lents;
+      all = P.all;
+      stays = P.stays;
+      past = begins_on e.past a.past e'.past L.3 P.past;
+      steps = P.steps;
+      published = P.published;
+      stored = P.stored;
+    })
 
 -- a sender that has the last sequence looked at nothing
 pub stood : {T : Type 0} (e a : SenderStand T) (o : Owned) (hi : ℕ) (own is : Bool) → own ≡ is_marked o.claimed hi → is_marked o.claimed hi ≡ true → Reaches e own hi a is

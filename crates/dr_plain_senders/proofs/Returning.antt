@@ -39,14 +39,14 @@ module _ {T : Type 0} where
         (ap length same, λ i ne. ap (λ (xs : List (Token T)). get_elem? xs i) same));
   }
 
-  pub wide_next : (k : Shape) (place : ℕ) (hands hands' : List (List (Token T))) → AreWide k hands → SameBut place hands hands' → AreWide k hands'
+  pub wide_next : (k : Shape T) (place : ℕ) (hands hands' : List (List (Token T))) → AreWide k hands → SameBut place hands hands' → AreWide k hands'
   wide_next k place hands hands' W S = record {
     count = S.count ∙ W.count;
     each = λ h parts' at. (let b = at_below hands' h parts' at in let n = S.count in let p = there hands h (omega arith) in
         (S.each h p.0 parts' p.1 at).0 ∙ W.each h p.0 p.1);
   }
 
-  pub hold_next : (k : Shape) (counts : List HandlerCounts) (q place : ℕ) (l : Lent T) (hands hands' : List (List (Token T))) → HoldParts k counts q l hands
+  pub hold_next : (k : Shape T) (counts : List HandlerCounts) (q place : ℕ) (l : Lent T) (hands hands' : List (List (Token T))) → HoldParts k counts q l hands
       → SameBut place hands hands' → cell_of k q ≢ place → HoldParts k counts q l hands'
   hold_next k counts q place l hands hands' H S ne h c parts' at_c at_h in_hand =
       let b = at_below hands' h parts' at_h in let n = S.count in let p = there hands h (omega arith) in
@@ -86,7 +86,7 @@ module _ {T : Type 0} where
     ];
   }
 
-  module _ (k : Shape) (counts : List HandlerCounts) (q : ℕ) where
+  module _ (k : Shape T) (counts : List HandlerCounts) (q : ℕ) where
     left_held : (h : ℕ) (c : HandlerCounts) (cs : List HandlerCounts) (l : Lent T) → is_in_hand c (q - k.size) ≡ true
         → parts_left k h (c ∷ cs) q l ≡ parts_left k (h + 1) cs q l
     left_held h c cs l held = ap (λ (b : Bool). if b then parts_left k (h + 1) cs q l else placed k (lane_of h) q (lent l) ∷ parts_left k (h + 1) cs q l) held
@@ -161,20 +161,20 @@ module _ {T : Type 0} where
           )
 
   -- what is kept of a cell is in the slot that is first in hand
-  pub row_slot : (k : Shape) (counts : List HandlerCounts) (q : ℕ) (a : Laid T) (others hand : Hand T) (hands : List (List (Token T))) → IsRow k counts q a others hand hands
+  pub row_slot : (k : Shape T) (counts : List HandlerCounts) (q : ℕ) (a : Laid T) (others hand : Hand T) (hands : List (List (Token T))) → IsRow k counts q a others hand hands
       → (slot : ℕ) → slot ≡ slot_of k keeping_lane q → (old : Token T) × (hand ≡ (slot, old) ∷ rest hand)
   row_slot k counts q a others hand hands R slot same = (kept_of k q a, first_of k counts q a others hand R.in_front ∙ ap (λ (n : ℕ). (n, kept_of k q a) ∷ rest hand) (sym same))
     where
-      first_of : (k : Shape) (counts : List HandlerCounts) (q : ℕ) (a : Laid T) (others hand : Hand T) → hand ≡ row_left k counts q a ++ others
+      first_of : (k : Shape T) (counts : List HandlerCounts) (q : ℕ) (a : Laid T) (others hand : Hand T) → hand ≡ row_left k counts q a ++ others
           → hand ≡ (slot_of k keeping_lane q, kept_of k q a) ∷ rest hand
       first_of k counts q (unlent x) others hand is = is ∙ ap (λ (ys : Hand T). placed k keeping_lane q (unlent x) ∷ ys) (sym (ap rest is))
       first_of k counts q (lent l) others hand is = is ∙ ap (λ (ys : Hand T). placed k keeping_lane q (lent l) ∷ ys) (sym (ap rest is))
 
   -- once it is out, the parts are first in hand, where something is lent
-  pub row_parts : (k : Shape) (counts : List HandlerCounts) (q : ℕ) (a : Laid T) (others hand : Hand T) (hands : List (List (Token T))) → IsRow k counts q a others hand hands
+  pub row_parts : (k : Shape T) (counts : List HandlerCounts) (q : ℕ) (a : Laid T) (others hand : Hand T) (hands : List (List (Token T))) → IsRow k counts q a others hand hands
       → (slot : ℕ) (t : Token T) (next : Hand T) → (hand ≡ (slot, t) ∷ rest hand) × (next ≡ rest hand ++ (slot, no_token) ∷ []) → k.size ≤ q
       → (l : Lent T) × (more : Hand T) × (t ≡ kept_of k q (lent l)) × (next ≡ parts_left k 0 counts q l ++ more) × HoldParts k counts q l hands
-  row_parts k counts q (unlent x) others hand hands R slot t next taken late = absurd (let early = R.round in omega arith)
+  row_parts k counts q (unlent x) others hand hands R slot t next taken late = absurd (let early = R.round.0 in omega arith)
   row_parts k counts q (lent l) others hand hands R slot t next taken late =
       let first : hand ≡ placed k keeping_lane q (lent l) ∷ rest hand = R.in_front ∙ ap (λ (ys : Hand T). placed k keeping_lane q (lent l) ∷ ys) (sym (ap rest R.in_front)) in (
         l,
@@ -185,7 +185,7 @@ module _ {T : Type 0} where
       )
 
   -- The cells come back one after another.
-  pub record Back (k : Shape) (counts : List HandlerCounts) (c s : ℕ) (laid : List (Option (Laid T))) (tokens0 : List (Token T)) (hand : Hand T) (hands : List (List (Token T))) (tokens : List (Token T)) : Type 0 where
+  pub record Back (k : Shape T) (counts : List HandlerCounts) (c s : ℕ) (laid : List (Option (Laid T))) (tokens0 : List (Token T)) (hand : Hand T) (hands : List (List (Token T))) (tokens : List (Token T)) : Type 0 where
     pub others : Hand T
     pub in_front : hand ≡ rows_left k counts s (drop (s - c) laid) ++ others
     pub held : (i : ℕ) (l : Lent T) → s ≤ c + i → get_elem? laid i ≡ some (Some (lent l)) → HoldParts k counts (c + i) l hands
@@ -193,7 +193,7 @@ module _ {T : Type 0} where
     pub back : (i : ℕ) (a : Laid T) → c + i < s → get_elem? laid i ≡ some (Some a) → get_elem? tokens (cell_of k (c + i)) ≡ some (whole_of k (c + i) a)
     pub left : (i : ℕ) → i < k.size → (c + i < s → get_elem? laid i ≡ some None) → get_elem? tokens (cell_of k (c + i)) ≡ get_elem? tokens0 (cell_of k (c + i))
 
-  pub back_none : (k : Shape) (counts : List HandlerCounts) (c : ℕ) (laid : List (Option (Laid T))) (tokens : List (Token T)) (hand : Hand T) (hands : List (List (Token T))) (brought : List Bool)
+  pub back_none : (k : Shape T) (counts : List HandlerCounts) (c : ℕ) (laid : List (Option (Laid T))) (tokens : List (Token T)) (hand : Hand T) (hands : List (List (Token T))) (brought : List Bool)
       → AreRows k counts c laid hand hands brought → Back k counts c c laid tokens hand hands tokens
   back_none k counts c laid tokens hand hands brought R = let z : 0 ≡ c - c = omega arith in record {
     others = R.others;
@@ -204,7 +204,7 @@ module _ {T : Type 0} where
     left = λ i inside open_there. refl;
   }
 
-  pub back_all : (k : Shape) (counts : List HandlerCounts) (c s : ℕ) (laid : List (Option (Laid T))) (tokens0 : List (Token T)) (hand : Hand T) (hands : List (List (Token T))) (tokens : List (Token T))
+  pub back_all : (k : Shape T) (counts : List HandlerCounts) (c s : ℕ) (laid : List (Option (Laid T))) (tokens0 : List (Token T)) (hand : Hand T) (hands : List (List (Token T))) (tokens : List (Token T))
       → length laid ≡ k.size → s ≡ c + k.size → Back k counts c s laid tokens0 hand hands tokens → AreBack k c laid tokens0 tokens
   back_all k counts c s laid tokens0 hand hands tokens all end B = record {
     count = B.count;
@@ -213,22 +213,22 @@ module _ {T : Type 0} where
   }
 
   -- what is to be done for one cell
-  abbrev pub IsTold : Bool → Shape → List HandlerCounts → ℕ → Hand T → List (List (Token T)) → Type 0
+  abbrev pub IsTold : Bool → Shape T → List HandlerCounts → ℕ → Hand T → List (List (Token T)) → Type 0
   IsTold brought k counts s hand hands = MatchBool brought ⊤ ((a : Laid T) × (others : Hand T) × IsRow k counts s a others hand hands)
 
   -- and what comes of it
-  abbrev pub Reclaims : Bool → Shape → List HandlerCounts → ℕ → Hand T → Hand T → List (List (Token T)) → List (Token T) → List (Token T) → Type 0
+  abbrev pub Reclaims : Bool → Shape T → List HandlerCounts → ℕ → Hand T → Hand T → List (List (Token T)) → List (Token T) → List (Token T) → Type 0
   Reclaims brought k counts s hand hand' hands tokens tokens' =
       MatchBool brought ((tokens' ≡ tokens) × (hand' ≡ hand))
       ((t : Token T) × (tokens' ≡ set tokens (cell_of k s) t)
       × ((a : Laid T) (others : Hand T) → IsRow k counts s a others hand hands → (t ≡ whole_of k s a) × ((behind : Hand T) × (hand' ≡ others ++ behind))))
 
-  pub room_next : (brought : Bool) (k : Shape) (counts : List HandlerCounts) (s : ℕ) (hand hand' : Hand T) (hands : List (List (Token T))) (tokens tokens' : List (Token T))
+  pub room_next : (brought : Bool) (k : Shape T) (counts : List HandlerCounts) (s : ℕ) (hand hand' : Hand T) (hands : List (List (Token T))) (tokens tokens' : List (Token T))
       → Reclaims brought k counts s hand hand' hands tokens tokens' → length tokens' ≡ length tokens
   room_next true k counts s hand hand' hands tokens tokens' did = ap length did.0
   room_next false k counts s hand hand' hands tokens tokens' did = ap length did.1 ∙ length-set tokens (cell_of k s) did.0
 
-  module _ (k : Shape) (counts : List HandlerCounts) (c s : ℕ) (laid : List (Option (Laid T))) (hand0 : Hand T) (hands0 : List (List (Token T))) (marks : List Bool)
+  module _ (k : Shape T) (counts : List HandlerCounts) (c s : ℕ) (laid : List (Option (Laid T))) (hand0 : Hand T) (hands0 : List (List (Token T))) (marks : List Bool)
       (R : AreRows k counts c laid hand0 hands0 marks) (tokens0 : List (Token T)) (hand : Hand T) (hands : List (List (Token T))) (tokens : List (Token T))
       (B : Back k counts c s laid tokens0 hand hands tokens) (low : c ≤ s) (high : s < c + k.size) (brought : Bool) (marked : get_elem? marks (cell_of k s) ≡ some brought) where
     place : c + (s - c) ≡ s

@@ -19,14 +19,14 @@ use Rattle.dr_plain_senders.specs.Inside.Seats.{Hand, IsOfRound}
 use Rattle.dr_plain_senders.proofs.Taken.{drop_seam, take_seam}
 use Rattle.dr_plain_senders.proofs.Trading.{was_there}
 
-pub blanks_count : (T : Type 0) (k : Shape) (s : ℕ) → length (blank_parts {T = T} k s) ≡ handlers_of k
+pub blanks_count : (T : Type 0) (k : Shape T) (s : ℕ) → length (blank_parts {T = T} k s) ≡ handlers_of k
 blanks_count T k s =
     length_stretch (λ lane (u : Unit {0}). blank_slot {T = T} k lane s) 1 (nothings (handlers_of k)) ∙ length-replicate (handlers_of k) tt
 
-pub blank_row_count : (T : Type 0) (k : Shape) (s : ℕ) → length (blank_row {T = T} k s) ≡ lanes_of k
+pub blank_row_count : (T : Type 0) (k : Shape T) (s : ℕ) → length (blank_row {T = T} k s) ≡ lanes_of k
 blank_row_count T k s = length_stretch (λ lane (u : Unit {0}). blank_slot {T = T} k lane s) 0 (nothings (lanes_of k)) ∙ length-replicate (lanes_of k) tt
 
-module _ {T : Type 0} (k : Shape) (s : ℕ) where
+module _ {T : Type 0} (k : Shape T) (s : ℕ) where
   pub parts_count : (a : Laid T) → length (parts_row k s a) ≡ handlers_of k
   parts_count a = length_stretch (λ lane b. placed k lane s b) 1 (replicate (handlers_of k) a) ∙ length-replicate (handlers_of k) a
 
@@ -59,16 +59,16 @@ module _ {T : Type 0} (k : Shape) (s : ℕ) where
   unlent_parts x = none_lent x (handlers_of k) 0
 
 -- what lies in the cell of a sequence of the first round was never lent, and else it was
-pub unlent_of : {T : Type 0} → (k : Shape) (s : ℕ) (a : Laid T) → IsOfRound k s a → s < k.size → (x : T) × (a ≡ unlent x)
+pub unlent_of : {T : Type 0} → (k : Shape T) (s : ℕ) (a : Laid T) → IsOfRound k s a → s < k.size → (x : T) × (a ≡ unlent x)
 unlent_of k s (unlent x) of lt = (x, refl)
 unlent_of k s (lent l) of lt = absurd (omega arith)
 
-pub lent_of : {T : Type 0} → (k : Shape) (s : ℕ) (a : Laid T) → IsOfRound k s a → k.size ≤ s → (l : Lent T) × (a ≡ lent l)
-lent_of k s (unlent x) of le = absurd (omega arith)
+pub lent_of : {T : Type 0} → (k : Shape T) (s : ℕ) (a : Laid T) → IsOfRound k s a → k.size ≤ s → (l : Lent T) × (a ≡ lent l)
+lent_of k s (unlent x) of le = absurd (let early = of.0 in omega arith)
 lent_of k s (lent l) of le = (l, refl)
 
 -- a sender takes a row: first what is kept of the cell, then the parts
-module _ {T K : Type 0} (e : EndOf T K) (k : Shape) (s : ℕ) (a : Laid T) (others : Hand T) (is : e.hand ≡ row k s a ++ others) where
+module _ {T K : Type 0} (e : EndOf T K) (k : Shape T) (s : ℕ) (a : Laid T) (others : Hand T) (is : e.hand ≡ row k s a ++ others) where
   pub first_slot : (slot : ℕ) → slot ≡ slot_of k 0 s → (t : Token T) × (e.hand ≡ (slot, t) ∷ rest e.hand)
   first_slot slot same = (
     kept_of k s a,
@@ -114,7 +114,7 @@ module _ {T K : Type 0} (e : EndOf T K) (k : Shape) (s : ℕ) (a : Laid T) (othe
       ∙ (λ i. sym left i ++ (same i, no_token) ∷ blank_parts k s))
 
 -- a sender lends a row: its first slot goes behind the others, and then each part, and once the others are behind these what is kept goes into the first
-module _ {T K : Type 0} (e : EndOf T K) (k : Shape) (s : ℕ) (behind : Hand T) (is : e.hand ≡ blank_row k s ++ behind) where
+module _ {T K : Type 0} (e : EndOf T K) (k : Shape T) (s : ℕ) (behind : Hand T) (is : e.hand ≡ blank_row k s ++ behind) where
   pub turned_first : (e1 : EndOf T K) → e1 ≡ with_hand e (turned e.hand) → e1.hand ≡ blank_parts k s ++ (behind ++ blank_slot k 0 s ∷ [])
   turned_first e1 new = ap (λ (x : EndOf T K). x.hand) new ∙ ap (λ (h : Hand T). turned h) is
       ∙ append_assoc (blank_parts k s) behind (blank_slot k 0 s ∷ [])

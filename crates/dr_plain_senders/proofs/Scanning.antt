@@ -81,7 +81,7 @@ module _ {T : Type 0} where
     ]);
   }
 
-  pub scanned_low : (k : Shape) (r s s' : SenderRecord T) (need i h v : ℕ) → Scanned (finals k.upstreams) r need i s → i < length (finals k.upstreams)
+  pub scanned_low : (k : Shape T) (r s s' : SenderRecord T) (need i h v : ℕ) → Scanned (finals k.upstreams) r need i s → i < length (finals k.upstreams)
       → get_or (finals k.upstreams) i 0 ≡ h
       → s' ≡ sender_looked s (count_word h) v → v < need → Scans k r need s' false
   scanned_low k r s s' need i h v S inside at is low =
@@ -98,7 +98,7 @@ module _ {T : Type 0} where
         },
       )
 
-  pub scanned_all : (k : Shape) (r s : SenderRecord T) (need i : ℕ) → Scanned (finals k.upstreams) r need i s → i ≡ length (finals k.upstreams)
+  pub scanned_all : (k : Shape T) (r s : SenderRecord T) (need i : ℕ) → Scanned (finals k.upstreams) r need i s → i ≡ length (finals k.upstreams)
       → Scans k r need s true
   scanned_all k r s need i S all = (
     S.counts,

@@ -27,11 +27,11 @@ use Rattle.dr_plain_senders.proofs.Moves.{MovesTo}
 
 module _ {T : Type 0} where
   -- what the rule comes to
-  pub kept_of : (k : Shape) (w : World T) → IsReached (exchange k) w → KeepsRule k w
+  pub kept_of : (k : Shape T) (w : World T) → IsReached (exchange k) w → KeepsRule k w
   kept_of k w R = keeps_runs k R.steps R.entries (new_world k) w R.runs (kept_new_world T k R.made)
 
   -- what a step of an end does to a world of the ring
-  abbrev pub Does : Shape → Step T → World T → ℕ → ℕ → EndRecord T → Type 0
+  abbrev pub Does : Shape T → Step T → World T → ℕ → ℕ → EndRecord T → Type 0
   Does k step w i n e = runs.Does (exchange k) step w i n e
 
   -- the ends but one stand as they stood
@@ -39,7 +39,7 @@ module _ {T : Type 0} where
   OthersStand w u n = (x : EndRecord T) → end_number x ≢ n → Stands w x → Stands u x
 
   -- what is known of an end after a step, with what it moved and what it is told
-  pub record Acts (k : Shape) (step : Step T) (w : World T) (i n : ℕ) (e : EndRecord T) (hand : Hand T) (homes : List (maybe.Option (Token T))) (told : End T → Type 0) : Type 0 where
+  pub record Acts (k : Shape T) (step : Step T) (w : World T) (i n : ℕ) (e : EndRecord T) (hand : Hand T) (homes : List (maybe.Option (Token T))) (told : End T → Type 0) : Type 0 where
     pub mine : EndRecord T
     pub same : end_number mine ≡ end_number e
     pub does : Does k step w i n mine
@@ -48,7 +48,7 @@ module _ {T : Type 0} where
     pub tells : told (holding mine hand_after)
 
   -- a step of one end, which keeps its number
-  pub by_end : (k : Shape) (slots id : ℕ) (step : Step T) (grow : List (Step T) → List (Step T)) (pasts : List (List (Step T))) (e : EndRecord T) (hand : Hand T) (i : ℕ) (f : ℕ → ℕ) (told : ℕ → End T → Type 0)
+  pub by_end : (k : Shape T) (slots id : ℕ) (step : Step T) (grow : List (Step T) → List (Step T)) (pasts : List (List (Step T))) (e : EndRecord T) (hand : Hand T) (i : ℕ) (f : ℕ → ℕ) (told : ℕ → End T → Type 0)
       → Adds ring_ends (end_number e) step grow
       → ((w : World T) → Stands w e → KeepsRule k w → word_at w.words i < 18446744073709551616 → (homes : List (maybe.Option (Token T))) → Lies k w homes
       → Acts k step w i (f (word_at w.words i)) e hand homes (told (word_at w.words i)))

@@ -54,7 +54,7 @@ module _ {T : Type 0} where
       let next = out_next l ls t ts all in let rest = all_events ls ts next.1 (omega arith) in
       (ap (λ (xs : List (Lent T)). l ∷ xs) rest.0 ∙ sym next.0, ap suc rest.1)
 
-  has_beginning : (k : Shape) (w : World T) (h : ℕ) (r : ReceiverRecord T) → get_elem? w.receivers h ≡ some r → KeepsRule k w → HasBeginning k w r
+  has_beginning : (k : Shape T) (w : World T) (h : ℕ) (r : ReceiverRecord T) → get_elem? w.receivers h ≡ some r → KeepsRule k w → HasBeginning k w r
   has_beginning k w h r at K =
       let was = K.received h r at in let first = first_events r.received w.stages was.beginning in record {
         beginning = first.0;
@@ -66,7 +66,7 @@ module _ {T : Type 0} where
             omega arith);
       }
 
-  follows : (k : Shape) (w : World T) (h j : ℕ) (r u : ReceiverRecord T) → get_elem? w.receivers h ≡ some r → get_elem? w.receivers j ≡ some u → KeepsRule k w
+  follows : (k : Shape T) (w : World T) (h j : ℕ) (r u : ReceiverRecord T) → get_elem? w.receivers h ≡ some r → get_elem? w.receivers j ≡ some u → KeepsRule k w
       → FollowsUpstream k r u
   follows k w h j r u at there K has =
       let was = K.received h r at in let other = K.received j u there in
@@ -75,12 +75,12 @@ module _ {T : Type 0} where
       was.after j (subst (λ (n : ℕ). Contains (upstreams_of k.upstreams h) n) other.number here) in
       let count : word_at w.words (count_word j) ≡ u.completed = other.count in omega arith
 
-  is_sent : (k : Shape) (w : World T) (h s : ℕ) (r : ReceiverRecord T) (l : Lent T) → get_elem? w.receivers h ≡ some r → get_elem? r.received s ≡ some l
+  is_sent : (k : Shape T) (w : World T) (h s : ℕ) (r : ReceiverRecord T) (l : Lent T) → get_elem? w.receivers h ≡ some r → get_elem? r.received s ≡ some l
       → KeepsRule k w → AllOwned w → IsSent w s l
   is_sent k w h s r l at there K all = let x = (K.received h r at).beginning s l there in let own = all s x.0 x.1 in (own.0, x.0, own.1, own.2, x.2)
 
   -- the ends of a run agree
-  pub settles : (k : Shape) (w : World T) → KeepsRule k w → AllOwned w → Settles k w
+  pub settles : (k : Shape T) (w : World T) → KeepsRule k w → AllOwned w → Settles k w
   settles k w K all = record {
     claimed = all;
     owned = λ p i r o at own. (let S = K.sent p r at in let is = S.own i o own in (is.0 ∙ sym S.number, is.1));

@@ -45,7 +45,7 @@ still_shown : {T : Type 0} (l : Lent T) (b : Bool) (t u : Stage T) → is_publis
 still_shown l true t u shown is = ap is_published is
 still_shown l false t u shown is = ap is_published is ∙ shown
 
-module _ {T : Type 0} (k : Shape) (r : SenderRecord T) (o : Owned) (s : ℕ) (size : 0 < k.size) (F : MarksFit k r o)
+module _ {T : Type 0} (k : Shape T) (r : SenderRecord T) (o : Owned) (s : ℕ) (size : 0 < k.size) (F : MarksFit k r o)
     (mine : is_marked o.claimed s ≡ true) where
   abbrev pub shown_marks : Owned
   shown_marks = record o { published = set o.published (s % length o.published) (entry_of (length o.published) s) }
@@ -66,7 +66,8 @@ module _ {T : Type 0} (k : Shape) (r : SenderRecord T) (o : Owned) (s : ℕ) (si
       | inl e ↦ (let x = F.own s mine in (_, subst (λ (y : ℕ). Owns (brought r s f) y (if s == s then f x.0 else x.0)) (sym e) (after r s f s x.0 x.1)))
       | inr ne ↦ (let x = F.published z (mark_was o.published s z (omega arith) ne m) in (_, after r s f z x.0 x.1))
     ];
-    old = λ z u own m. (let x = had r s f z u own in still_shown l (z == s) x.0 u (F.old z x.0 x.1 m) x.2);
+    old = λ z u own m. (let x = had r s f z u own in let y = F.old z x.0 x.1 m in
+        (still_shown l (z == s) x.0 u y.0 x.2, (y.1.0, (if y.1.0 == s then f y.1.1 else y.1.1), after r s f y.1.0 y.1.1 y.1.2, y.1.3)));
     shown = λ z u own m. (let x = had r s f z u own in elim (cases_eq z s) [
       | inl e ↦ ap is_published (x.2 ∙ ap (λ (b : Bool). if b then f x.0 else x.0) (eq-eqb z s e))
           ∙ sym (ap (is_marked shown_marks.published) e ∙ mark_here o.published s (omega arith))
@@ -128,7 +129,7 @@ module _ {T : Type 0} (e : SenderStand T) (o : Owned) (end s low : ℕ) (tokens 
       → e'.hand ≡ before_it ++ behind_it → o' ≡ now → place ≡ cell_of e.plan s → tokens' ≡ set tokens place no_token → SenderFits e' o' end tokens'
   fits_shown l e' o' tokens' place plan knows hand is at put =
       let k = e.plan in let q : SenderRecord T = brought e.knows s (published l) in
-      let P : Shape → SenderRecord T → Owned → Type 0 = λ p r w. SenderFits (record e' { plan = p; knows = r }) w end tokens' in
+      let P : Shape T → SenderRecord T → Owned → Type 0 = λ p r w. SenderFits (record e' { plan = p; knows = r }) w end tokens' in
       let once : tokens' ≡ set tokens (cell_of k s) no_token = put ∙ ap (λ (i : ℕ). set tokens i no_token) at in
       let fits : P k q now = record {
         marks = marks_shown k e.knows o s size F.marks mine l;
@@ -150,7 +151,7 @@ module _ {T : Type 0} (e : SenderStand T) (o : Owned) (end s low : ℕ) (tokens 
               (sym (ap (λ (ts : List (Token T)). get_elem? ts (cell_of k z)) once ∙ set_else tokens (cell_of k s) (cell_of k z) no_token apart) ∙ there_at))
         ];
         hand = hand ∙ sym hand_left;
-      } in subst (λ (p : Shape). P p e'.knows o') (sym plan)
+      } in subst (λ (p : Shape T). P p e'.knows o') (sym plan)
       (subst (λ (r : SenderRecord T). P k r o') (sym knows) (subst (λ (w : Owned). P k q w) (sym is) fits))
 
   -- its hand, as the rows before it go behind, and at last those behind it
@@ -164,7 +165,7 @@ module _ {T : Type 0} (e : SenderStand T) (o : Owned) (end s low : ℕ) (tokens 
       ap (λ (x : SenderStand T). x.hand) new ∙ (λ i. drop b (hand_around i) ++ take b (hand_around i))
       ∙ (λ i. drop_seam before_it rest b many i ++ take_seam before_it rest b many i) ∙ append_assoc (blank_row e.plan s) behind_it before_it
 
-  pub lent_row : (l : Lent T) (e1 e2 : SenderStand T) (k' : Shape) → k' ≡ e.plan → e1.hand ≡ blank_row e.plan s ++ (behind_it ++ before_it)
+  pub lent_row : (l : Lent T) (e1 e2 : SenderStand T) (k' : Shape T) → k' ≡ e.plan → e1.hand ≡ blank_row e.plan s ++ (behind_it ++ before_it)
       → e2 ≡ with_hand e1 (row k' s (lent l) ++ drop (lanes_of k') e1.hand) → e2.hand ≡ row k' s (lent l) ++ (behind_it ++ before_it)
   lent_row l e1 e2 k' plan front new =
       ap (λ (x : SenderStand T). x.hand) new

@@ -15,7 +15,7 @@ use Rattle.dr_plain_senders.proofs.Places.{word_at, Rises, past_rises}
 use Rattle.dr_plain_senders.proofs.Facts.{upstream_inside}
 
 -- where the words that a part speaks of stay or rise, and what is published stays, the part stays
-pub room_stays : (k : Shape) (words us : List ℕ) (n : ℕ) → Rises k words us → Room k words n → Room k us n
+pub room_stays : {T : Type 0} (k : Shape T) (words us : List ℕ) (n : ℕ) → Rises k words us → Room k words n → Room k us n
 room_stays k words us n rises room f final =
     let i = final_inside k.upstreams f final in let a = rises (count_word f) (omega arith) in let b = room f final in omega arith
 
@@ -27,7 +27,7 @@ module _ {T : Type 0} where
   pub out_lasts : (stages more : List (Stage T)) → Lasts stages more → (s : ℕ) → IsOut stages s → IsOut more s
   out_lasts stages more L s x = (x.0, L s x.0 x.1)
 
-  pub receiver_stays : (k : Shape) (words us : List ℕ) (stages more : List (Stage T)) (h : ℕ) (r : ReceiverRecord T) → IsGraph k.upstreams → h < handlers_of k
+  pub receiver_stays : (k : Shape T) (words us : List ℕ) (stages more : List (Stage T)) (h : ℕ) (r : ReceiverRecord T) → IsGraph k.upstreams → h < handlers_of k
       → word_at us (count_word h) ≡ word_at words (count_word h) → Rises k words us → Lasts stages more → length stages ≤ length more
       → (r.told ≡ true → (is_halted (word_at us claim_word) ≡ true) × (length more ≤ length r.received)) → ReceiverKept k words stages h r
       → ReceiverKept k us more h r
@@ -42,7 +42,7 @@ module _ {T : Type 0} where
     looks = past_rises k words us r.looks rises was.looks;
   }
 
-  pub sender_stays : (k : Shape) (words us : List ℕ) (stages more : List (Stage T)) (q : ℕ) (r : SenderRecord T) → Rises k words us
+  pub sender_stays : (k : Shape T) (words us : List ℕ) (stages more : List (Stage T)) (q : ℕ) (r : SenderRecord T) → Rises k words us
       → ((s : ℕ) (t : Stage T) → get_elem? stages s ≡ some t → t.owner ≡ q → get_elem? more s ≡ some t)
       → ((s : ℕ) (t : Stage T) → get_elem? more s ≡ some t → t.owner ≡ q → get_elem? stages s ≡ some t)
       → SenderKept k words stages q r → SenderKept k us more q r

@@ -1,12 +1,11 @@
 -- The machine replies to a publication on a ring's picture as its sender answers.
-use Rattle.std.proofs.Common.{◌≡◌, ℕ, zero, suc, ◌+◌, ◌-◌, ◌<◌, ◌≤◌, ◌≢◌, inl, inr, Bool, true, false, not, ◌==◌, List, [], ◌∷◌, ◌++◌, length, get_or, Option, Some, None, is_none, Result, Ok, Err, sym, refl, ap, ◌∙◌, subst, arith}
-use Rattle.std.specs.Prelude.{nat_le, if◌then◌else◌, flat_map, is_some}
+use Rattle.std.proofs.Common.{◌≡◌, ℕ, zero, suc, ◌+◌, ◌-◌, ◌<◌, ◌≤◌, ◌≢◌, inl, inr, Bool, true, false, not, ◌==◌, List, [], ◌∷◌, ◌++◌, length, get_or, Option, Some, is_none, Result, Ok, Err, sym, refl, ap, ◌∙◌, subst, arith}
+use Rattle.std.specs.Prelude.{nat_le, if◌then◌else◌, flat_map}
 use Rattle.std.specs.List.{range_with_len}
-use Rattle.std.proofs.lemmas.Bool.{cases_Bool, cases_eq, cases_lt, eq-eqb, ne_eqb, lt-leb, le-leb, le-ltb, ltb-false, leb-true, leb-false}
+use Rattle.std.proofs.lemmas.Bool.{cases_eq, cases_lt, eq-eqb, ne_eqb, lt-leb, le-leb, le-ltb, ltb-false, leb-false, both_ways}
 use Rattle.std.proofs.lemmas.List.{length-map}
 use mathlib.Core.Option.{some}
 use lib.ListN.{get_elem?}
-use Rattle.dr_seq.specs.Rounds.{entry_of}
 use Rattle.dr_meaning.specs.declared.refusal.Refusal.{Refusal}
 use Rattle.dr_meaning.specs.declared.refusal.Refusal.TheVariants.{OutOfOrder}
 use Rattle.dr_meaning.specs.declared.command.Command.TheVariants.{Publish}
@@ -18,16 +17,17 @@ use Rattle.dr_meaning.specs.Calls.Ends.{Verdict, Exactly, MayHold, MayFail, IsAn
 use Rattle.dr_meaning.proofs.Steps.{NoneHold, NoneHold-join, NoneHold-stretch, Refuses, unless-none, unless-refused}
 use Rattle.dr_runs.proofs.Elements.{there, at_below}
 use Rattle.dr_plain_senders.specs.Meaning.Shape.{Shape, ring_setup}
-use Rattle.dr_plain_senders.specs.Meaning.Words.{mark_word}
+use Rattle.dr_plain_senders.specs.Meaning.Words.{is_out_by}
 use Rattle.dr_plain_senders.specs.declared.record.Stage.{Stage}
 use Rattle.dr_plain_senders.specs.declared.record.SenderRecord.{SenderRecord}
 use Rattle.dr_plain_senders.specs.Meaning.Records.{Owns, is_published}
-use Rattle.dr_plain_senders.specs.Meaning.Rule.{World, KeepsRule}
+use Rattle.dr_plain_senders.specs.Meaning.Rule.{World, is_out_now, KeepsRule}
 use Rattle.dr_plain_senders.specs.Calls.Ends.{SenderEnd}
 use Rattle.dr_plain_senders.specs.Calls.Writing.{Sight, Has, Found, Never, Unasked, Holds, IsSight, sight_tests}
 use Rattle.dr_plain_senders.specs.Calls.Publishing.{Reach, Inside, Outside, Looked, IsReach, reach_unclaimed, IsReady, PublishLooks, PublishSees, stretch_tests, tests_of_publication}
 use Rattle.dr_plain_senders.specs.Calls.Replies.{picture_with, RepliesIn, TellsWrites, ReachesNow, FoundNow, DecidesPublication}
-use Rattle.dr_plain_senders.proofs.Places.{word_at}
+use Rattle.dr_plain_senders.proofs.Marks.{out_now, now_out}
+use Rattle.dr_plain_senders.proofs.Shutting.{shown_out, hidden_out}
 use Rattle.dr_plain_senders.proofs.Machine.{at_stage, owner_at}
 
 -- a cause that is first among these
@@ -38,7 +38,7 @@ abbrev last : List (Verdict × Refusal)
 last = (Exactly false, OutOfOrder) ∷ []
 
 -- what is not asked refuses nothing
-passes : (T : Type 0) (k : Shape) (s : ℕ) (refusal : Refusal) (rest : List (Verdict × Refusal)) → First refusal (sequence_causes (sight_tests {T = T} k s Unasked) ++ rest) → First refusal rest
+passes : (T : Type 0) (k : Shape T) (s : ℕ) (refusal : Refusal) (rest : List (Verdict × Refusal)) → First refusal (sequence_causes (sight_tests {T = T} k s Unasked) ++ rest) → First refusal rest
 passes T k s refusal rest F = elim F [
   | inl x ↦ absurd (let no = x.0 in cc)
   | inr a ↦ elim a.1 [
@@ -50,13 +50,9 @@ passes T k s refusal rest F = elim F [
   ]
 ]
 
-some_lent : {A : Type 0} (o : Option A) → is_some o ≡ true → (a : A) × (o ≡ Some a)
-some_lent None is = absurd (cc)
-some_lent (Some a) is = (a, refl)
-
 module _ {T : Type 0} (e : SenderEnd T) (w : World T) (K : KeepsRule e.plan w) (writes : List (ℕ × T)) (p lo hi : ℕ) (seen : PublishLooks T) (at : get_elem? w.senders p ≡ some e.knows)
     (tells : TellsWrites e.plan w writes e) (sees : PublishSees e lo hi seen) where
-  abbrev k : Shape
+  abbrev k : Shape T
   k = e.plan
 
   abbrev r : SenderRecord T
@@ -137,22 +133,17 @@ module _ {T : Type 0} (e : SenderEnd T) (w : World T) (K : KeepsRule e.plan w) (
   none_after s zero refusal past (inr x) = x.1
   none_after s (suc n) refusal past F = none_after (s + 1) n refusal (omega arith) (unasked s n refusal (λ e. omega arith) F)
 
-  -- the mark of another's sequence, as the machine has it
-  mark_shown : stop < length w.stages → (found : ℕ) → word_at w.words (mark_word k stop) ≡ found → nat_le (entry_of k.size stop) found ≡ true → m.published stop ≡ true
-  mark_shown inside found here le =
-      let x = K.marks stop (let low = leb-true (entry_of k.size stop) found le in omega arith) in ap is_published (at_stage w.stages stop x.1.0 x.1.1) ∙ ap is_some x.1.2
+  -- another's sequence, as the machine has it
+  by_looks : (before word after : ℕ) → FoundNow k w stop (Found before word after) → is_out_by k stop before word after ≡ true → m.published stop ≡ true
+  by_looks before word after now said = shown_out k w stop (now_out k w stop K (now ∙ said))
 
-  mark_hidden : stop < length w.stages → (found : ℕ) → word_at w.words (mark_word k stop) ≡ found → nat_le (entry_of k.size stop) found ≡ false → m.published stop ≡ false
-  mark_hidden inside found here gt =
-      let x = there w.stages stop inside in elim (cases_Bool (is_published x.0)) [
-        | inl shown ↦ absurd (let l = some_lent x.0.lent shown in let low = K.marked stop (l.0, (x.0, x.1, l.1)) in let above = le-leb (entry_of k.size stop) found (omega arith) in cc)
-        | inr hidden ↦ ap is_published (at_stage w.stages stop x.0 x.1) ∙ hidden
-      ]
+  against_looks : (before word after : ℕ) → FoundNow k w stop (Found before word after) → is_out_by k stop before word after ≡ false → m.published stop ≡ false
+  against_looks before word after now said = hidden_out k w stop (λ x. both_ways (is_out_now k w stop) (now ∙ said) (out_now k w stop K x))
 
-  another : stop < length w.stages → (found : ℕ) → IsSight e stop (Found found) → nat_le (entry_of k.size stop) found ≡ false → not (get_or m.owners stop 0 == p) ≡ true
-  another inside found sight gt = let x = there w.stages stop inside in elim (cases_eq (get_or m.owners stop 0) p) [
+  another : stop < length w.stages → (before word after : ℕ) → IsSight e stop (Found before word after) → is_out_by k stop before word after ≡ false → not (get_or m.owners stop 0 == p) ≡ true
+  another inside before word after sight silent = let x = there w.stages stop inside in elim (cases_eq (get_or m.owners stop 0) p) [
     | inl mine ↦ absurd (let own = (K.sent p r at).all stop x.0 x.1 (sym (owner_at w.stages stop x.0 x.1) ∙ mine) in
-        let low = (sight.1 x.0 own).1 in let above = le-leb (entry_of k.size stop) found low in cc)
+        both_ways (is_out_by k stop before word after) silent (sight.1 x.0 own).1)
     | inr other ↦ ap not (ne_eqb (get_or m.owners stop 0) p other)
   ]
 
@@ -169,10 +160,10 @@ module _ {T : Type 0} (e : SenderEnd T) (w : World T) (K : KeepsRule e.plan w) (
       ]
     ]
   ]
-  refused_here (Found found) n refusal inside sight now F = elim F [
-    | inl x ↦ inl (mark_shown inside found now x.0, x.1)
+  refused_here (Found before mark after) n refusal inside sight now F = elim F [
+    | inl x ↦ inl (by_looks before mark after now x.0, x.1)
     | inr a ↦ elim a.1 [
-      | inl x ↦ inr (mark_hidden inside found now a.0, inl (another inside found sight a.0, x.1))
+      | inl x ↦ inr (against_looks before mark after now a.0, inl (another inside before mark after sight a.0, x.1))
       | inr b ↦ absurd (let no = b.0 in cc)
     ]
   ]
@@ -215,11 +206,11 @@ module _ {T : Type 0} (e : SenderEnd T) (w : World T) (K : KeepsRule e.plan w) (
       ]))
 
 -- the same, where the ring is the end's
-pub publish_replies_of : {T : Type 0} (k : Shape) (w : World T) → KeepsRule k w → (writes : List (ℕ × T)) (p lo hi : ℕ) (e : SenderEnd T) (seen : PublishLooks T) (result : Result (Unit {0}) Refusal)
+pub publish_replies_of : {T : Type 0} (k : Shape T) (w : World T) → KeepsRule k w → (writes : List (ℕ × T)) (p lo hi : ℕ) (e : SenderEnd T) (seen : PublishLooks T) (result : Result (Unit {0}) Refusal)
     → e.plan ≡ k → get_elem? w.senders p ≡ some e.knows → TellsWrites k w writes e → PublishSees e lo hi seen
     → IsAnswerOf (publish_causes lo hi (tests_of_publication k lo hi seen)) (as_end result) → DecidesPublication k w lo hi seen result
     → RepliesIn k (picture_with k w writes) (Publish p lo hi) (unit_reply Published result)
 publish_replies_of {T} k w K writes p lo hi e seen result plan at tells sees answer decides =
-    let P : Shape → Type 0 = λ q. KeepsRule q w → TellsWrites q w writes e → IsAnswerOf (publish_causes lo hi (tests_of_publication q lo hi seen)) (as_end result)
+    let P : Shape T → Type 0 = λ q. KeepsRule q w → TellsWrites q w writes e → IsAnswerOf (publish_causes lo hi (tests_of_publication q lo hi seen)) (as_end result)
     → DecidesPublication q w lo hi seen result → RepliesIn q (picture_with q w writes) (Publish p lo hi) (unit_reply Published result) in
     subst P plan (λ L t a d. publish_replies e w L writes p lo hi seen at t sees result a d) K tells answer decides

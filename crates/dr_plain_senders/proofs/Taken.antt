@@ -27,7 +27,7 @@ take_seam xs ys n len = ap (λ (m : ℕ). take m (xs ++ ys)) (sym len) ∙ take-
 
 module _ {T : Type 0} where
   -- the slots for some sequences, and for those that follow
-  pub blanks_both : (k : Shape) (r : ReceiverRecord T) (a b c : ℕ) → a ≤ b → b ≤ c → blanks_between k r a c ≡ blanks_between k r a b ++ blanks_between k r b c
+  pub blanks_both : (k : Shape T) (r : ReceiverRecord T) (a b c : ℕ) → a ≤ b → b ≤ c → blanks_between k r a c ≡ blanks_between k r a b ++ blanks_between k r b c
   blanks_both k r a b c low high =
       let whole : b - a + (c - b) ≡ c - a = omega arith in let at_slot = λ (q : ℕ) (u : Unit {0}). blank_slot {T = T} k (lane_of r.number) q in
       let both : nothings (c - a) ≡ nothings (b - a) ++ nothings (c - b) =
@@ -83,7 +83,7 @@ module _ {T : Type 0} (e : ReceiverStand T) (n t c : ℕ) (parts : List (Token T
           ∙ drop-append_seam (given_by_completion u.plan u.knows n) (blanks_between e.plan e.knows n t) in
           let done = F.completed in let near = F.near in let all = F.taken in
           let plan : e'.plan ≡ e.plan = stored.0.1 ∙ ap (λ (x : ReceiverStand T). x.plan) in_front in
-          subst (λ (x : Shape × (ReceiverRecord T × Hand T)). ReceiverFits (record e' { plan = x.0; knows = x.1.0; hand = x.1.1 }) t n parts') (λ i. (sym plan i, (sym knows i, sym hand i))) (record {
+          subst (λ (x : Shape T × (ReceiverRecord T × Hand T)). ReceiverFits (record e' { plan = x.0; knows = x.1.0; hand = x.1.1 }) t n parts') (λ i. (sym plan i, (sym knows i, sym hand i))) (record {
             taken = F.taken;
             completed = refl;
             rises = le;

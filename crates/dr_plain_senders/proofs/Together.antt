@@ -17,10 +17,10 @@ use Rattle.dr_plain_senders.specs.Calls.Settling.{AreAllEnds}
 use Rattle.dr_plain_senders.proofs.Beginning.{sender_fresh, receiver_fresh, senders_count, receivers_count}
 
 -- each end of a list is of the ring for the plan, and has the number of its place
-abbrev AreInPlace : {E : Type 0} → (E → EndPlace) → TableId → Shape → List E → Type 0
+abbrev AreInPlace : {T : Type 0} {E : Type 0} → (E → EndPlace T) → TableId → Shape T → List E → Type 0
 AreInPlace place_of ring k es = (i : ℕ) (e : _) → get_elem? es i ≡ some e → place_of e ≡ (ring, k, i)
 
-fresh_in_place : {E R : Type 0} (place_of : E → EndPlace) (ring : TableId) (k : Shape) (of : R → E) (rs : List R) (es : List E)
+fresh_in_place : {T : Type 0} {E R : Type 0} (place_of : E → EndPlace T) (ring : TableId) (k : Shape T) (of : R → E) (rs : List R) (es : List E)
     → ((i : ℕ) (r : R) → get_elem? rs i ≡ some r → place_of (of r) ≡ (ring, k, i)) → es ≡ map of rs → AreInPlace place_of ring k es
 fresh_in_place place_of ring k of rs es each is i e at =
     let m = at_map of rs i e (subst (λ (xs : List _). get_elem? xs i ≡ some e) is at) in ap place_of (sym m.2) ∙ each i m.0 m.1
@@ -31,7 +31,7 @@ set_past (x ∷ xs) zero a le = absurd (omega arith)
 set_past (x ∷ xs) (suc i) a le = ap (λ (ys : List _). x ∷ ys) (set_past xs i a (omega arith))
 
 -- one end of a list makes a call, and stays where it is
-place_stays : {E : Type 0} (place_of : E → EndPlace) (ring : TableId) (k : Shape) (es : List E) (i : ℕ) (e e' : E) → AreInPlace place_of ring k es
+place_stays : {T : Type 0} {E : Type 0} (place_of : E → EndPlace T) (ring : TableId) (k : Shape T) (es : List E) (i : ℕ) (e e' : E) → AreInPlace place_of ring k es
     → e ≡ get_or es i e → place_of e' ≡ place_of e → AreInPlace place_of ring k (set es i e')
 place_stays place_of ring k es i e e' all at same =
     elim (cases_lt i (length es)) [
@@ -42,18 +42,18 @@ place_stays place_of ring k es i e e' all at same =
 
 module _ {T : Type 0} where
   -- the ends of a new ring are all of its ends
-  pub all_fresh : (k : Shape) (ss : List (SenderEnd T)) (rs : List (ReceiverEnd T)) (t : HalterStand T) → AreFreshEnds k ss rs t → AreAllEnds ss rs t
+  pub all_fresh : (k : Shape T) (ss : List (SenderEnd T)) (rs : List (ReceiverEnd T)) (t : HalterStand T) → AreFreshEnds k ss rs t → AreAllEnds ss rs t
   all_fresh k ss rs t F =
       let plan : t.plan ≡ k = ap (λ (e : HalterStand T). e.plan) F.halter in
-      let place : ℕ → EndPlace = λ i. (t.ring, k, i) in record {
+      let place : ℕ → EndPlace T = λ i. (t.ring, k, i) in record {
         senders = ap length F.senders ∙ length-map (fresh_senders 0 k.senders) (sender_at t.ring k) ∙ senders_count T 0 k.senders
-            ∙ ap (λ (p : Shape). p.senders) (sym plan);
+            ∙ ap (λ (p : Shape T). p.senders) (sym plan);
         receivers = ap length F.receivers ∙ length-map (fresh_receivers 0 (handlers_of k)) (receiver_at t.ring k) ∙ receivers_count T 0 (handlers_of k)
             ∙ ap handlers_of (sym plan);
-        each_sender = subst (λ (p : Shape). AreInPlace sender_place t.ring p ss) (sym plan)
+        each_sender = subst (λ (p : Shape T). AreInPlace sender_place t.ring p ss) (sym plan)
             (fresh_in_place sender_place t.ring k (sender_at t.ring k) (fresh_senders 0 k.senders) ss
             (λ p r at. (let number : r.number ≡ p = ap (λ (q : SenderRecord T). q.number) (sender_fresh 0 k.senders p r at) ∙ omega arith in ap place number)) F.senders);
-        each_receiver = subst (λ (p : Shape). AreInPlace receiver_place t.ring p rs) (sym plan)
+        each_receiver = subst (λ (p : Shape T). AreInPlace receiver_place t.ring p rs) (sym plan)
             (fresh_in_place receiver_place t.ring k (receiver_at t.ring k) (fresh_receivers 0 (handlers_of k)) rs
             (λ h r at. (let number : r.number ≡ h = ap (λ (q : ReceiverRecord T). q.number) (receiver_fresh 0 (handlers_of k) h r at) ∙ omega arith in ap place number))
             F.receivers);
@@ -83,7 +83,7 @@ module _ {T : Type 0} where
   pub all_halter : (ss : List (SenderEnd T)) (rs : List (ReceiverEnd T)) (t t' : HalterStand T) → AreAllEnds ss rs t → t'.ring ≡ t.ring → t'.plan ≡ t.plan
       → AreAllEnds ss rs t'
   all_halter ss rs t t' A ring plan = record {
-    senders = A.senders ∙ ap (λ (k : Shape). k.senders) (sym plan);
+    senders = A.senders ∙ ap (λ (k : Shape T). k.senders) (sym plan);
     receivers = A.receivers ∙ ap handlers_of (sym plan);
     each_sender = λ p e at. A.each_sender p e at ∙ (λ i. (sym ring i, sym plan i, p));
     each_receiver = λ h e at. A.each_receiver h e at ∙ (λ i. (sym ring i, sym plan i, h));

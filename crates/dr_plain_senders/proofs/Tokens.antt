@@ -16,10 +16,10 @@ module _ {T : Type 0} where
   token_is p i t x of holds = λ j. record { mark = t.mark; strip = of.0 j; cell = of.1 j; hold = holds j }
 
   -- n parts of a lending are out
-  abbrev pub out : Shape → ℕ → ℕ → Lent T → Token T
+  abbrev pub out : Shape T → ℕ → ℕ → Lent T → Token T
   out k s n m = token_at k.strip (cell_of k s) (kept m.round n m.event)
 
-  module _ (k : Shape) (s : ℕ) where
+  module _ (k : Shape T) (s : ℕ) where
     pub held_by : (t : Token T) (n : ℕ) (m : Lent T) → t ≡ out k s n m → held t.hold ≡ Some m.event
     held_by t n m is = ap (λ (x : Token T). held x.hold) is
 

@@ -1,5 +1,5 @@
 -- Who was told that the ring drained, was told so by a poll of the run.
-use Rattle.std.proofs.Common.{◌≡◌, ◌⊎◌, ℕ, inl, inr, Bool, true, false, ◌==◌, if◌then◌else◌, List, [], ◌∷◌, length, set, sym, refl, ap, ◌∙◌, subst, arith}
+use Rattle.std.proofs.Common.{◌≡◌, ◌⊎◌, ℕ, ◌+◌, inl, inr, Bool, true, false, ◌==◌, if◌then◌else◌, List, [], ◌∷◌, length, set, sym, refl, ap, ◌∙◌, subst, arith}
 use Rattle.std.specs.Prelude.{Contains}
 use Rattle.std.proofs.lemmas.Bool.{or_cases, false≢true}
 use mathlib.Core.Option.{some}
@@ -17,14 +17,14 @@ use Rattle.dr_plain_senders.specs.declared.record.Step.TheVariants.{SenderLooksA
 use Rattle.dr_plain_senders.specs.declared.record.Step.TheVariants.{ReceiverLooksAtClaims, ReceiverLooksAtMark, ReceiverLooksAtCount, ReceiverCompletes}
 use Rattle.dr_plain_senders.specs.Meaning.Records.{sender_looked, receiver_looked, tells_drained, claims_looked, mark_looked, completed_to}
 use Rattle.dr_plain_senders.specs.Meaning.Rule.{World}
-use Rattle.dr_plain_senders.specs.Meaning.Steps.{Happens, sender_knows, sender_claims}
+use Rattle.dr_plain_senders.specs.Meaning.Steps.{Happens, PublishesAll, sender_knows, sender_claims}
 use Rattle.dr_plain_senders.specs.Meaning.Moments.{new_world, receiver_at, entries_of, Runs, WereTold}
 use Rattle.dr_plain_senders.proofs.Places.{word_at}
 use Rattle.dr_plain_senders.proofs.Beginning.{receiver_fresh}
 use Rattle.dr_plain_senders.proofs.Pictures.{is_receiver}
 
 -- each look that tells a receiver so has the entry
-abbrev LooksTell : Type 0 → Shape → Type 0
+abbrev LooksTell : (T : Type 0) → Shape T → Type 0
 LooksTell T k = (w : World T) (g : ℕ) (q : ReceiverRecord T) → get_elem? w.receivers g ≡ some q → tells_drained q (word_at w.words claim_word) ≡ true
     → Contains (entries_of k (ReceiverLooksAtClaims g) w) (told_drained g)
 
@@ -56,13 +56,17 @@ module _ {T : Type 0} where
       let here : tells_drained (receiver_at w g) n ≡ true = ap (λ (x : ReceiverRecord T). tells_drained x n) (is_receiver w g q at) ∙ tells in
       subst (λ (b : Bool). Contains (if b then told_drained g ∷ [] else []) (told_drained {T = T} g)) (sym here) (0, omega arith, refl)
 
-  told_step : (k : Shape) → LooksTell T k → (s : Step T) (w u : World T) (h : ℕ) → Happens k s w u → Heard u h
+  pub same_receivers : (k : Shape T) (p s : ℕ) (events : List T) (w u : World T) → PublishesAll k p s events w u → u.receivers ≡ w.receivers
+  same_receivers k p s [] w u A = ap (λ (x : World T). x.receivers) A
+  same_receivers k p s (event ∷ events) w u A = same_receivers k p (s + 1) events A.0 u A.2 ∙ ap (λ (x : World T). x.receivers) A.1.2.3.2
+
+  told_step : (k : Shape T) → LooksTell T k → (s : Step T) (w u : World T) (h : ℕ) → Happens k s w u → Heard u h
       → Heard w h ⊎ Contains (entries_of k s w) (told_drained h)
   told_step k tell (SenderLooksAtClaims p) w u h H now = inl (stays w u h (ap (λ (x : World T). x.receivers) H.2) now)
   told_step k tell (SenderLooksAtCount p f) w u h H now = inl (stays w u h (ap (λ (x : World T). x.receivers) H.2.1) now)
   told_step k tell (SenderClaims p c n) w u h H now =
       inl (stays w u h (ap (λ (x : World T). x.receivers) H.2.2 ∙ exchanges w p c n H.0 (word_at w.words claim_word == c)) now)
-  told_step k tell (SenderPublishes p s events) w u h H now = inl (stays w u h (ap (λ (x : World T). x.receivers) H.2.3.2) now)
+  told_step k tell (SenderPublishes p s events) w u h H now = inl (stays w u h (same_receivers k p s events w u H.1) now)
   told_step k tell (SenderLooksAtMark p s) w u h H now = inl (stays w u h (ap (λ (x : World T). x.receivers) H.2) now)
   told_step k tell (SenderHalts p) w u h H now = inl (stays w u h (ap (λ (x : World T). x.receivers) H.2) now)
   told_step k tell (ReceiverLooksAtClaims g) w u h H now =
@@ -78,7 +82,7 @@ module _ {T : Type 0} where
       ]
   told_step k tell (ReceiverLooksAtMark g room) w u h H now =
       let found = word_at w.words (mark_word k (length H.0.received)) in
-      inl (quiet w u g h H.0 (mark_looked k H.0 found H.2.1) H.1 (ap (λ (x : World T). x.receivers) H.2.3) refl now)
+      inl (quiet w u g h H.0 (mark_looked H.0 found H.2.1) H.1 (ap (λ (x : World T). x.receivers) H.2.3) refl now)
   told_step k tell (ReceiverLooksAtCount g c room) w u h H now =
       let found = word_at w.words (count_word c) in
       inl (quiet w u g h H.0 (receiver_looked H.0 (count_word c) found H.2.1) H.1 (ap (λ (x : World T). x.receivers) H.2.3) refl now)
@@ -86,7 +90,7 @@ module _ {T : Type 0} where
   told_step k tell HalterHalts w u h H now = inl (stays w u h (ap (λ (x : World T). x.receivers) H) now)
 
   -- and nobody was told anything before a ring begins
-  pub were_told : (k : Shape) → LooksTell T k → (steps : List (Step T)) (es : Transcript T) (w : World T) → Runs k steps es (new_world k) w → WereTold w es
+  pub were_told : (k : Shape T) → LooksTell T k → (steps : List (Step T)) (es : Transcript T) (w : World T) → Runs k steps es (new_world k) w → WereTold w es
   were_told k tell steps es w R h r at heard =
       elim (told_runs (Happens k) (entries_of k) (λ (x : World T). x.receivers) was_told (λ s v u j H. told_step k tell s v u j H) steps es (new_world k) w h R
       (r, at, heard)) [

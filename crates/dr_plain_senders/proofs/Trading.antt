@@ -124,7 +124,7 @@ module _ {T K : Type 0} (e : EndOf T K) (first n : ℕ) (xs ys : Hand T) where
       is ∙ ap (λ (h : Hand T). with_hand e h) (ap (λ (m : ℕ). traded xs ys (drop n e.hand) m) all ∙ traded_all xs ys (drop n e.hand) n x y)
 
 -- a receiver's slots for some sequences
-module _ {T : Type 0} (k : Shape) (r : ReceiverRecord T) (first upto : ℕ) (le : upto ≤ length r.received) where
+module _ {T : Type 0} (k : Shape T) (r : ReceiverRecord T) (first upto : ℕ) (le : upto ≤ length r.received) where
   pub parts_count : length (parts_between k r first upto) ≡ upto - first
   parts_count = let few = take (upto - first) (drop first r.received) in
       length_stretch (placed k (lane_of r.number)) first (lent_all few)
@@ -145,10 +145,10 @@ module _ {T : Type 0} (k : Shape) (r : ReceiverRecord T) (first upto : ℕ) (le 
       ∙ ap (λ (m : ℕ). some (blank_slot k (lane_of r.number) m)) e
 
 module _ {T : Type 0} where
-  pub parts_none : (k : Shape) (r : ReceiverRecord T) (first : ℕ) (parts : List (Token T)) → PartsTaken k r first first parts parts
+  pub parts_none : (k : Shape T) (r : ReceiverRecord T) (first : ℕ) (parts : List (Token T)) → PartsTaken k r first first parts parts
   parts_none k r first parts = record { count = refl; taken = λ s l low high at. absurd (omega arith); others = λ i none. refl }
 
-  pub parts_more : (k : Shape) (r : ReceiverRecord T) (first s : ℕ) (parts was now : List (Token T)) (t : Token T) (l : Lent T) → PartsTaken k r first s parts was → first ≤ s → s < first + k.size
+  pub parts_more : (k : Shape T) (r : ReceiverRecord T) (first s : ℕ) (parts was now : List (Token T)) (t : Token T) (l : Lent T) → PartsTaken k r first s parts was → first ≤ s → s < first + k.size
       → length parts ≡ k.size → cell_of k s < k.size → get_elem? r.received s ≡ some l → t ≡ part_of k s (lent l) → now ≡ set was (cell_of k s) t
       → PartsTaken k r first (s + 1) parts now
   parts_more k r first s parts was now t l P low near long inside here token put = let c = cell_of k s in let count = P.count in record {
@@ -163,10 +163,10 @@ module _ {T : Type 0} where
         ∙ P.others i (λ q from to. none q from (omega arith));
   }
 
-  pub places_none : (k : Shape) (first : ℕ) (parts : List (Token T)) → SamePlaces k first first parts parts
+  pub places_none : (k : Shape T) (first : ℕ) (parts : List (Token T)) → SamePlaces k first first parts parts
   places_none k first parts = record { count = refl; others = λ i none. refl }
 
-  pub places_more : (k : Shape) (first s : ℕ) (parts was now : List (Token T)) (t : Token T) → SamePlaces k first s parts was → first ≤ s
+  pub places_more : (k : Shape T) (first s : ℕ) (parts was now : List (Token T)) (t : Token T) → SamePlaces k first s parts was → first ≤ s
       → now ≡ set was (cell_of k s) t → SamePlaces k first (s + 1) parts now
   places_more k first s parts was now t P low put = let c = cell_of k s in record {
     count = ap length put ∙ length-set was c t ∙ P.count;
@@ -175,7 +175,7 @@ module _ {T : Type 0} where
   }
 
   -- the part of the next event still stands in its place
-  pub part_is : (k : Shape) (r : ReceiverRecord T) (first s upto : ℕ) (parts was : List (Token T)) (t : Token T) (l : Lent T) → SamePlaces k first s parts was → first ≤ s → s < upto
+  pub part_is : (k : Shape T) (r : ReceiverRecord T) (first s upto : ℕ) (parts was : List (Token T)) (t : Token T) (l : Lent T) → SamePlaces k first s parts was → first ≤ s → s < upto
       → s < first + k.size → ArePartsBetween k r first upto parts → get_elem? r.received s ≡ some l → get_elem? was (cell_of k s) ≡ some t → t ≡ part_of k s (lent l)
   part_is k r first s upto parts was t l P low lt near all here at = some-injective t (part_of k s (lent l))
       (sym at ∙ P.others (cell_of k s) (λ q from to. slots_differ k.size q s (λ (e : q ≡ s). omega arith) (omega arith) (omega arith)) ∙ all s l low lt here)

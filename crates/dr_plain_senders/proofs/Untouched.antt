@@ -46,10 +46,10 @@ module _ {T : Type 0} where
       let both = at_take n tokens i t at in let x = F.each i both.0 in (x.0, some-injective t (token_at p i (whole x.0)) (sym both.1 ∙ x.1))
 
   -- as they do in a new ring
-  pub stand_first : (k : Shape) (tokens : List (Token T)) → AreFirst k tokens → StandFirst k.strip k.size tokens
+  pub stand_first : (k : Shape T) (tokens : List (Token T)) → AreFirst k tokens → StandFirst k.strip k.size tokens
   stand_first k tokens F =
       let least : k.size ≤ suc (handlers_of k) * k.size = omega (arith, suc-mul (handlers_of k) k.size) in
-      let all : length tokens ≡ suc (handlers_of k) * k.size = F.count in record { count = omega arith; each = F.kept }
+      let all : length tokens ≡ suc (handlers_of k) * k.size = F.count in record { count = omega arith; each = λ i lt. (let x = F.kept i lt in (x.0, x.1)) }
 
   -- nothing is claimed where no sender has anything
   none_claimed : (w : World T) → AllOwned w → ((p : ℕ) (r : SenderRecord T) → get_elem? w.senders p ≡ some r → r.own ≡ []) → length w.stages ≡ 0
@@ -60,7 +60,7 @@ module _ {T : Type 0} where
   ]
 
   -- where each sender of a new ring stands in the first view
-  sender_in : (k : Shape) (p : ℕ) → p < k.senders → get_elem? (fresh_ends {T = T} k) (suc p) ≡ some (Sends (fresh_sender p))
+  sender_in : (k : Shape T) (p : ℕ) → p < k.senders → get_elem? (fresh_ends {T = T} k) (suc p) ≡ some (Sends (fresh_sender p))
   sender_in k p lt =
       let count = senders_count T 0 k.senders in let t = there (fresh_senders {T = T} 0 k.senders) p (omega arith) in
       let is : t.0 ≡ fresh_sender p = sender_fresh 0 k.senders p t.0 t.1 ∙ (let z : 0 + p ≡ p = omega arith in ap fresh_sender z) in
@@ -68,7 +68,7 @@ module _ {T : Type 0} where
       (map_there (λ (r : SenderRecord T). Sends r) (fresh_senders 0 k.senders) p (fresh_sender p) (t.1 ∙ ap (λ (r : SenderRecord T). some r) is))
 
   -- what lies in a cell while nothing is claimed
-  first_laid : (k : Shape) (w : World T) (homes : List (maybe.Option (Token T))) (i : ℕ) (a : Laid T) → i < k.size → LiesIn k w.receivers w.stages homes i a
+  first_laid : (k : Shape T) (w : World T) (homes : List (maybe.Option (Token T))) (i : ℕ) (a : Laid T) → i < k.size → LiesIn k w.receivers w.stages homes i a
       → (x : T) × (get_elem? homes i ≡ some (some (token_at k.strip i (whole x))))
   first_laid k w homes i (unlent x) lt I =
       let cell : cell_of k i ≡ i = mod-eq_of_lt lt in
@@ -76,7 +76,7 @@ module _ {T : Type 0} where
       (x, ap (λ (j : ℕ). get_elem? homes j) (sym slot) ∙ I.keeps ∙ ap (λ (j : ℕ). some (some (token_at k.strip j (whole x)))) cell)
   first_laid k w homes i (lent l) lt I = absurd (let from = I.laid.1 in omega arith)
 
-  pub untouched : (k : Shape) (id : ℕ) (ws : List ℕ) (xs : List (Token T)) → Final (Seen (Ruled k) id (all_ends k)) ws xs → (i : ℕ) → i < k.size
+  pub untouched : (k : Shape T) (id : ℕ) (ws : List ℕ) (xs : List (Token T)) → Final (Seen (Ruled k) id (all_ends k)) ws xs → (i : ℕ) → i < k.size
       → (x : T) × (get_elem? xs i ≡ some (token_at k.strip i (whole x)))
   untouched k id ws xs F i lt =
       elim F.1.0 [

@@ -1,6 +1,6 @@
 -- What a sender's write leaves of its fields, and what its caller sees.
-use Rattle.std.proofs.Common.{◌≡◌, ◌≢◌, ℕ, zero, suc, ◌%◌, ◌<◌, ◌≤◌, inl, inr, Bool, true, false, not, ◌==◌, ◌&&◌, if◌then◌else◌, List, [], ◌∷◌, ◌++◌, length, get_or, set, sym, refl, ap, ◌∙◌, subst, arith, length-set}
-use Rattle.std.specs.Prelude.{None, Some, Option, is_some, nat_le, Ok, Err}
+use Rattle.std.proofs.Common.{◌≡◌, ◌≢◌, ℕ, ◌%◌, ◌<◌, ◌≤◌, inl, inr, Bool, true, false, not, ◌==◌, ◌&&◌, if◌then◌else◌, List, [], ◌∷◌, ◌++◌, length, get_or, set, sym, refl, ap, ◌∙◌, subst, arith, length-set}
+use Rattle.std.specs.Prelude.{None, Some, Option, Ok, Err}
 use Rattle.std.proofs.lemmas.Bool.{cases_Bool, cases_eq, eq-eqb, ne_eqb}
 use Rattle.std.proofs.lemmas.List.{append-nil, length-map, map-set}
 use Rattle.std.proofs.Math.Nat.{mod-lt}
@@ -15,10 +15,9 @@ use Rattle.dr_meaning.specs.declared.refusal.Refusal.{Refusal}
 use Rattle.dr_meaning.specs.declared.refusal.Refusal.TheVariants.{NotClaimed, AlreadyPublished}
 use Rattle.dr_meaning.specs.Meaning.Refusals.{write_causes, IsFirst}
 use Rattle.dr_meaning.specs.Calls.Ends.{Exactly, unknown, MayHold, MayFail}
-use Rattle.dr_runs.specs.declared.look.Look.{Look}
 use Rattle.dr_runs.proofs.Elements.{there, value_at}
 use Rattle.dr_runs.proofs.Lists.{map_there}
-use Rattle.dr_plain_senders.specs.Meaning.Words.{cell_of}
+use Rattle.dr_plain_senders.specs.Meaning.Words.{cell_of, is_out_by}
 use Rattle.dr_plain_senders.specs.Meaning.Records.{Owns}
 use Rattle.dr_plain_senders.specs.declared.owned.Owned.{Owned}
 use Rattle.dr_plain_senders.specs.declared.record.Own.{Own}
@@ -29,14 +28,11 @@ use Rattle.dr_plain_senders.specs.declared.record.Stage.{Stage}
 use Rattle.dr_plain_senders.specs.Inside.Fits.{MarksFit, SenderFits, is_open, cells_of, written_in, writes_of}
 use Rattle.dr_plain_senders.specs.Inside.Refusing.{RefusesBy}
 use Rattle.dr_plain_senders.specs.Inside.Views.{sender_end}
+use Rattle.dr_plain_senders.proofs.Places.{set_twice}
+use Rattle.dr_plain_senders.proofs.Marks.{said_out}
 use Rattle.dr_plain_senders.proofs.Stations.{begins_same}
 use Rattle.dr_plain_senders.proofs.Owning.{mark_was, mark_here, mark_beside, marked_apart}
 use Rattle.dr_plain_senders.proofs.Granting.{first_of, unready}
-
-set_twice : {A : Type 0} (xs : List A) (i : ℕ) (a b : A) → set (set xs i a) i b ≡ set xs i b
-set_twice [] i a b = refl
-set_twice (x ∷ xs) zero a b = refl
-set_twice (x ∷ xs) (suc i) a b = ap (λ (ys : List _). x ∷ ys) (set_twice xs i a b)
 
 -- what lies in the cell of a sequence
 pub lies_at : {T : Type 0} (tokens : List (Token T)) (n s : ℕ) (t : Token T) → length tokens ≡ n → get_elem? tokens (s % n) ≡ some t
@@ -45,10 +41,6 @@ lies_at {T} tokens n s t count at =
     let f : Token T → Option T = λ x. held x.hold in
     ap (λ (m : ℕ). get_or (cells_of tokens) (s % m) None) (length-map tokens f ∙ count)
     ∙ value_at (cells_of tokens) (s % n) (held t.hold) None (map_there f tokens (s % n) t at)
-
-pub some_of : {X : Type 0} (o : Option X) → is_some o ≡ true → (x : X) × (o ≡ Some x)
-some_of None e = absurd (cc)
-some_of (Some x) e = (x, refl)
 
 -- a sender's own sequence, with what is written of it
 pub holds : {T : Type 0} (e : SenderStand T) (o : Owned) (tokens : List (Token T)) (s : ℕ) (t : Stage T) → Owns e.knows s t
@@ -173,8 +165,8 @@ module _ {T : Type 0} (e : SenderStand T) (o : Owned) (end s c : ℕ) (tokens to
     past = begins_same e.past;
   }
 
-found_nothing : {T : Type 0} (r : SenderRecord T) → r ≡ record r { marks = r.marks ++ [] }
-found_nothing r = ap (λ (xs : List Look). record r { marks = xs }) (sym (append-nil r.marks))
+found_nothing : {T : Type 0} (r : SenderRecord T) → r ≡ record r { marks = r.marks ++ []; looks = r.looks ++ [] }
+found_nothing r = λ i. record r { marks = sym (append-nil r.marks) i; looks = sym (append-nil r.looks) i }
 
 pub write_never : {T : Type 0} (e : SenderEnd T) (s : ℕ) (event : T) → e.plan.limit ≤ s → WriteCall e s event e (Err NotClaimed)
 write_never e s event past = record {
@@ -190,7 +182,7 @@ write_never e s event past = record {
   past = begins_same e.past;
 }
 
--- what is answered by a mark
+-- what is answered by the looks
 by_mark : (b : Bool) (refusal : Refusal) → refusal ≡ (if b then AlreadyPublished else NotClaimed)
     → IsFirst MayHold MayFail refusal (write_causes (record { no_producer = Exactly false; unclaimed = if b then Exactly false else unknown; published = Exactly b; not_owned = Exactly true }))
 by_mark true refusal is = inr (refl, inr (refl, inl (refl, sym is)))
@@ -200,16 +192,20 @@ module _ {T : Type 0} (e : SenderStand T) (o : Owned) (end s : ℕ) (tokens : Li
   pub write_refused : (e' : SenderStand T) (refusal : Refusal) → s < e.plan.limit → is_marked o.claimed s ≡ false → RefusesBy e s e' refusal
       → WriteCall (sender_end e o tokens) s event (sender_end e' o tokens) (Err refusal)
   write_refused e' refusal below unmarked R = record {
-    place = (λ i. (R.1.0.0 i, R.1.0.1 i, (R.1.1 i).number));
-    sight = Found R.0;
-    sees = (below, λ t own. (let shown = F.marks.old s t own unmarked in let l = some_of t.lent shown in (shown, R.2 t l.0 own l.1)));
+    place = (λ i. (R.loaded.0.0 i, R.loaded.0.1 i, (R.loaded.1 i).number));
+    sight = Found R.before R.mark R.after;
+    sees = (
+      below,
+      λ t own. (let x = F.marks.old s t own unmarked in
+          (x.0, said_out e.plan s R.before R.mark R.after (R.first s t own) (inr (let past = x.1.3 in let again = R.last x.1.0 x.1.1 x.1.2 in omega arith)))),
+    );
     asked = tt;
-    answer = by_mark (nat_le (entry_of e.plan.size s) R.0) refusal R.3;
-    knows = R.1.1;
-    writes = (λ i. writes_of (R.1.0.1 i) o tokens (R.1.1 i).own);
+    answer = by_mark (is_out_by e.plan s R.before R.mark R.after) refusal R.is;
+    knows = R.loaded.1;
+    writes = (λ i. writes_of (R.loaded.0.1 i) o tokens (R.loaded.1 i).own);
     cells = refl;
-    stored = R.1.4;
-    past = R.1.3;
+    stored = R.loaded.4;
+    past = R.loaded.3;
   }
 
   pub write_late : is_marked o.claimed s ≡ true → is_marked o.published s ≡ true

@@ -17,3 +17,4 @@ pub mod Gathered
 pub mod Rooms
 pub mod Bringing
 pub mod Finishing
+pub mod Leaving

@@ -1,36 +1,40 @@
 //! All ends of a ring come together, and its events come back.
 
-ghost use Rattle.std.specs.Prelude.{◌≡◌, ◌-◌, ◌^◌, ◌<◌, ◌≤◌, ℕ, false, true, length, map, replicate, slice_set};
+ghost use Rattle.std.specs.Prelude.{◌≡◌, ◌∷◌, ◌-◌, ◌^◌, ◌<◌, ◌≤◌, ℕ, List, false, true, length, map, replicate, slice_index, slice_set};
 ghost use Rattle.std.specs.Bool.{MatchBool};
-ghost use Rattle.std.specs.Arc.{arc_value};
 ghost use mathlib.Core.Option.{some};
 ghost use lib.ListN.{get_elem?};
 ghost use Rattle.dr_cells.specs.declared.token.Token.{Token as TokenValue};
-ghost use Rattle.dr_cells.specs.Tokens.{no_token};
-ghost use Rattle.dr_runs.specs.Gathering.{Gathers};
-ghost use Rattle.dr_plain_senders.specs.Calls.Ends.{SenderEnd};
+ghost use Rattle.dr_cells.specs.Tokens.{no_token, IsAll};
+ghost use Rattle.dr_runs.specs.Gathering.{Gathers, IsInView, ViewRan};
+ghost use Rattle.dr_runs.specs.Seats.{both_views};
+ghost use Rattle.dr_runs.specs.declared.view.View.{View};
+ghost use Rattle.dr_plain_senders.specs.declared.record.EndRecord.{EndRecord};
+ghost use Rattle.dr_plain_senders.specs.declared.record.Step.{Step};
+ghost use Rattle.dr_plain_senders.specs.Meaning.Words.{claim_word, claimed_in as claimed_in_word};
+ghost use Rattle.dr_plain_senders.specs.Calls.Plans.{IsPlan};
+ghost use Rattle.dr_plain_senders.specs.Calls.Ends.{SenderEnd, ReceiverEnd, HalterStand};
 ghost use Rattle.dr_plain_senders.specs.Calls.Settling.{AreAllEnds, HasRun, GivesBack, handler_counts};
-ghost use Rattle.dr_plain_senders.specs.Inside.Fits.{is_open};
-ghost use Rattle.dr_plain_senders.specs.Inside.Seats.{IsAtTable, ring_ends};
+ghost use Rattle.dr_plain_senders.specs.Inside.Fits.{PartsFit, is_open};
+ghost use Rattle.dr_plain_senders.specs.Inside.Seats.{exchange, ring_ends};
 ghost use Rattle.dr_plain_senders.specs.Inside.Gathering.{AreSendersOf, AreReceiversOf, sender_known, receiver_known};
-ghost use Rattle.dr_plain_senders.specs.Inside.Bringing.{AreTaken, AreBrought, AreHandsOf};
+ghost use Rattle.dr_plain_senders.specs.Inside.Bringing.{AreTaken, AreBrought, AreHandsOf, AreTogether};
 
 use crate::answers::claimed_in;
 use crate::dealt::{put_at, whole_row};
 use crate::gathered::Gathered;
-use crate::laws::{Halter, RingBody, RingSeat, moments, settling};
+use crate::laws::{Halter, RingSeat, Words, moments, settling};
+use crate::left::{ReceiverLeft, SenderLeft};
 use crate::owned::Owned;
 use crate::plan::{HALT_BIT, Plan};
 use crate::receiver::Receiver;
 use crate::reclaiming::reclaim;
 use crate::sender::Sender;
 use crate::settled::Settled;
-use dr_cells::{Token, Values};
+use dr_cells::{Cells, Row, Token, Values};
 use dr_runs::HandlerCounts;
-use std::alloc::Global;
 use std::marker::Brand;
 use std::snapshot::Snapshot;
-use std::sync::Arc;
 
 // Puts the cell of an open sequence in its place.
 fn bring_one<T>(
@@ -71,39 +75,84 @@ fn bring_open<T>(
     }
 }
 
-// The senders' seats come to the halter's, and the cells that they have to their places.
-fn gather_senders<T>(
-    ring: &Arc<RingBody<T>, Global>,
+/// A sender's seat comes to the halter's, and the cells that it has to their places.
+pub(crate) fn bring_sender<T>(
+    words: &Words<T>,
+    plan: &Plan<T>,
+    seat: &mut RingSeat<T>,
+    sender: SenderLeft<T>,
+    tokens: &mut Vec<Token<T>>,
+    brought: &mut Vec<bool>,
+)
+    requires table { (seat.old.table_id ≡ words.now.table_id) × (sender.ring ≡ words.now.table_id) × (0 < words.now.table_id.words) }
+    requires plan { (sender.plan ≡ plan.now) × (0 < plan.now.size) }
+    requires places { (length tokens.old.items ≡ plan.now.size) × (length brought.old.items ≡ plan.now.size) }
+    ensures seat { (seat.new.table_id ≡ seat.old.table_id) × (seat.new.me.1 ≡ seat.old.me.1) }
+    ensures view { (own : View (EndRecord T) (Step T)) × IsInView ring_ends own (sender_known sender) × (seat.new.me.0 ≡ both_views seat.old.me.0 own) }
+    ensures brought { (ss : List (SenderEnd T)) → AreBrought plan.now ss tokens.old.items brought.old.items → AreBrought plan.now (sender ∷ ss) tokens.new.items brought.new.items }
+{
+    let own = sender.tokens;
+    bring_open(plan, &sender.owned, sender.end, own, tokens, brought);
+    settling::take_in(words, seat, sender.seat);
+}
+
+/// A receiver's seat comes to the halter's, and its counts and parts to their places.
+pub(crate) fn bring_receiver<T>(
+    words: &Words<T>,
+    seat: &mut RingSeat<T>,
+    receiver: ReceiverLeft<T>,
+    place: usize,
+    counts: &mut Vec<HandlerCounts>,
+    hands: &mut Vec<Vec<Token<T>>>,
+)
+    requires table { (seat.old.table_id ≡ words.now.table_id) × (receiver.ring ≡ words.now.table_id) × (0 < words.now.table_id.words) }
+    requires place { (place < length counts.old.items) × (place < length hands.old.items) }
+    ensures seat { (seat.new.table_id ≡ seat.old.table_id) × (seat.new.me.1 ≡ seat.old.me.1) }
+    ensures view { (own : View (EndRecord T) (Step T)) × IsInView ring_ends own (receiver_known receiver) × (seat.new.me.0 ≡ both_views seat.old.me.0 own) }
+    ensures counts { counts.new.items ≡ slice_set counts.old.items place (handler_counts receiver.knows) }
+    ensures hands { (parts : List (TokenValue T)) × PartsFit receiver.plan receiver.knows parts × (map (λ hand. hand.items) hands.new.items ≡ slice_set (map (λ hand. hand.items) hands.old.items) place parts) }
+{
+    counts[place] = HandlerCounts {
+        taken: receiver.taken,
+        completed: receiver.completed,
+    };
+    put_at(hands, place, receiver.parts);
+    settling::take_in(words, seat, receiver.seat);
+}
+
+// All senders come so.
+fn gather_senders<T: Drop>(
+    words: &Words<T>,
+    plan: &Plan<T>,
     seat: &mut RingSeat<T>,
     mut senders: Vec<Sender<T>>,
     tokens: &mut Vec<Token<T>>,
     brought: &mut Vec<bool>,
 )
-    requires table { IsAtTable seat.old.table_id (arc_value ring.now).table.shared.table_id (arc_value ring.now).plan }
+    requires table { (seat.old.table_id ≡ words.now.table_id) × (0 < words.now.table_id.words) }
     requires senders { AreSendersOf seat.old.table_id senders.items }
-    requires plans { (p : ℕ) (e : SenderEnd T) → get_elem? senders.items p ≡ some e → e.plan ≡ (arc_value ring.now).plan }
-    requires places { (length tokens.old.items ≡ (arc_value ring.now).plan.size) × (brought.old.items ≡ replicate (arc_value ring.now).plan.size false) }
+    requires plans { (p : ℕ) (e : SenderEnd T) → get_elem? senders.items p ≡ some e → e.plan ≡ plan.now }
+    requires size { 0 < plan.now.size }
+    requires places { (length tokens.old.items ≡ plan.now.size) × (brought.old.items ≡ replicate plan.now.size false) }
     ensures seat { (seat.new.table_id ≡ seat.old.table_id) × (seat.new.me.1 ≡ seat.old.me.1) }
     ensures view { Gathers ring_ends seat.old.me.0 (map sender_known senders.items) seat.new.me.0 }
-    ensures brought { AreBrought (arc_value ring.now).plan senders.items tokens.new.items brought.new.items }
+    ensures brought { AreBrought plan.now senders.items tokens.new.items brought.new.items }
 {
     while let Some(sender) = senders.pop() {
-        let own = sender.tokens;
-        let station = sender.station;
-        bring_open(&ring.plan, &sender.owned, sender.end, own, tokens, brought);
-        settling::take_in(&ring.table.shared, seat, station.seat);
+        let (_, _, left) = sender.into_left();
+        bring_sender(words, plan, seat, left, tokens, brought);
     }
 }
 
-// A receiver's seat comes to the halter's, and its counts and parts to their places.
-fn gather_receivers<T>(
-    ring: &Arc<RingBody<T>, Global>,
+// And so do all receivers.
+fn gather_receivers<T: Drop>(
+    words: &Words<T>,
     seat: &mut RingSeat<T>,
     mut receivers: Vec<Receiver<T>>,
     counts: &mut Vec<HandlerCounts>,
     hands: &mut Vec<Vec<Token<T>>>,
 )
-    requires table { IsAtTable seat.old.table_id (arc_value ring.now).table.shared.table_id (arc_value ring.now).plan }
+    requires table { (seat.old.table_id ≡ words.now.table_id) × (0 < words.now.table_id.words) }
     requires receivers { AreReceiversOf seat.old.table_id receivers.items }
     requires places { length counts.old.items ≡ length receivers.items }
     requires rooms { length hands.old.items ≡ length receivers.items }
@@ -114,20 +163,41 @@ fn gather_receivers<T>(
 {
     while let Some(receiver) = receivers.pop() {
         let place = receivers.len();
-        counts[place] = HandlerCounts {
-            taken: receiver.taken,
-            completed: receiver.completed,
-        };
-        put_at(hands, place, receiver.parts);
-        let station = receiver.station;
-        settling::take_in(&ring.table.shared, seat, station.seat);
+        let (_, _, left) = receiver.into_left();
+        bring_receiver(words, seat, left, place, counts, hands);
     }
+}
+
+/// The seat that stands for all ends takes what lies in the slots, and ends the ring: each cell is
+/// whole again. It gives the claim word too, at which it looks once.
+pub(crate) fn reclaim_all<T>(
+    words: &Words<T>,
+    plan: &Plan<T>,
+    mut seat: RingSeat<T>,
+    counts: &Vec<HandlerCounts>,
+    hands: Vec<Vec<Token<T>>>,
+    tokens: Vec<Token<T>>,
+    brought: &Vec<bool>,
+    cells: Cells<T>,
+) -> (u64, Row<T>)
+    requires table { (seat.table_id ≡ words.now.table_id) × (0 < words.now.table_id.words) }
+    requires made { (words.now.key ≡ plan.now) × IsPlan plan.now }
+    requires cells { plan.now.strip ≡ cells.ptr }
+    requires together { (ss : List (SenderEnd T)) × (rs : List (ReceiverEnd T)) × (t : HalterStand T) × AreTogether plan.now seat.me.0 ss rs t counts.now.items (map (λ hand. hand.items) hands.items) tokens.items brought.now.items }
+    ensures ran { (ran : ViewRan (exchange plan.now) seat.me.0) × (slice_index ran.world.words claim_word ≡ result.0) }
+    ensures all { IsAll cells.ptr plan.now.size result.1 }
+    ensures events { (ss : List (SenderEnd T)) (rs : List (ReceiverEnd T)) (t : HalterStand T) → AreTogether plan.now seat.me.0 ss rs t counts.now.items (map (λ hand. hand.items) hands.items) tokens.items brought.now.items → GivesBack plan.now (claimed_in_word result.0) ss result.1.items }
+{
+    let found = settling::take_all::<T, Brand>(words, &mut seat);
+    let claimed = claimed_in(found);
+    let tokens = reclaim(words, plan, seat, claimed, counts, hands, brought, tokens);
+    (found, whole_row(cells, tokens))
 }
 
 /// Brings all ends of a ring together, and gives its events back, one for each cell, whatever the ends
 /// had in hand: where the cell's last sequence is published what was published, and where it is
-/// claimed alone what its sender has there. They may be used, and are dropped with the answer. It takes no memory, looks once at the claim word, and
-/// never fails.
+/// claimed alone what its sender has there. They may be used, and are dropped with the answer. It
+/// takes no memory, looks once at the claim word, and never fails.
 ///
 /// There is one run of all ends that came to what they know, in which each end stored exactly what
 /// it did, and its transcript is lawful. Each claimed sequence is in its sender's record. Each
@@ -135,7 +205,7 @@ fn gather_receivers<T>(
 /// sender of its sequence, and all that is claimed where it was told that the ring drained. No
 /// handler took more than its upstreams completed, and no more is claimed than a round beyond what
 /// each final handler completed.
-pub fn finish<T>(
+pub fn finish<T: Drop>(
     senders: Vec<Sender<T>>,
     receivers: Vec<Receiver<T>>,
     halter: Halter<T>,
@@ -151,27 +221,32 @@ pub fn finish<T>(
         Snapshot::of(&receivers),
         Snapshot::of(&halter),
     );
-    let ring = halter.ring;
-    let mut seat = halter.seat;
-    let strip = halter.strip;
+    let (ring, halts) = halter.into_left();
+    let words = &ring.table.shared;
+    let plan = &ring.plan;
+    let mut seat = halts.seat;
+    let strip = halts.strip;
     let Gathered {
         mut counts,
         mut hands,
         mut tokens,
         mut brought,
-    } = halter.gathered;
-    gather_senders(&ring, &mut seat, senders, &mut tokens, &mut brought);
-    gather_receivers(&ring, &mut seat, receivers, &mut counts, &mut hands);
-    let words = &ring.table.shared;
-    let found = settling::take_all::<T, Brand>(words, &mut seat);
-    moments::<T>();
-    let claimed = claimed_in(found);
-    let tokens = reclaim(
-        words, &ring.plan, seat, claimed, &counts, hands, &brought, tokens,
+    } = halts.gathered;
+    gather_senders(words, plan, &mut seat, senders, &mut tokens, &mut brought);
+    gather_receivers(words, &mut seat, receivers, &mut counts, &mut hands);
+    let (found, row) = reclaim_all(
+        words,
+        plan,
+        seat,
+        &counts,
+        hands,
+        tokens,
+        &brought,
+        strip.cells,
     );
-    let row = whole_row(strip.cells, tokens);
+    moments::<T>();
     let settled = Settled {
-        claimed,
+        claimed: claimed_in(found),
         is_halted: found >= HALT_BIT,
         handlers: counts,
         senders: ends.0,

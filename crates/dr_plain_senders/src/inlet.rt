@@ -18,7 +18,7 @@ use dr_meaning::{Claimed, Inlet, Refusal, Trouble, Wrote};
 impl<T: Copy + Drop> Inlet<T> for Sender<T> {
     ghost use Rattle.dr_plain_senders.specs.Calls.Ends.{EndPlace};
 
-    ghost Kept = { EndPlace };
+    ghost Kept = { EndPlace T };
 
     ghost kept = { sender_place };
 

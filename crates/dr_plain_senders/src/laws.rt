@@ -11,16 +11,15 @@ mod receiver;
 mod sender;
 pub(crate) mod settling;
 
-ghost use Rattle.std.specs.Prelude.{List, ℕ, ◌≡◌, ◌↔◌, ◌<◌, ◌≤◌, ◌++◌, true, length, slice_index};
-ghost use Rattle.dr_seq.specs.Rounds.{entry_of};
+ghost use Rattle.std.specs.Prelude.{List, ℕ, ◌≡◌, ◌<◌, ◌++◌, true, length, slice_index};
 ghost use Rattle.dr_meaning.specs.Meaning.Transcript.{Transcript, LeadsTo};
 ghost use Rattle.dr_meaning.specs.Meaning.Laws.{Laws};
 ghost use Rattle.dr_meaning.specs.Meaning.Progress.{NobodyIsStuck};
 ghost use Rattle.dr_plain_senders.specs.Meaning.Shape.{Shape, IsShape, ring_setup};
-ghost use Rattle.dr_plain_senders.specs.Meaning.Words.{claim_word, mark_word, is_halted};
-ghost use Rattle.dr_plain_senders.specs.Meaning.Rule.{World, KeepsRule};
+ghost use Rattle.dr_plain_senders.specs.Meaning.Words.{claim_word, is_halted};
+ghost use Rattle.dr_plain_senders.specs.Meaning.Rule.{World, KeepsRule, is_out_now};
 ghost use Rattle.dr_plain_senders.specs.declared.record.Step.{Step};
-ghost use Rattle.dr_plain_senders.specs.Meaning.Moments.{Runs, new_world, picture_of, IsShut, RefusesByMark, NothingFalls, WereTold};
+ghost use Rattle.dr_plain_senders.specs.Meaning.Moments.{Runs, new_world, picture_of, IsShut, RefusesByWords, ToldByLooks, NothingFalls, WereTold};
 ghost use Rattle.dr_plain_senders.specs.Calls.Replies.{AreOpen, picture_with, open_writes, RepliesAsAnswered};
 ghost use Rattle.dr_plain_senders.specs.Calls.Handing.{HandsWhatWasThere};
 
@@ -55,17 +54,10 @@ pub type RingTable<T> = Table<Token<T>, View<T>, Plan<T>, RingRule, Global>;
 /// What an end steps with.
 pub type RingSeat<T> = Seat<Token<T>, View<T>>;
 
-/// What all ends of a ring share: its table, and what it was made for.
-#[derive(Drop)]
-pub(crate) struct RingBody<T> {
-    pub(crate) table: RingTable<T>,
-    pub(crate) plan: Plan<T>,
-}
-
 /// What a step names, for its proof alone: what the ring is made for, and a sequence or how many
 /// events there is room for.
-pub trait Names {
-    ghost plan: { Shape };
+pub trait Names<T> {
+    ghost plan: { Shape T };
 
     ghost number: { ℕ };
 
@@ -73,7 +65,7 @@ pub trait Names {
     ghost use Rattle.dr_plain_senders.specs.Meaning.Shape.{Shape};
 }
 
-impl Names for Brand {
+impl<T> Names<T> for Brand {
     ghost use Rattle.dr_plain_senders.specs.Inside.Seats.{no_shape};
 
     ghost plan = { no_shape };
@@ -98,9 +90,10 @@ impl<T> Lends<T> for Brand {
 /// Whatever steps fall in whatever order: between any two of them the rule holds, the entries of
 /// their events lead the machine to the ring's picture, in which nobody is stuck, and the
 /// transcript has the five laws. Whatever senders wrote besides and did not publish, those writes
-/// lead the machine on to the picture with them. A sequence is published exactly where the mark in
-/// its cell is of its round or a later one, so one look at the mark tells it, and with it why the
-/// machine refuses a write of a sequence that is not the sender's own, or is published. A claim, a
+/// lead the machine on to the picture with them. The claim word and the mark of a sequence tell
+/// exactly whether it is published, and so why the machine refuses a write of a sequence that is
+/// not the sender's own, or is published. Looks at these, one after the other, with one more at the
+/// claim word, tell it as it was at one of the looks. A claim, a
 /// publication of a whole stretch and a poll that takes nothing by what the deciding look finds, a
 /// write of one's own sequence and a completion are answered as the machine then replies. A poll
 /// hands over at least what the picture had at any moment since its receiver last stepped. Whoever
@@ -108,18 +101,19 @@ impl<T> Lends<T> for Brand {
 /// falls, and no claim is taken back. Once a ring is halted, nothing more is claimed. It does
 /// nothing when it runs: the contract is the theorem.
 pub fn moments<T>()
-    ensures rule { (k : Shape) (steps : List (Step T)) (entries : Transcript T) (w : World T) → IsShape k → Runs k steps entries (new_world k) w → KeepsRule k w }
-    ensures leads { (k : Shape) (steps : List (Step T)) (entries : Transcript T) (w : World T) → IsShape k → Runs k steps entries (new_world k) w → LeadsTo (ring_setup k) entries (picture_of k w) }
-    ensures writes { (k : Shape) (steps : List (Step T)) (entries : Transcript T) (w : World T) → IsShape k → Runs k steps entries (new_world k) w → (wrote : List (ℕ × T)) → AreOpen w wrote → LeadsTo (ring_setup k) (entries ++ open_writes w wrote) (picture_with k w wrote) }
-    ensures laws { (k : Shape) (steps : List (Step T)) (entries : Transcript T) (w : World T) → IsShape k → Runs k steps entries (new_world k) w → Laws (ring_setup k) entries }
-    ensures progress { (k : Shape) (steps : List (Step T)) (entries : Transcript T) (w : World T) → IsShape k → Runs k steps entries (new_world k) w → NobodyIsStuck (ring_setup k) (picture_of k w) }
-    ensures marks { (k : Shape) (steps : List (Step T)) (entries : Transcript T) (w : World T) → IsShape k → Runs k steps entries (new_world k) w → (s : ℕ) → ((picture_of k w).published s ≡ true) ↔ (entry_of k.size s ≤ slice_index w.words (mark_word k s)) }
-    ensures refused { (k : Shape) (steps : List (Step T)) (entries : Transcript T) (w : World T) → IsShape k → Runs k steps entries (new_world k) w → (p s : ℕ) (event : T) → p < k.senders → IsShut w p s → RefusesByMark k w p s event }
-    ensures replies { (k : Shape) (steps : List (Step T)) (entries : Transcript T) (w : World T) → IsShape k → Runs k steps entries (new_world k) w → RepliesAsAnswered k w }
-    ensures hands { (k : Shape) (steps more : List (Step T)) (entries rest : Transcript T) (w u : World T) → IsShape k → Runs k steps entries (new_world k) w → Runs k more rest w u → HandsWhatWasThere k w u }
-    ensures rises { (k : Shape) (steps more : List (Step T)) (entries rest : Transcript T) (w u : World T) → IsShape k → Runs k steps entries (new_world k) w → Runs k more rest w u → NothingFalls k w u }
-    ensures told { (k : Shape) (steps : List (Step T)) (entries : Transcript T) (w : World T) → IsShape k → Runs k steps entries (new_world k) w → WereTold w entries }
-    ensures halted { (k : Shape) (steps more : List (Step T)) (entries rest : Transcript T) (w u : World T) → IsShape k → Runs k steps entries (new_world k) w → Runs k more rest w u → is_halted (slice_index w.words claim_word) ≡ true → length u.stages ≡ length w.stages }
+    ensures rule { (k : Shape T) (steps : List (Step T)) (entries : Transcript T) (w : World T) → IsShape k → Runs k steps entries (new_world k) w → KeepsRule k w }
+    ensures leads { (k : Shape T) (steps : List (Step T)) (entries : Transcript T) (w : World T) → IsShape k → Runs k steps entries (new_world k) w → LeadsTo (ring_setup k) entries (picture_of k w) }
+    ensures writes { (k : Shape T) (steps : List (Step T)) (entries : Transcript T) (w : World T) → IsShape k → Runs k steps entries (new_world k) w → (wrote : List (ℕ × T)) → AreOpen w wrote → LeadsTo (ring_setup k) (entries ++ open_writes w wrote) (picture_with k w wrote) }
+    ensures laws { (k : Shape T) (steps : List (Step T)) (entries : Transcript T) (w : World T) → IsShape k → Runs k steps entries (new_world k) w → Laws (ring_setup k) entries }
+    ensures progress { (k : Shape T) (steps : List (Step T)) (entries : Transcript T) (w : World T) → IsShape k → Runs k steps entries (new_world k) w → NobodyIsStuck (ring_setup k) (picture_of k w) }
+    ensures marks { (k : Shape T) (steps : List (Step T)) (entries : Transcript T) (w : World T) → IsShape k → Runs k steps entries (new_world k) w → (s : ℕ) → (picture_of k w).published s ≡ is_out_now k w s }
+    ensures refused { (k : Shape T) (steps : List (Step T)) (entries : Transcript T) (w : World T) → IsShape k → Runs k steps entries (new_world k) w → (p s : ℕ) (event : T) → p < k.senders → IsShut w p s → RefusesByWords k w p s event }
+    ensures sees { (k : Shape T) (steps more later : List (Step T)) (entries rest last : Transcript T) (w u v : World T) → IsShape k → Runs k steps entries (new_world k) w → Runs k more rest w u → Runs k later last u v → ToldByLooks k w u v }
+    ensures replies { (k : Shape T) (steps : List (Step T)) (entries : Transcript T) (w : World T) → IsShape k → Runs k steps entries (new_world k) w → RepliesAsAnswered k w }
+    ensures hands { (k : Shape T) (steps more : List (Step T)) (entries rest : Transcript T) (w u : World T) → IsShape k → Runs k steps entries (new_world k) w → Runs k more rest w u → HandsWhatWasThere k w u }
+    ensures rises { (k : Shape T) (steps more : List (Step T)) (entries rest : Transcript T) (w u : World T) → IsShape k → Runs k steps entries (new_world k) w → Runs k more rest w u → NothingFalls k w u }
+    ensures told { (k : Shape T) (steps : List (Step T)) (entries : Transcript T) (w : World T) → IsShape k → Runs k steps entries (new_world k) w → WereTold w entries }
+    ensures halted { (k : Shape T) (steps more : List (Step T)) (entries rest : Transcript T) (w u : World T) → IsShape k → Runs k steps entries (new_world k) w → Runs k more rest w u → is_halted (slice_index w.words claim_word) ≡ true → length u.stages ≡ length w.stages }
 {
     every_transcript_is_lawful::<T>();
     nobody_is_stuck::<T>();

@@ -1,6 +1,6 @@
 //! A sender takes what lies in the slots of a sequence, and so has its cell whole, and lends it.
 
-ghost use Rattle.std.specs.Prelude.{◌≡◌, ◌+◌, ◌-◌, ◌*◌, ◌<◌, ◌≤◌, ◌∷◌, ◌++◌, [], List, Some, length, take, drop};
+ghost use Rattle.std.specs.Prelude.{◌≡◌, ◌+◌, ◌-◌, ◌*◌, ◌^◌, ◌<◌, ◌≤◌, ◌∷◌, ◌++◌, [], List, Some, length, take, drop};
 ghost use Rattle.atomic_table.specs.Table.{rest, turned};
 ghost use Rattle.dr_cells.specs.declared.token.Token.{Token as TokenValue};
 ghost use Rattle.dr_cells.specs.Hold.{held};
@@ -9,8 +9,9 @@ ghost use Rattle.dr_plain_senders.specs.Meaning.Words.{cell_of, lanes_of, slot_o
 ghost use Rattle.dr_plain_senders.specs.Meaning.Lying.{Laid, lent, kept_of};
 ghost use Rattle.dr_plain_senders.specs.declared.record.Lent.{Lent};
 ghost use Rattle.dr_plain_senders.specs.Inside.Hands.{with_hand};
-ghost use Rattle.dr_plain_senders.specs.Inside.Rows.{row, blank_row, parts_row, blank_parts, blank_rows, IsWholeOf, AreCollected};
-ghost use Rattle.dr_plain_senders.specs.Inside.Seats.{Hand, IsOfRound, LayIn, taken_by_claim};
+ghost use Rattle.dr_plain_senders.specs.Inside.Rows.{row, blank_row, parts_row, blank_parts, blank_rows, IsWholeOf, AreCollected, first_in, HaveThoseOf};
+ghost use Rattle.dr_plain_senders.specs.Inside.Publishing.{cleared, LendsCells, AreWhole};
+ghost use Rattle.dr_plain_senders.specs.Inside.Seats.{Hand, IsOfRound, LayIn, taken_by_claim, given_by_publication};
 
 use crate::dealt::put_at;
 use crate::laws::SenderStation;
@@ -77,6 +78,7 @@ impl<T> SenderStation<T> {
         requires { (l : Lent T) × (others : Hand T) × (kept.old ≡ kept_of self.old.plan sequence (lent l)) × (self.old.hand ≡ parts_row self.old.plan sequence (lent l) ++ others) }
         ensures hand { self.new ≡ with_hand self.old (drop (handlers_of self.old.plan) self.old.hand ++ blank_parts self.old.plan sequence) }
         ensures whole { IsWholeOf self.old.plan sequence kept.new }
+        ensures event { held kept.new.hold ≡ held kept.old.hold }
     {
         for handler in 0..self.handlers() {
             let slot = self.slot(handler + 1, sequence);
@@ -92,6 +94,7 @@ impl<T> SenderStation<T> {
         requires { (a : Laid T) × (others : Hand T) × IsOfRound self.old.plan sequence a × (self.old.hand ≡ row self.old.plan sequence a ++ others) }
         ensures hand { self.new ≡ with_hand self.old (drop (lanes_of self.old.plan) self.old.hand ++ blank_row self.old.plan sequence) }
         ensures whole { IsWholeOf self.old.plan sequence result }
+        ensures event { held result.hold ≡ first_in self.old.hand }
     {
         let slot = self.slot(0, sequence);
         let mut kept = self.exchange(slot, Token::blank());
@@ -119,6 +122,7 @@ impl<T> SenderStation<T> {
         requires hand { (laid : List (Laid T)) × (others : Hand T) × LayIn self.old.plan first (upto - first) laid × (self.old.hand ≡ taken_by_claim self.old.plan first laid ++ others) }
         ensures hand { self.new ≡ with_hand self.old (drop (lanes_of self.old.plan * (upto - first)) self.old.hand ++ blank_rows self.old.plan first (upto - first)) }
         ensures collected { AreCollected self.old.plan first upto tokens.old.items tokens.new.items }
+        ensures events { HaveThoseOf self.old.plan self.old.hand first upto tokens.new.items }
     {
         for sequence in first..upto {
             let place = self.place(sequence);
@@ -153,5 +157,44 @@ impl<T> SenderStation<T> {
         self.turn_all(others);
         let slot = self.slot(0, sequence);
         self.put(slot, kept);
+    }
+
+    // Lends a whole cell, and the slots of its sequence go behind all others.
+    fn lend_behind(&mut self, sequence: u64, kept: Token<T>, others: u64, slots: u64)
+        requires whole { IsWholeOf self.old.plan sequence kept }
+        requires hand { (behind : Hand T) × (self.old.hand ≡ blank_row self.old.plan sequence ++ behind) × (length behind ≡ others) }
+        requires slots { slots ≡ lanes_of self.old.plan }
+        ensures { (l : Lent T) × (held kept.hold ≡ Some l.event) × (self.new ≡ with_hand self.old (drop (lanes_of self.old.plan) self.old.hand ++ row self.old.plan sequence (lent l))) }
+    {
+        self.lend_row(sequence, kept, others);
+        self.turn_all(slots);
+    }
+
+    /// Lends the cells of some sequences, each of which is whole in its place. What is kept of each
+    /// and a part for every handler go into the slots of the sequence, which are first in hand and
+    /// stay there, with so many others behind them.
+    pub(crate) fn lend_rows(
+        &mut self,
+        first: u64,
+        upto: u64,
+        tokens: &mut Vec<Token<T>>,
+        others: u64,
+    )
+        requires order { (first < upto) × (upto ≤ first + self.old.plan.size) }
+        requires count { length tokens.old.items ≡ self.old.plan.size }
+        requires whole { AreWhole self.old.plan tokens.old.items first (upto - first) }
+        requires small { (others < 2 ^ 32) × (upto ≤ first + 64) }
+        requires hand { (behind : Hand T) × (self.old.hand ≡ blank_rows self.old.plan first (upto - first) ++ behind) × (length behind ≡ others) }
+        ensures lent { (lents : List (Lent T)) × (length lents ≡ upto - first) × LendsCells self.old.plan tokens.old.items first lents × (self.new ≡ with_hand self.old (given_by_publication self.old.plan first lents ++ drop (lanes_of self.old.plan * (upto - first)) self.old.hand)) }
+        ensures tokens { tokens.new.items ≡ cleared self.old.plan tokens.old.items first (upto - first) }
+    {
+        let slots = self.handlers() as u64 + 1;
+        let behind = others + slots * (upto - first - 1);
+        for sequence in first..upto {
+            let place = self.place(sequence);
+            let whole = put_at(tokens, place, Token::blank());
+            self.lend_behind(sequence, whole, behind, slots);
+        }
+        self.turn_all(others);
     }
 }

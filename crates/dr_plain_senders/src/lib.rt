@@ -7,6 +7,7 @@
 #![tactic(auto)]
 
 mod answers;
+mod body;
 mod claiming;
 mod dealt;
 mod events;
@@ -16,12 +17,15 @@ mod gathered;
 mod giving_up;
 mod inlet;
 pub mod laws;
+mod left;
 mod lending;
 mod opening;
 mod outlets;
+mod over;
 mod owned;
 mod plan;
 mod polling;
+mod progress;
 mod publishing;
 mod receiver;
 mod reclaiming;

@@ -18,9 +18,10 @@ ghost use Rattle.dr_plain_senders.specs.Inside.Rooms.{unmarked, AreBlankRows, Ar
 ghost use Rattle.dr_plain_senders.specs.Calls.Making.{sender_at, receiver_at, AreFreshEnds, fault_of};
 ghost use Rattle.dr_plain_senders.specs.Calls.Settling.{AreAllEnds};
 
+use crate::body::RingBody;
 use crate::dealt::{blanks, deal, take_last};
 use crate::giving_up::{give_up, take_back};
-use crate::laws::{Halter, ReceiverStation, RingBody, RingSeat, RingTable, SenderStation};
+use crate::laws::{Halter, ReceiverStation, RingSeat, RingTable, SenderStation};
 use crate::owned::Owned;
 use crate::plan::Plan;
 use crate::receiver::Receiver;
@@ -32,7 +33,8 @@ use dr_cells::{Cells, Strip, Token};
 use dr_graph::Graph;
 use dr_meaning::{Mode, OpenFault, is_valid_limit};
 use dr_seq::Size;
-use std::alloc::{AllocError, AllocFailed, Global};
+use std::alloc::{AllocError, Global};
+use std::snapshot::Snapshot;
 use std::sync::Arc;
 
 // The first record of a view stays with its seat, and the others go to another.
@@ -48,7 +50,7 @@ impl<T> Split<View<T>> for Cut {
 
 // The senders, each with its seat, its marks and its row of tokens, and the seat of the receivers.
 // `rest` stands for them all.
-fn senders<T>(
+fn senders<T: Drop>(
     ring: &Arc<RingBody<T>, Global>,
     mut rest: RingSeat<T>,
     mut marks: Vec<Owned>,
@@ -89,7 +91,7 @@ fn senders<T>(
 }
 
 // The receivers, each with its seat and its row of parts. `rest` stands for them all.
-fn receivers<T>(
+fn receivers<T: Drop>(
     ring: &Arc<RingBody<T>, Global>,
     mut rest: RingSeat<T>,
     mut rows: Vec<Vec<Token<T>>>,
@@ -131,7 +133,7 @@ struct Lists<T> {
     receivers: Vec<Receiver<T>>,
 }
 
-fn lists_for<T>(alloc: Global, plan: &Plan<T>) -> Result<Lists<T>, AllocError>
+fn lists_for<T: Drop>(alloc: Global, plan: &Plan<T>) -> Result<Lists<T>, AllocError>
     ensures { IfOk result (λ lists. (lists.senders.items ≡ []) × (lists.receivers.items ≡ [])) }
 {
     let senders = Vec::with_capacity(alloc, plan.senders())?;
@@ -141,7 +143,7 @@ fn lists_for<T>(alloc: Global, plan: &Plan<T>) -> Result<Lists<T>, AllocError>
 
 // The ends of a ring over a table. It asks for no memory: the lists have room for them, and a share
 // of the body is only counted.
-fn assemble<T>(
+fn assemble<T: Drop>(
     ring: Arc<RingBody<T>, Global>,
     mut seat: RingSeat<T>,
     strip: Strip<T>,
@@ -192,11 +194,9 @@ fn ends<T: Drop>(
             return Err(AllocError);
         }
     };
-    match Arc::new(alloc, RingBody { table, plan }) {
+    match RingBody::of(alloc, table, plan) {
         Ok(ring) => assemble(ring, seat, strip, rooms, lists),
-        Err(failed) => {
-            let AllocFailed { value } = failed;
-            let table = value.table;
+        Err(table) => {
             let places = rooms.gathered;
             let tokens = take_back(table, seat, places.tokens);
             give_up(strip, tokens);
@@ -206,23 +206,24 @@ fn ends<T: Drop>(
 }
 
 // What a ring is made for, tokens for its slots, all of no cell, and all else that its ends need.
-fn prepare<T>(
+fn prepare<T: Drop>(
     alloc: Global,
     graph: &Graph,
     size: Size,
     limit: u64,
     senders: usize,
     cells: Cells<T>,
+    begun: Snapshot<Vec<T>>,
 ) -> Result<(Plan<T>, Vec<Token<T>>, Rooms<T>, Lists<T>), AllocError>
     requires limit { (0 < limit) × (limit ≤ 2 ^ 62) }
     requires senders { (0 < senders) × (senders ≤ 16) }
-    ensures made { IfOk result (λ p. p.0 ≡ record { upstreams = graph.now.upstreams; size = size; limit = limit; senders = senders; strip = cells.ptr }) }
+    ensures made { IfOk result (λ p. p.0 ≡ record { upstreams = graph.now.upstreams; size = size; limit = limit; senders = senders; strip = cells.ptr; begun = begun.value.items }) }
     ensures plan { IfOk result (λ p. IsPlan p.0) }
     ensures slots { IfOk result (λ p. p.1.items ≡ replicate (slots_of p.0) no_token) }
     ensures rooms { IfOk result (λ p. AreRooms p.0 p.2) }
     ensures none { IfOk result (λ p. (p.3.senders.items ≡ []) × (p.3.receivers.items ≡ [])) }
 {
-    let plan = Plan::of(alloc, graph, size, limit, senders, cells)?;
+    let plan = Plan::of(alloc, graph, size, limit, senders, cells, begun)?;
     let slots = blanks(alloc, plan.slots())?;
     let rooms = Rooms::of(alloc, &plan)?;
     let lists = lists_for(alloc, &plan)?;
@@ -247,7 +248,7 @@ pub fn senders_ring<T: Drop>(
     events: Vec<T>,
 ) -> Result<(Vec<Sender<T>>, Vec<Receiver<T>>, Halter<T>), OpenFault>
     requires events { length events.items ≡ size }
-    ensures made { IfOk result (λ made. (strip : Ptr) × AreFreshEnds (record { upstreams = graph.now.upstreams; size = size; limit = limit; senders = senders; strip = strip }) made.0.items made.1.items made.2) }
+    ensures made { IfOk result (λ made. (strip : Ptr) × AreFreshEnds (record { upstreams = graph.now.upstreams; size = size; limit = limit; senders = senders; strip = strip; begun = events.items }) made.0.items made.1.items made.2) }
     ensures all { IfOk result (λ made. AreAllEnds made.0.items made.1.items made.2) }
     ensures fits { IsOk result → (has_bad_producers (Multi senders) ≡ false) × (is_bad_limit limit ≡ false) }
     ensures refused { IfErr result (λ fault. fault ≡ fault_of senders limit) }
@@ -258,8 +259,9 @@ pub fn senders_ring<T: Drop>(
     if !is_valid_limit(limit) {
         return Err(OpenFault::BadLimit);
     }
+    let begun = Snapshot::of(&events);
     let (strip, row) = Strip::new(alloc, events)?;
-    match prepare(alloc, graph, size, limit, senders, strip.cells) {
+    match prepare(alloc, graph, size, limit, senders, strip.cells, begun) {
         Ok((plan, mut tokens, rooms, lists)) => {
             deal(row, strip.cells, strip.len, &mut tokens);
             Ok(ends(alloc, plan, tokens, strip, rooms, lists)?)

@@ -28,7 +28,7 @@ impl<T: Copy> Receiver<T> {
 impl<T: Copy> Outlet<T> for Receiver<T> {
     ghost use Rattle.dr_plain_senders.specs.Calls.Ends.{EndPlace};
 
-    ghost Kept = { EndPlace };
+    ghost Kept = { EndPlace T };
 
     ghost kept = { receiver_place };
 

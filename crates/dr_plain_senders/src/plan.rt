@@ -1,10 +1,10 @@
 //! What a ring is made for, and the places of its words and slots.
 
-ghost use Rattle.std.specs.Prelude.{◌≡◌, ◌^◌, ◌<◌, ◌≤◌, map, IfOk};
-ghost use Rattle.dr_seq.specs.Rounds.{entry_of};
+ghost use Rattle.std.specs.Prelude.{◌≡◌, ◌+◌, ◌-◌, ◌^◌, ◌<◌, ◌≤◌, map, if◌then◌else◌, IfOk};
+ghost use Rattle.std.specs.Int.{bit_not, w64};
 ghost use Rattle.dr_graph.specs.Meaning.Graph.{upstreams_of, finals as finals_of};
 ghost use Rattle.dr_plain_senders.specs.Meaning.Shape.{handlers_of};
-ghost use Rattle.dr_plain_senders.specs.Meaning.Words.{count_word as count_word_of, mark_word as mark_word_of, words_of, lanes_of, slot_of, slots_of};
+ghost use Rattle.dr_plain_senders.specs.Meaning.Words.{count_word as count_word_of, mark_word as mark_word_of, mark_bit as mark_bit_of, in_word as in_word_of, marked_from, words_of, lanes_of, slot_of, slots_of};
 ghost use Rattle.dr_plain_senders.specs.Calls.Plans.{IsPlan};
 
 use dr_cells::Cells;
@@ -13,6 +13,7 @@ use dr_runs::copy_upstreams;
 use dr_seq::Size;
 use std::alloc::{AllocError, Global};
 use std::marker::Model;
+use std::snapshot::Snapshot;
 
 /// The place of the word that counts the claimed sequences, and has the halt bit.
 pub const CLAIM_WORD: usize = 0;
@@ -27,9 +28,16 @@ pub fn count_word(handler: usize) -> usize
     16 + 16 * handler
 }
 
+// A word as it is, or with each bit flipped.
+fn set_where(as_is: bool, word: u64) -> u64
+    ensures { result ≡ (if as_is then word else bit_not w64 word) }
+{
+    if as_is { word } else { !word }
+}
+
 /// The graph of a ring's handlers, by each handler's direct upstreams, with its final handlers, the
-/// size, the limit of sequences, how many senders there are, the numbers of words and of slots, and
-/// the cells of its events.
+/// size, the limit of sequences, how many senders there are, the numbers of words and of slots, the
+/// cells of its events, and, in contracts alone, the events with which it begins.
 #[derive(Drop)]
 pub struct Plan<T> {
     size: Size,
@@ -40,6 +48,7 @@ pub struct Plan<T> {
     upstreams: Vec<Vec<usize>>,
     finals: Vec<usize>,
     cells: Cells<T>,
+    begun: Snapshot<Vec<T>>,
 }
 
 impl<T> Model for Plan<T> {
@@ -47,11 +56,11 @@ impl<T> Model for Plan<T> {
     ghost use Rattle.dr_plain_senders.specs.Meaning.Shape.{Shape};
     ghost use Rattle.dr_plain_senders.specs.Inside.Plans.{PlanFits};
 
-    ghost Value = { Shape };
+    ghost Value = { Shape T };
 
-    ghost view = { λ p. record { upstreams = map (λ v. v.items) p.upstreams.items; size = p.size; limit = p.limit; senders = p.senders; strip = p.cells.ptr } };
+    ghost view = { λ p. record { upstreams = map (λ v. v.items) p.upstreams.items; size = p.size; limit = p.limit; senders = p.senders; strip = p.cells.ptr; begun = p.begun.value.items } };
 
-    ghost invariant = { λ p. PlanFits (record { upstreams = map (λ v. v.items) p.upstreams.items; size = p.size; limit = p.limit; senders = p.senders; strip = p.cells.ptr }) p.finals.items p.words p.slots };
+    ghost invariant = { λ p. PlanFits (record { upstreams = map (λ v. v.items) p.upstreams.items; size = p.size; limit = p.limit; senders = p.senders; strip = p.cells.ptr; begun = p.begun.value.items }) p.finals.items p.words p.slots };
 }
 
 impl<T> Plan<T> {
@@ -63,16 +72,17 @@ impl<T> Plan<T> {
         limit: u64,
         senders: usize,
         cells: Cells<T>,
+        begun: Snapshot<Vec<T>>,
     ) -> Result<Plan<T>, AllocError>
         requires limit { (0 < limit) × (limit ≤ 2 ^ 62) }
         requires senders { (0 < senders) × (senders ≤ 16) }
-        ensures made { IfOk result (λ plan. plan ≡ record { upstreams = graph.now.upstreams; size = size; limit = limit; senders = senders; strip = cells.ptr }) }
+        ensures made { IfOk result (λ plan. plan ≡ record { upstreams = graph.now.upstreams; size = size; limit = limit; senders = senders; strip = cells.ptr; begun = begun.value.items }) }
         ensures plan { IfOk result (λ plan. IsPlan plan) }
     {
         let upstreams = copy_upstreams(alloc, graph)?;
         let finals = Vec::from_slice(alloc, graph.finals())?;
         let count = size.get() as usize;
-        let words = 16 + 16 * graph.len() + count;
+        let words = 16 + 16 * graph.len() + (count + 63) / 64;
         let slots = (1 + graph.len()) * count;
         Ok(Plan {
             size,
@@ -83,6 +93,7 @@ impl<T> Plan<T> {
             upstreams,
             finals,
             cells,
+            begun,
         })
     }
 
@@ -139,20 +150,52 @@ impl<T> Plan<T> {
         self.cells
     }
 
-    /// The place of the mark in a sequence's cell.
+    /// The place of the word that has the mark in a sequence's cell.
     pub fn mark_word(&self, sequence: u64) -> usize
         ensures place { result ≡ mark_word_of self.now sequence }
         ensures inside { result < words_of self.now }
     {
-        16 + 16 * self.upstreams.len() + self.size.slot(sequence)
+        16 + 16 * self.upstreams.len() + self.size.slot(sequence) / 64
     }
 
-    /// The mark of a sequence.
-    pub fn mark(&self, sequence: u64) -> u64
-        requires { sequence < 2 ^ 63 }
-        ensures { result ≡ entry_of self.now.size sequence }
+    /// The bit of that word that is the mark.
+    fn mark_bit(&self, sequence: u64) -> u32
+        ensures bit { result ≡ mark_bit_of self.now sequence }
+        ensures inside { result < 64 }
     {
-        self.size.round(sequence) + 1
+        (self.size.slot(sequence) % 64) as u32
+    }
+
+    /// How many sequences from one on have their marks in the same word, one after the other.
+    pub fn in_word(&self, sequence: u64) -> u64
+        ensures count { result ≡ in_word_of self.now sequence }
+        ensures some { 0 < result }
+        ensures few { result ≤ 64 }
+    {
+        let left = self.size.get() - self.size.slot(sequence) as u64;
+        let bits = 64 - self.mark_bit(sequence) as u64;
+        bits.min(left)
+    }
+
+    /// The bits of so many marks from that of a sequence on, which are in one word.
+    pub fn mark_bits(&self, sequence: u64, count: u64) -> u64
+        requires { (0 < count) × (count ≤ in_word_of self.now sequence) }
+        ensures { result ≡ 2 ^ (mark_bit_of self.now sequence + count) - 2 ^ mark_bit_of self.now sequence }
+    {
+        let ones = u64::MAX >> (64 - count) as u32;
+        ones << self.mark_bit(sequence)
+    }
+
+    /// How many sequences from one on are published, one after the other, as far as the word tells
+    /// that has the mark of the first, and was found so.
+    pub fn marked(&self, sequence: u64, found: u64) -> u64
+        ensures count { result ≡ marked_from self.now sequence found }
+        ensures few { result ≤ 64 }
+    {
+        let is_even = self.size.round(sequence) % 2 == 0;
+        let there = set_where(is_even, found);
+        let run = (there >> self.mark_bit(sequence)).trailing_ones() as u64;
+        run.min(self.in_word(sequence))
     }
 
     /// How many words the ring has.

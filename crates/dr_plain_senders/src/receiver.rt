@@ -1,19 +1,26 @@
 //! An end that receives every event.
 
+ghost use Rattle.std.specs.Arc.{arc_value};
 ghost use Rattle.std.specs.Prelude.{◌≡◌, ◌<◌, ◌^◌, length, IfSome, IfNone};
 ghost use Rattle.dr_runs.specs.Looks.{looks_counted};
+ghost use Rattle.dr_plain_senders.specs.Meaning.Shape.{handlers_of};
 ghost use Rattle.dr_plain_senders.specs.Calls.Receiving.{PollCall, CompleteCall, ReadsInHand, IsNotInHand};
+ghost use Rattle.dr_plain_senders.specs.Inside.Leaving.{BelongsReceiver};
 
 use crate::answers::{claimed_in, nothing_offered};
+use crate::body::RingBody;
 use crate::laws::ReceiverStation;
+use crate::left::ReceiverLeft;
 use crate::plan::HALT_BIT;
 use dr_cells::Token;
 use dr_meaning::{Polled, Refusal};
+use std::alloc::Global;
 use std::marker::{Brand, Model};
+use std::snapshot::Snapshot;
+use std::sync::Arc;
 
 /// The end of one handler, which receives every event after its upstreams. No call waits or takes
 /// memory.
-#[derive(Drop)]
 pub struct Receiver<T> {
     pub(crate) station: ReceiverStation<T>,
     pub(crate) taken: u64,
@@ -36,9 +43,9 @@ impl<T> Model for Receiver<T> {
 
 impl<T> Receiver<T> {
     /// Takes the next events, as many as the barrier offers and there is room for. It looks at the
-    /// claim word, and then, for a handler without upstreams, at the marks of the next events, of
-    /// one more than there is room for, as far as they are there; or else at the count of each
-    /// upstream. It may read what it took until it completes it.
+    /// claim word, and then, for a handler without upstreams, at the words with the marks of the
+    /// next events, of one more than there is room for, as far as they are there; or else at the
+    /// count of each upstream. It may read what it took until it completes it.
     ///
     /// It is refused with `BadCount`, and changes nothing, where there is no room.
     #[tactic(auto, using(crate::proofs::Stations::begins_same, crate::proofs::Stations::begins_on))]
@@ -107,5 +114,43 @@ impl<T> Receiver<T> {
         ensures { result ≡ looks_counted self.now.knows.looks }
     {
         self.station.looks
+    }
+
+    // All that it has, with its number and the ring.
+    pub(crate) fn into_left(self) -> (Arc<RingBody<T>, Global>, usize, ReceiverLeft<T>)
+        ensures place { BelongsReceiver (arc_value result.0).table.shared.table_id (arc_value result.0).plan result.1 self }
+        ensures number { result.1 < handlers_of (arc_value result.0).plan }
+        ensures left { result.2 ≡ self }
+    {
+        let Receiver {
+            station,
+            taken,
+            completed,
+            parts,
+        } = self;
+        let ReceiverStation {
+            ring,
+            seat,
+            number,
+            looks: _,
+        } = station;
+        let plan = Snapshot::of(&ring.plan);
+        let left = ReceiverLeft {
+            seat,
+            plan,
+            taken,
+            completed,
+            parts,
+        };
+        (ring, number, left)
+    }
+}
+
+/// It leaves what it holds in the ring, without waiting or taking memory. With the last end the events
+/// are dropped, and all memory of the ring is free.
+impl<T: Drop> Drop for Receiver<T> {
+    fn drop(self) {
+        let (ring, number, left) = self.into_left();
+        drop(ring.receivers.leave(number, left));
     }
 }

@@ -22,12 +22,18 @@ pub struct Own<T> {
     pub stage: Stage<T>,
 }
 
+/// A look at the mark of a sequence, and what it found in the word of that mark.
+pub struct MarkLook {
+    pub sequence: u64,
+    pub found: u64,
+}
+
 /// What a sender knows: its number, the sequences that it claimed, and its looks, those at marks
 /// apart.
 pub struct SenderRecord<T> {
     pub number: u64,
     pub own: LinkedList<Own<T>>,
-    pub marks: LinkedList<Look>,
+    pub marks: LinkedList<MarkLook>,
     pub looks: LinkedList<Look>,
 }
 
@@ -36,7 +42,7 @@ pub struct SenderRecord<T> {
 pub struct ReceiverRecord<T> {
     pub number: u64,
     pub received: LinkedList<Lent<T>>,
-    pub marks: LinkedList<Look>,
+    pub marks: LinkedList<MarkLook>,
     pub completed: u64,
     pub told: bool,
     pub looks: LinkedList<Look>,
@@ -70,7 +76,7 @@ pub enum Step<T> {
         found: u64,
         more: u64,
     },
-    /// A sender stores the mark of one of its sequences, and so publishes its event.
+    /// A sender flips the marks of some of its sequences, from one on, and so publishes their events.
     SenderPublishes {
         sender: u64,
         sequence: u64,
@@ -87,8 +93,8 @@ pub enum Step<T> {
     ReceiverLooksAtClaims {
         handler: u64,
     },
-    /// A receiver without upstreams looks at the mark of its next event, and takes that where it is
-    /// published, if it has room.
+    /// A receiver without upstreams looks at the word with the mark of its next event, and takes the
+    /// next events that this tells to be published, at most so many.
     ReceiverLooksAtMark {
         handler: u64,
         room: u64,

@@ -1,23 +1,29 @@
 //! An end that claims, writes and publishes.
 
-ghost use Rattle.std.specs.Prelude.{◌≡◌, ℕ};
+ghost use Rattle.std.specs.Arc.{arc_value};
+ghost use Rattle.std.specs.Prelude.{◌≡◌, ◌<◌, ℕ};
 ghost use Rattle.dr_runs.specs.Looks.{looks_counted};
 ghost use Rattle.dr_plain_senders.specs.Meaning.Words.{claim_word, halted_from};
 ghost use Rattle.dr_plain_senders.specs.Meaning.Records.{sender_looked};
 ghost use Rattle.dr_plain_senders.specs.declared.record.Step.TheVariants.{SenderHalts};
 ghost use Rattle.dr_plain_senders.specs.Calls.Ends.{HasStoredAt};
 ghost use Rattle.dr_plain_senders.specs.Calls.Sending.{SenderClaimCall};
+ghost use Rattle.dr_plain_senders.specs.Inside.Leaving.{BelongsSender};
 
+use crate::body::RingBody;
 use crate::claiming::ClaimFault;
 use crate::laws::SenderStation;
+use crate::left::SenderLeft;
 use crate::owned::Owned;
 use dr_cells::Token;
 use dr_meaning::Claimed;
+use std::alloc::Global;
 use std::marker::Model;
+use std::snapshot::Snapshot;
+use std::sync::Arc;
 
 /// An end of one of a ring's senders, which claims, writes and publishes. No call waits or takes
 /// memory.
-#[derive(Drop)]
 pub struct Sender<T> {
     pub(crate) station: SenderStation<T>,
     pub(crate) owned: Owned,
@@ -75,5 +81,43 @@ impl<T> Sender<T> {
         ensures { result ≡ looks_counted self.now.knows.looks }
     {
         self.station.looks
+    }
+
+    // All that it has, with its number and the ring.
+    pub(crate) fn into_left(self) -> (Arc<RingBody<T>, Global>, usize, SenderLeft<T>)
+        ensures place { BelongsSender (arc_value result.0).table.shared.table_id (arc_value result.0).plan result.1 self }
+        ensures number { result.1 < (arc_value result.0).plan.senders }
+        ensures left { result.2 ≡ self }
+    {
+        let Sender {
+            station,
+            owned,
+            end,
+            tokens,
+        } = self;
+        let SenderStation {
+            ring,
+            seat,
+            number,
+            looks: _,
+        } = station;
+        let plan = Snapshot::of(&ring.plan);
+        let left = SenderLeft {
+            seat,
+            plan,
+            owned,
+            end,
+            tokens,
+        };
+        (ring, number, left)
+    }
+}
+
+/// It leaves what it holds in the ring, without waiting or taking memory. With the last end the events
+/// are dropped, and all memory of the ring is free.
+impl<T: Drop> Drop for Sender<T> {
+    fn drop(self) {
+        let (ring, number, left) = self.into_left();
+        drop(ring.senders.leave(number, left));
     }
 }

@@ -1,6 +1,6 @@
 //! A receiver takes events: what its looks let through goes from the slots in hand to its parts.
 
-ghost use Rattle.std.specs.Prelude.{◌≡◌, ◌<◌, ◌≤◌, ◌^◌, if◌then◌else◌, [], length};
+ghost use Rattle.std.specs.Prelude.{◌≡◌, ◌<◌, ◌≤◌, ◌+◌, ◌^◌, [], length};
 ghost use Rattle.dr_plain_senders.specs.Meaning.Records.{claims_looked};
 ghost use Rattle.dr_plain_senders.specs.Calls.Finds.{FindsClaims};
 ghost use Rattle.dr_plain_senders.specs.Calls.Receiving.{ups_of};
@@ -9,30 +9,22 @@ ghost use Rattle.dr_plain_senders.specs.Inside.Polling.{OnlyLoads, TakesNext, Ta
 use crate::receiver::Receiver;
 use std::marker::Brand;
 
-// As many as there is room for where the mark is there, else none.
-fn room_where(is_there: bool, room: u64) -> u64
-    ensures { result ≡ (if is_there then room else 0) }
-{
-    if is_there { room } else { 0 }
-}
-
 impl<T> Receiver<T> {
-    /// Looks at the mark of its next event, and takes that event where the mark is there, if `room`
-    /// is not 0. Says whether the mark is there.
-    pub(crate) fn take_next(&mut self, room: u64) -> bool
+    /// Looks at the word with the mark of its next event, and takes the next events, as many as have
+    /// their marks there one after the other and there is room for. Gives up to where they are there.
+    pub(crate) fn take_next(&mut self, room: u64) -> u64
         requires first { ups_of self.old.plan self.old.knows ≡ [] }
-        requires room { room ≤ 1 }
         requires small { length self.old.knows.received < 2 ^ 63 }
         ensures loads { OnlyLoads self.old self.new }
         ensures took { TakesNext self.old.plan self.old.knows room result self.new.knows }
     {
         let next = self.taken;
         let found = self.station.look_at_mark::<Brand>(next, room);
-        let is_there = found == self.station.plan().mark(next);
-        let upto = next + room_where(is_there, room);
+        let marked = self.station.plan().marked(next, found);
+        let upto = next + room.min(marked);
         self.station.take_in(next, upto, &mut self.parts);
         self.taken = upto;
-        is_there
+        next + marked
     }
 
     /// Looks at the count of each upstream, of which there is one at least, and takes the next
@@ -51,26 +43,30 @@ impl<T> Receiver<T> {
         available
     }
 
-    // Takes its next events one by one below `upto`, up to the first whose mark is not there, and
-    // gives where it stopped.
-    fn take_each(&mut self, upto: u64) -> u64
+    // Takes its next events, as many as there is room for, word after word of marks, up to the first
+    // mark that is not there or to where it has seen all below `end`, and gives where it stopped.
+    fn take_each(&mut self, room: u64, end: u64) -> u64
         requires first { ups_of self.old.plan self.old.knows ≡ [] }
-        requires next { length self.old.knows.received ≤ upto }
-        requires small { upto < 2 ^ 63 }
+        requires next { (length self.old.knows.received ≤ end) × (end ≤ length self.old.knows.received + room + 1) }
+        requires small { end < 2 ^ 63 }
         ensures loads { OnlyLoads self.old self.new }
-        ensures took { TakesEach self.old.plan self.old.knows upto result self.new.knows }
+        ensures took { TakesEach self.old.plan self.old.knows room end result self.new.knows }
     {
-        for next in self.taken..upto {
-            if !self.take_next(1) {
-                return next;
+        let first = self.taken;
+        let mut front = first;
+        while front < end {
+            let whole = front + self.station.plan().in_word(front);
+            front = self.take_next(room - (front - first));
+            if front < whole {
+                return front;
             }
         }
-        upto
+        front
     }
 
     /// Takes the next events as their marks are there, up to what is claimed and as many as there
-    /// is room for. Where all these are there and more is claimed, it looks at one mark more. Gives
-    /// up to where the marks that it looked at are there.
+    /// is room for. Where all these are there and more is claimed, it looks on. Gives up to where
+    /// the marks that it looked at are there.
     pub(crate) fn take_marked(&mut self, claimed: u64, room: u64) -> u64
         requires first { ups_of self.old.plan self.old.knows ≡ [] }
         requires claimed { (length self.old.knows.received ≤ claimed) × (claimed < 2 ^ 63) }
@@ -78,16 +74,10 @@ impl<T> Receiver<T> {
         ensures took { TakesMarked self.old.plan self.old.knows claimed room result self.new.knows }
     {
         let first = self.taken;
-        let upto = first + room.min(claimed - first);
-        let stopped = self.take_each(upto);
-        if stopped < upto || upto == claimed {
-            return stopped;
-        }
-        if self.take_next(0) {
-            return upto + 1;
-        }
-        upto
+        let last = first + room.min(claimed - first);
+        self.take_each(room, claimed.min(last + 1))
     }
+
     /// Looks at the claim word.
     pub(crate) fn see_claims(&mut self) -> u64
         ensures loads { OnlyLoads self.old self.new }

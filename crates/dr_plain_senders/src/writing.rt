@@ -1,10 +1,11 @@
 //! An event is written where it lies, or why it is not.
 
-ghost use Rattle.std.specs.Prelude.{◌≡◌, ◌^◌, ◌<◌, ◌≤◌, Err};
-ghost use Rattle.dr_meaning.specs.declared.refusal.Refusal.TheVariants.{NotClaimed};
+ghost use Rattle.std.specs.Prelude.{◌≡◌, ◌^◌, ◌<◌, ◌≤◌, ◌||◌, ◌&&◌, if◌then◌else◌, Err};
+ghost use Rattle.dr_meaning.specs.declared.refusal.Refusal.TheVariants.{NotClaimed, AlreadyPublished};
 ghost use Rattle.dr_plain_senders.specs.Calls.Writing.{WriteCall};
 ghost use Rattle.dr_plain_senders.specs.Inside.Refusing.{RefusesBy};
 
+use crate::answers::claimed_in;
 use crate::dealt::{put_at, write_in};
 use crate::laws::SenderStation;
 use crate::sender::Sender;
@@ -12,19 +13,37 @@ use dr_cells::Token;
 use dr_meaning::Refusal;
 use std::marker::Brand;
 
+// Why a sequence is refused that is published, or else another's or nobody's.
+fn refusal_where(is_out: bool) -> Refusal
+    ensures { result ≡ (if is_out then AlreadyPublished else NotClaimed) }
+{
+    if is_out {
+        Refusal::AlreadyPublished
+    } else {
+        Refusal::NotClaimed
+    }
+}
+
+// Whether a sequence is published, where it is claimed: its mark is there, or its cell is claimed again.
+fn is_out(is_claimed: bool, is_marked: bool, is_past: bool) -> bool
+    ensures { result ≡ (is_claimed && (is_marked || is_past)) }
+{
+    is_claimed && (is_marked || is_past)
+}
+
 impl<T> SenderStation<T> {
-    /// Why a sequence is refused that the sender has not, or has published: it looks at the mark in
-    /// its cell, which is of its round or a later one exactly where it is published.
+    /// Why a sequence is refused that the sender has not, or has published. It looks at the claim
+    /// word, at the mark, and at the claim word again, since a mark alone does not tell its round.
     pub(crate) fn refusal(&mut self, sequence: u64) -> Refusal
         requires { sequence < 2 ^ 63 }
         ensures { RefusesBy self.old sequence self.new result }
     {
+        let before = self.look_at_claims();
         let mark = self.look_at_mark::<Brand>(sequence);
-        if mark >= self.plan().mark(sequence) {
-            Refusal::AlreadyPublished
-        } else {
-            Refusal::NotClaimed
-        }
+        let after = self.look_at_claims();
+        let is_marked = self.plan().marked(sequence, mark) > 0;
+        let is_past = sequence + self.plan().size().get() < claimed_in(after);
+        refusal_where(is_out(sequence < claimed_in(before), is_marked, is_past))
     }
 }
 

@@ -5,6 +5,7 @@ use Rattle.dr_workers.specs.declared.fault.WorkFault.TheVariants.{Stopped}
 use Rattle.dr_accounts.specs.Keeping.{AnswersFor}
 
 -- a worker that answers that it was stopped was stopped
-pub stopped_by : {may_stop : Type 0} (fault answer : Option WorkFault) → AnswersFor fault answer → (fault ≡ Some Stopped → may_stop) → answer ≡ Some Stopped → may_stop
+pub stopped_by : {may_stop : Type 0} (fault answer : Option WorkFault) → AnswersFor fault answer → (fault ≡ Some Stopped → may_stop)
+    → answer ≡ Some Stopped → may_stop
 stopped_by fault answer (inl same) may is = may (sym same ∙ is)
 stopped_by fault answer (inr memory) may is = absurd (cc)

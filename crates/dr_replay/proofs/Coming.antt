@@ -34,7 +34,8 @@ module _ {L Z : Type 0} (begun : History Event) (may_stop must_stop : ℕ → �
   each_sent p end below =
       let inside : p < length delivered = subst (λ n. p < n) (sym is.producers.many) below in
       let d = some_of delivered p inside in
-      subst (IsProducers begun p) (sym (get_or-map (λ (s : Delivered L). s.end) delivered p d end inside)) (sent (is.producers.each p d (some_of scripts p below) inside))
+      subst (IsProducers begun p) (sym (get_or-map (λ (s : Delivered L). s.end) delivered p d end inside))
+      (sent (is.producers.each p d (some_of scripts p below) inside))
 
   pub came : (had : ℕ) → had ≡ length begun.entries → (h : History Event) → GoesOnBy begun had (ends_of joined) h → CameTo begun (length scripts) h
   came had same h went =

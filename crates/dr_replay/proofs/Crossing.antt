@@ -27,7 +27,8 @@ bell_sync = search (sendable, atomic_sync) depth 30
 
 pub ruleset shares = (sendable, std.sync, size_sync, event_send, bell_sync, shared_sync)
 
-pub around_sync : (a : NamedLft) (L R G : RattleType) (b : Begun L.Denot Event.the_row.Denot) (g : Ghosts L.Denot) → IsSync L → IsSync R → IsSync G → IsSync (Around.the_row a L R G b g)
+pub around_sync : (a : NamedLft) (L R G : RattleType) (b : Begun L.Denot Event.the_row.Denot) (g : Ghosts L.Denot) → IsSync L → IsSync R → IsSync G
+    → IsSync (Around.the_row a L R G b g)
 around_sync a L R G b g ledger workers gates = search shares depth 60 fits 20000
 
 pub ruleset sends = (sendable, event_sync, end_send)

@@ -25,7 +25,8 @@ use Rattle.dr_replay.specs.Meaning.Scripts.{producers_in, script_in, scripts_in}
 use Rattle.dr_accounts.specs.Report.{report_of}
 use Rattle.dr_replay.specs.Calls.Replayed.{IsReportOfMerge}
 use Rattle.dr_replay.specs.Calls.RingRuns.{CameOf, RunOver}
-use Rattle.dr_replay.specs.Calls.Workers.{AreStopped, AreThrough, AreServed, AuditFinds, CameTogether, IsFirstOf, IsMemory, IsOfAudit, IsOfLock, IsOfMerge, IsOfWorkers, UnlessMemory, audit_fault}
+use Rattle.dr_replay.specs.Calls.Workers.{AreStopped, AreThrough, AreServed, AuditFinds, CameTogether, IsFirstOf, IsMemory, IsOfAudit, IsOfLock, IsOfMerge}
+use Rattle.dr_replay.specs.Calls.Workers.{IsOfWorkers, UnlessMemory, audit_fault}
 use Rattle.dr_replay.specs.Calls.Workers.{IsNoRefusal, endings_of, ends_of, lock_endings, replay_fault, ring_workers}
 
 -- whether a fault may be answered for workers
@@ -61,10 +62,13 @@ of_workers may_stop ran (fault.Audit f) stopped served is = no_other (endings_of
 
 -- what a run over a new ring came to is what is answered
 module _ {A : Type 0} {may_stop must_stop : ℕ → ℕ → Type 0} {size : ℕ} (events : List Event) (ran : Ran) (t : HalterEnd)
-    (over : HasRun ran.sender (ends_of ran) t → RunOver may_stop must_stop size events) (same : (run : HasRun ran.sender (ends_of ran) t) → (over run).ran ≡ ran) where
-  pub came_of : (r : Result A ReplayFault) → CameTogether ran t r → IfOk r (λ x. AreThrough events ran) → IfErr r (IsFirstOf (endings_of ran)) → CameOf may_stop must_stop size r events
+    (over : HasRun ran.sender (ends_of ran) t → RunOver may_stop must_stop size events)
+    (same : (run : HasRun ran.sender (ends_of ran) t) → (over run).ran ≡ ran) where
+  pub came_of : (r : Result A ReplayFault) → CameTogether ran t r → IfOk r (λ x. AreThrough events ran) → IfErr r (IsFirstOf (endings_of ran))
+      → CameOf may_stop must_stop size r events
   came_of (Ok x) came through first = (over came, subst (AreThrough events) (sym (same came)) through)
-  came_of (Err (fault.Worker who f)) came through first = (over came, subst (λ (x : Ran). IsFirstOf (endings_of x) (fault.Worker who f)) (sym (same came)) first)
+  came_of (Err (fault.Worker who f)) came through first =
+      (over came, subst (λ (x : Ran). IsFirstOf (endings_of x) (fault.Worker who f)) (sym (same came)) first)
   came_of (Err (fault.Audit f)) came through first = no_other (endings_of ran) (fault.Audit f) refl first
   came_of (Err (fault.File file.Memory)) came through first = tt
   came_of (Err (fault.File (file.Input k cause))) came through first = tt
@@ -123,7 +127,8 @@ module _ {P Q : History Event → Type 0} (more : (h : History Event) → P h �
   faults_more may_stop events (Ok t) is = tt
   faults_more may_stop events (Err e) is = fault_more may_stop events e is
 
-  audit_more : (endings : List Ended) (scripts : List (List Event)) (e : ReplayFault) → first_fault endings ≡ None → IsOfAudit P scripts e → IsOfLock endings Q scripts e
+  audit_more : (endings : List Ended) (scripts : List (List Event)) (e : ReplayFault) → first_fault endings ≡ None → IsOfAudit P scripts e
+      → IsOfLock endings Q scripts e
   audit_more endings scripts (fault.File f) none is = is
   audit_more endings scripts (fault.Worker who f) none is = absurd is
   audit_more endings scripts (fault.Audit f) none is = (none, finds_more scripts f is)
@@ -151,7 +156,8 @@ module _ {P Q : History Event → Type 0} (more : (h : History Event) → P h �
       of_merge may_stop events journal replica business producers e (many ∙ ap length same ∙ many_scripts events) stopped (rw same at is)
 
 -- of the same scripts, and of histories that are such
-pub finds_as : {P Q : History Event → Type 0} → ((h : History Event) → P h → Q h) → (given scripts : List (List Event)) (f : AuditFault) → given ≡ scripts → AuditFinds P given f → AuditFinds Q scripts f
+pub finds_as : {P Q : History Event → Type 0} → ((h : History Event) → P h → Q h) → (given scripts : List (List Event)) (f : AuditFault) → given ≡ scripts
+    → AuditFinds P given f → AuditFinds Q scripts f
 finds_as more given scripts f same is = finds_more more scripts f (rw same at is)
 
 finds : (h : History Event) (scripts : List (List Event)) (f : AuditFault)
@@ -170,8 +176,8 @@ pub reports : (h : History Event) (given : List (List Event)) (events list : Lis
     → IsAudited (transcript h) (handlers h.core.setup) given list → text ≡ report_of list → IsReportOfMerge (λ k. k ≡ h) events text
 reports h given events list text same is says = record { history = h; such = refl; list = list; audited = rw same at is; says = says }
 
-after_workers : (P : History Event → Type 0) (h : History Event) → P h → (endings : List Ended) (scripts : List (List Event)) (e : ReplayFault) → IsFirstOf endings e
-    → IsOfLock endings P scripts e
+after_workers : (P : History Event → Type 0) (h : History Event) → P h → (endings : List Ended) (scripts : List (List Event)) (e : ReplayFault)
+    → IsFirstOf endings e → IsOfLock endings P scripts e
 after_workers P h such endings scripts (fault.File f) is = only_memory endings f is
 after_workers P h such endings scripts (fault.Worker who f) is = (is, h, such)
 after_workers P h such endings scripts (fault.Audit f) is = absurd (no_other endings (fault.Audit f) refl is)
@@ -185,7 +191,8 @@ audit_names_none P scripts (Err (fault.Worker who f)) is = absurd is
 audit_names_none P scripts (Err (fault.Audit f)) is = tt
 
 -- the endings that a check was given are those of the parts
-pub first_of_parts : (P : History Event → Type 0) (h : History Event) → P h → {j j2 r r2 b b2 : Option WorkFault} {p p2 : List (Option WorkFault)} (scripts : List (List Event)) (e : ReplayFault)
+pub first_of_parts : (P : History Event → Type 0) (h : History Event) → P h
+    → {j j2 r r2 b b2 : Option WorkFault} {p p2 : List (Option WorkFault)} (scripts : List (List Event)) (e : ReplayFault)
     → j ≡ j2 → r ≡ r2 → b ≡ b2 → p ≡ p2 → IsFirstOf (lock_endings j r b p) e → IsOfLock (lock_endings j2 r2 b2 p2) P scripts e
 first_of_parts P h such {j2 = j2} {r2 = r2} {b2 = b2} {p2 = p2} scripts e journal replica business producers is =
     after_workers P h such (lock_endings j2 r2 b2 p2) scripts e (rw (journal, replica, business, producers) at is)

@@ -28,7 +28,8 @@ step k (Some o) true more place = refl
 step k (Some o) false more place = ap Err (omega arith)
 
 all_from : (k : ℕ) (rs : List Record)
-    → events_from k rs ≡ cond (list_all is_operation rs) (Ok (map event_for (filter_map operation_in rs))) (Err (position_or_len (λ r. not (is_operation r)) rs + k))
+    → events_from k rs
+    ≡ cond (list_all is_operation rs) (Ok (map event_for (filter_map operation_in rs))) (Err (position_or_len (λ r. not (is_operation r)) rs + k))
 unfolding events_from
 all_from k [] = refl
 all_from k (r ∷ rs) =
@@ -55,15 +56,18 @@ one_more done k o (Ok events) = ap Ok (sym (append_assoc done (event_for o ∷ [
 one_more done k o (Err bad) = refl
 
 pub file-goes : (whole : Result (List Event) ℕ) (done : List Event) (k : ℕ) (o : Operation) (left : List Record) (row : Record) (rest : List Record)
-    → whole ≡ preceded done (events_from k left) → left ≡ row ∷ rest → Some o ≡ operation_in row → whole ≡ preceded (done ++ event_for o ∷ []) (events_from (k + 1) rest)
+    → whole ≡ preceded done (events_from k left) → left ≡ row ∷ rest → Some o ≡ operation_in row
+    → whole ≡ preceded (done ++ event_for o ∷ []) (events_from (k + 1) rest)
 unfolding events_from
 file-goes whole done k o left row rest p cut e =
-    p ∙ ap (λ l. preceded done (events_from k l)) cut ∙ ap (λ x. preceded done (events_with k x (events_from (k + 1) rest))) (sym e) ∙ one_more done k o (events_from (k + 1) rest)
+    p ∙ ap (λ l. preceded done (events_from k l)) cut ∙ ap (λ x. preceded done (events_with k x (events_from (k + 1) rest))) (sym e)
+    ∙ one_more done k o (events_from (k + 1) rest)
 
 pub file-stops : (whole : Result (List Event) ℕ) (done : List Event) (k : ℕ) (left : List Record) (row : Record) (rest : List Record)
     → whole ≡ preceded done (events_from k left) → left ≡ row ∷ rest → None ≡ operation_in row → whole ≡ Err k
 unfolding events_from
-file-stops whole done k left row rest p cut e = p ∙ ap (λ l. preceded done (events_from k l)) cut ∙ ap (λ x. preceded done (events_with k x (events_from (k + 1) rest))) (sym e)
+file-stops whole done k left row rest p cut e = p ∙ ap (λ l. preceded done (events_from k l)) cut
+    ∙ ap (λ x. preceded done (events_with k x (events_from (k + 1) rest))) (sym e)
 
 pub file-ends : (whole : Result (List Event) ℕ) (done : List Event) (k : ℕ) (left : List Record) → whole ≡ preceded done (events_from k left)
     → left ≡ [] → whole ≡ Ok done

@@ -1,5 +1,6 @@
 -- No worker that its gate has to stop at its first passage leaves a report of events.
-use Rattle.std.proofs.Common.{◌≡◌, ◌≢◌, ◌<◌, ℕ, true, false, List, [], ◌∷◌, ◌++◌, length, take, map, flat_map, get_or, All, Vec, Option, None, Result, Ok, Err, IfOk, ⊎_elim, refl, subst, sym, ap, ◌∙◌, arith}
+use Rattle.std.proofs.Common.{◌≡◌, ◌≢◌, ◌<◌, ℕ, true, false, List, [], ◌∷◌, ◌++◌, length, take, map, flat_map, get_or, All, Vec, Option, None, Result, Ok, Err}
+use Rattle.std.proofs.Common.{IfOk, ⊎_elim, refl, subst, sym, ap, ◌∙◌, arith}
 use Rattle.std.specs.Prelude.{Bool}
 use Rattle.std.proofs.lemmas.Bool.{false≢true}
 use Rattle.std.proofs.lemmas.List.{get_or-map, length-map}
@@ -30,8 +31,10 @@ use Rattle.dr_replay.specs.Calls.Workers.{AreThrough, IsRun, NoProducerHadToStop
 use Rattle.dr_replay.proofs.Stopping.{some_of}
 
 -- whoever has no fault was not stopped
-ends_unstopped : (stopped : Bool) (calls : List (OutletCall Event)) (fault : Option WorkFault) → ConsumerEnds stopped calls fault → fault ≡ None → stopped ≢ true
-ends_unstopped true calls fault ends fine is = ⊎_elim (λ told. none-some Stopped (sym fine ∙ told.1)) (λ trouble. none-some (fault_in_trouble true trouble.0) (sym fine ∙ trouble.2)) ends
+ends_unstopped : (stopped : Bool) (calls : List (OutletCall Event)) (fault : Option WorkFault) → ConsumerEnds stopped calls fault → fault ≡ None
+    → stopped ≢ true
+ends_unstopped true calls fault ends fine is =
+    ⊎_elim (λ told. none-some Stopped (sym fine ∙ told.1)) (λ trouble. none-some (fault_in_trouble true trouble.0) (sym fine ∙ trouble.2)) ends
 ends_unstopped false calls fault ends fine is = false≢true is
 
 one_more : {X : Type 0} (x : X) (xs : List X) → 0 < length (x ∷ xs)
@@ -45,29 +48,33 @@ fine_before : (fault answer : Option WorkFault) → AnswersFor fault answer → 
 fine_before fault answer answers fine = ⊎_elim (λ same. sym same ∙ fine) (λ memory. absurd (none-some Memory (sym fine ∙ memory))) answers
 
 -- a handler that received events
-heeds : {A : Type 0} (goes : Relation Event A) (IsNew : A → Type 0) (failed : A → Bool) (may_stop must_stop : ℕ → Type 0) (given back : ReceiverEnd) (answer : Option WorkFault)
-    (event : Event) (events : List Event) → IsServed goes IsNew failed may_stop must_stop given back answer → given.knows.received ≡ [] → back.knows.received ≡ event ∷ events
-    → answer ≡ None → must_stop 0 → ⊥
+heeds : {A : Type 0} (goes : Relation Event A) (IsNew : A → Type 0) (failed : A → Bool) (may_stop must_stop : ℕ → Type 0) (given back : ReceiverEnd)
+    (answer : Option WorkFault) (event : Event) (events : List Event) → IsServed goes IsNew failed may_stop must_stop given back answer
+    → given.knows.received ≡ [] → back.knows.received ≡ event ∷ events → answer ≡ None → must_stop 0 → ⊥
 heeds goes IsNew failed may_stop must_stop given back answer event events is none received fine must =
     let gate = is.calls.holds.gate in
     let batches = batches_in is.calls.calls in
     let handed : HandsOut batches (received_of given.knows) (received_of back.knows) = is.calls.holds.works.handed in
     let dealt : event ∷ events ≡ dealt_events batches = sym received ∙ handed.0 ∙ ap (λ (l : List Event). l ++ dealt_events batches) none in
-    ends_unstopped gate.stopped is.calls.calls is.fault gate.answers (fine_before is.fault answer is.answers fine) (gate.must 0 (some_batch event events batches dealt) (omega arith) must)
+    ends_unstopped gate.stopped is.calls.calls is.fault gate.answers (fine_before is.fault answer is.answers fine)
+    (gate.must 0 (some_batch event events batches dealt) (omega arith) must)
 
 -- a claim comes before the writes of its part
-after_writes : (lo n : ℕ) (stretch : Claimed) (events : List Event) (accepted rest : List (InletCall Event)) → each_written lo events ++ accepted ≡ TriesClaim n (Ok stretch) ∷ rest → accepted ≡ TriesClaim n (Ok stretch) ∷ rest
+after_writes : (lo n : ℕ) (stretch : Claimed) (events : List Event) (accepted rest : List (InletCall Event))
+    → each_written lo events ++ accepted ≡ TriesClaim n (Ok stretch) ∷ rest → accepted ≡ TriesClaim n (Ok stretch) ∷ rest
 after_writes lo n stretch [] accepted rest is = is
 after_writes lo n stretch (event ∷ events) accepted rest is = absurd (cc)
 
 -- whoever begins with a claim claims something
-claims_some : (n : ℕ) (stretch : Claimed) (calls rest : List (InletCall Event)) → accepted_in calls ≡ TriesClaim n (Ok stretch) ∷ rest → 0 < length (claims_in calls)
+claims_some : (n : ℕ) (stretch : Claimed) (calls rest : List (InletCall Event)) → accepted_in calls ≡ TriesClaim n (Ok stretch) ∷ rest
+    → 0 < length (claims_in calls)
 claims_some n stretch [] rest is = absurd (cc)
 claims_some n stretch (TriesClaim m (Ok claimed) ∷ calls) rest is = one_more m (claims_in calls)
 claims_some n stretch (TriesClaim m (Err trouble) ∷ calls) rest is = claims_some n stretch calls rest is
 claims_some n stretch (WritesOne s event (Ok done) ∷ calls) rest is = absurd (cc)
 claims_some n stretch (WritesOne s event (Err trouble) ∷ calls) rest is = claims_some n stretch calls rest is
-claims_some n stretch (WritesMany lo events wrote ∷ calls) rest is = claims_some n stretch calls rest (after_writes lo n stretch (take wrote.count events) (accepted_in calls) rest is)
+claims_some n stretch (WritesMany lo events wrote ∷ calls) rest is =
+    claims_some n stretch calls rest (after_writes lo n stretch (take wrote.count events) (accepted_in calls) rest is)
 claims_some n stretch (PublishesStretch lo hi (Ok done) ∷ calls) rest is = absurd (cc)
 claims_some n stretch (PublishesStretch lo hi (Err trouble) ∷ calls) rest is = claims_some n stretch calls rest is
 
@@ -77,10 +84,12 @@ some_part calls next events [] sends are some = let none : 0 ≡ length events =
 some_part calls next events (part ∷ parts) sends are some = claims_some (length part.events) part.stretch calls _ sends
 
 -- a producer's worker without a fault sent all and was not stopped
-sent_unstopped : (cut : ℕ) (script : List Event) (stopped : Bool) (calls : List (InletCall Event)) (produced : Produced) → ProducerEnds cut script stopped calls produced → produced.fault ≡ None
+sent_unstopped : (cut : ℕ) (script : List Event) (stopped : Bool) (calls : List (InletCall Event)) (produced : Produced)
+    → ProducerEnds cut script stopped calls produced → produced.fault ≡ None
     → (produced.sent ≡ length script) × (stopped ≢ true)
 sent_unstopped cut script true calls produced ends fine =
-    ⊎_elim (λ told. absurd (none-some Stopped (sym fine ∙ told.1))) (λ trouble. absurd (none-some (fault_in_trouble true trouble.0) (sym fine ∙ trouble.2))) ends
+    ⊎_elim (λ told. absurd (none-some Stopped (sym fine ∙ told.1)))
+    (λ trouble. absurd (none-some (fault_in_trouble true trouble.0) (sym fine ∙ trouble.2))) ends
 sent_unstopped cut script false calls produced ends fine =
     ⊎_elim (λ told. (told.0, false≢true)) (λ trouble. absurd (none-some (fault_in_trouble false trouble.0) (sym fine ∙ trouble.2))) ends
 
@@ -90,7 +99,8 @@ sends_heed : (cut : ℕ) (event : Event) (events : List Event) (may_stop must_st
 sends_heed cut event events may_stop must_stop produced calls is fine must =
     let script : List Event = event ∷ events in
     let ended = sent_unstopped cut script is.gate.stopped calls produced is.gate.answers fine in
-    let some : 0 < length (take produced.sent script) = subst (λ n. 0 < length (take n (event ∷ events))) (sym ended.0) (one_more event (take (length events) events)) in
+    let some : 0 < length (take produced.sent script) =
+    subst (λ n. 0 < length (take n (event ∷ events))) (sym ended.0) (one_more event (take (length events) events)) in
     ended.1 (is.gate.must 0 (some_part calls is.sends.next (take produced.sent script) is.sends.parts is.sends.calls is.sends.events some) (omega arith) must)
 
 -- over a ring
@@ -120,12 +130,14 @@ sent_heeds begun p cut (event ∷ events) may_stop must_stop back answer is fine
     sends_heed cut event events may_stop must_stop is.produced is.calls.calls is.calls.holds (sym is.answers ∙ fine) must
 
 -- of several producers' workers without a fault, none had to stop that had an event to send
-pub joined_heeds : {L Z : Type 0} (begun : History Event) (may_stop must_stop : ℕ → ℕ → Type 0) (size : ℕ) (scripts : List (Vec Event Z)) (joined : Joined L) (events : List Event)
-    → IsJoined begun may_stop must_stop size scripts joined → All (λ (f : Option WorkFault). f ≡ None) (map (λ (s : Delivered L). s.fault) joined.producers.items)
+pub joined_heeds : {L Z : Type 0} (begun : History Event) (may_stop must_stop : ℕ → ℕ → Type 0) (size : ℕ) (scripts : List (Vec Event Z)) (joined : Joined L)
+    (events : List Event) → IsJoined begun may_stop must_stop size scripts joined
+    → All (λ (f : Option WorkFault). f ≡ None) (map (λ (s : Delivered L). s.fault) joined.producers.items)
     → map (λ (v : Vec Event Z). v.items) scripts ≡ scripts_in events → NoProducerHadToStop must_stop events
 joined_heeds {L} {Z} begun may_stop must_stop size scripts joined events is fine are = λ p below some must.
     let sent = joined.producers.items in
-    let all : length scripts ≡ producers_in events = sym (length-map scripts (λ (v : Vec Event Z). v.items)) ∙ ap length are ∙ length-map-range_with_len (script_in events) 0 (producers_in events) in
+    let all : length scripts ≡ producers_in events = sym (length-map scripts (λ (v : Vec Event Z). v.items)) ∙ ap length are
+    ∙ length-map-range_with_len (script_in events) 0 (producers_in events) in
     let within : p < length scripts = omega (arith, all) in
     let inside : p < length sent = omega (arith, is.producers.many) in
     let script = some_of scripts p within in
@@ -135,5 +147,6 @@ joined_heeds {L} {Z} begun may_stop must_stop size scripts joined events is fine
     sym (get_or-map (λ (v : Vec Event Z). v.items) scripts p script [] within) ∙ ap (λ l. get_or l p []) are
     ∙ get_or-map-range_with_len (script_in events) 0 (producers_in events) p p [] below (omega arith) in
     let unfaulted : (get_or sent p s).fault ≡ None =
-    sym (get_or-map (λ (s : Delivered L). s.fault) sent p s None inside) ∙ fine p None (subst (λ n. p < n) (sym (length-map sent (λ (s : Delivered L). s.fault))) inside) in
+    sym (get_or-map (λ (s : Delivered L). s.fault) sent p s None inside)
+    ∙ fine p None (subst (λ n. p < n) (sym (length-map sent (λ (s : Delivered L). s.fault))) inside) in
     sent_heeds begun p _ (get_or scripts p script).items _ _ _ _ kept unfaulted (λ none. some (sym listed ∙ none)) must

@@ -25,8 +25,8 @@ use Rattle.dr_files.specs.declared.fault.FileFault.TheVariants as file
 use Rattle.dr_replay.proofs.Endings.{finds_as, many_scripts, report_more}
 use Rattle.dr_replay.proofs.Stopping.{some_of}
 
-module _ {L Z : Type 0} (begun : History Event) (may_stop must_stop : ℕ → ℕ → Type 0) (size : ℕ) (scripts : List (Vec Event Z)) (joined : Joined L) (events : List Event)
-    (is : IsJoined begun may_stop must_stop size scripts joined) (are : map (λ (v : Vec Event Z). v.items) scripts ≡ scripts_in events)
+module _ {L Z : Type 0} (begun : History Event) (may_stop must_stop : ℕ → ℕ → Type 0) (size : ℕ) (scripts : List (Vec Event Z)) (joined : Joined L)
+    (events : List Event) (is : IsJoined begun may_stop must_stop size scripts joined) (are : map (λ (v : Vec Event Z). v.items) scripts ≡ scripts_in events)
     (setup : begun.core.setup ≡ lock_setup size events) (fresh : begun.entries ≡ []) where
   abbrev delivered : List (Delivered L)
   delivered = joined.producers.items
@@ -66,8 +66,10 @@ module _ {L Z : Type 0} (begun : History Event) (may_stop must_stop : ℕ → �
         let listed : (get_or scripts p script).items ≡ script_in events p =
         sym (get_or-map (λ (v : Vec Event Z). v.items) scripts p script [] within) ∙ ap (λ l. get_or l p []) are
         ∙ get_or-map-range_with_len (script_in events) 0 (producers_in events) p p [] below (omega arith) in
-        let back : get_or (map (λ (d : Delivered L). d.end) delivered) p no_calls ≡ (get_or delivered p s).end = get_or-map (λ (d : Delivered L). d.end) delivered p s no_calls inside in
-        let ended : get_or (map (λ (d : Delivered L). d.fault) delivered) p None ≡ (get_or delivered p s).fault = get_or-map (λ (d : Delivered L). d.fault) delivered p s None inside in
+        let back : get_or (map (λ (d : Delivered L). d.end) delivered) p no_calls ≡ (get_or delivered p s).end =
+        get_or-map (λ (d : Delivered L). d.end) delivered p s no_calls inside in
+        let ended : get_or (map (λ (d : Delivered L). d.fault) delivered) p None ≡ (get_or delivered p s).fault =
+        get_or-map (λ (d : Delivered L). d.fault) delivered p s None inside in
         rw (listed, sym back, sym ended) at (is.producers.each p s script inside);
   }
 

@@ -17,7 +17,8 @@ numbered_more who (g ∷ faults) f =
     ap (λ l. end who g ∷ l) (numbered_more (who + 1) faults f ∙ ap (λ n. numbered (who + 1) faults ++ end n f ∷ []) same)
 
 pub lock_more : (journal replica business : Option WorkFault) (producers : List (Option WorkFault)) (p : ℕ) (d : Option WorkFault) → p < length producers
-    → lock_endings journal replica business (take (p + 1) producers) ≡ lock_endings journal replica business (take p producers) ++ end (16 + p) (get_or producers p d) ∷ []
+    → lock_endings journal replica business (take (p + 1) producers)
+    ≡ lock_endings journal replica business (take p producers) ++ end (16 + p) (get_or producers p d) ∷ []
 lock_more journal replica business producers p d less =
     let many : length (take p producers) ≡ p = length-take-le p producers (omega arith) in
     ap (λ l. end 0 journal ∷ end 1 replica ∷ end 2 business ∷ l)
@@ -32,9 +33,11 @@ numbered_fine : (who : ℕ) (faults : List (Option WorkFault)) → All IsFine (n
 numbered_fine who [] fine = All-nil (λ (f : Option WorkFault). f ≡ None)
 numbered_fine who (f ∷ faults) fine =
     let rest : List Ended = numbered (who + 1) faults in
-    All-cons (λ (f : Option WorkFault). f ≡ None) f faults (All-head IsFine (end who f) rest fine) (numbered_fine (who + 1) faults (All-tail IsFine (end who f) rest fine))
+    All-cons (λ (f : Option WorkFault). f ≡ None) f faults (All-head IsFine (end who f) rest fine)
+    (numbered_fine (who + 1) faults (All-tail IsFine (end who f) rest fine))
 
-pub lock_fine : (journal replica business : Option WorkFault) (producers : List (Option WorkFault)) → All IsFine (lock_endings journal replica business producers)
+pub lock_fine : (journal replica business : Option WorkFault) (producers : List (Option WorkFault))
+    → All IsFine (lock_endings journal replica business producers)
     → All (λ (f : Option WorkFault). f ≡ None) producers
 lock_fine journal replica business producers fine =
     let sent : List Ended = numbered 16 producers in

@@ -27,7 +27,8 @@ promised_more P old new x pushed before last k d below =
     k (omega arith)
 
 -- nobody has called through those that are left
-pub rest_unused : (ends left : List (EndView Event)) (end : EndView Event) → ends ≡ end ∷ left → All (λ (e : EndView Event). e ≡ no_calls) ends → All (λ (e : EndView Event). e ≡ no_calls) left
+pub rest_unused : (ends left : List (EndView Event)) (end : EndView Event) → ends ≡ end ∷ left → All (λ (e : EndView Event). e ≡ no_calls) ends
+    → All (λ (e : EndView Event). e ≡ no_calls) left
 rest_unused ends left end taken unused =
     let IsUnused : EndView Event → Type 0 = λ e. e ≡ no_calls in
     All-tail IsUnused end left (subst (All IsUnused) taken unused)
@@ -47,12 +48,14 @@ pub record IsPromised {G Z : Type 0} (given : G) (each : ℕ) (scripts : List (V
 
 -- who keeps it has sent that script
 module _ {G Z : Type 0} (begun : History Event) (may_stop must_stop : G → ℕ → ℕ → Type 0) where
-  pub sent_by : (given : G) (each : ℕ) (scripts : List (Vec Event Z)) (promise : SentBy G) (p : ℕ) (script : Vec Event Z) (back : EndView Event) (fault : Option WorkFault)
-      → IsPromised given each scripts promise p
-      → HasSent begun promise.p promise.cut promise.script.now (may_stop promise.gate.value (16 + promise.p)) (must_stop promise.gate.value (16 + promise.p)) back fault
+  pub sent_by : (given : G) (each : ℕ) (scripts : List (Vec Event Z)) (promise : SentBy G) (p : ℕ) (script : Vec Event Z) (back : EndView Event)
+      (fault : Option WorkFault) → IsPromised given each scripts promise p
+      → HasSent begun promise.p promise.cut promise.script.now (may_stop promise.gate.value (16 + promise.p))
+      (must_stop promise.gate.value (16 + promise.p)) back fault
       → HasSent begun p each (get_or scripts p script).items (may_stop given (16 + p)) (must_stop given (16 + p)) back fault
   sent_by given each scripts promise p script back fault is kept =
       subst (λ c. HasSent begun p c (get_or scripts p script).items (may_stop given (16 + p)) (must_stop given (16 + p)) back fault) is.cut
       (subst (λ l. HasSent begun p promise.cut l (may_stop given (16 + p)) (must_stop given (16 + p)) back fault) (is.events script)
       (subst (λ n. HasSent begun n promise.cut promise.script.now (may_stop given (16 + n)) (must_stop given (16 + n)) back fault) is.number
-      (subst (λ x. HasSent begun promise.p promise.cut promise.script.now (may_stop x (16 + promise.p)) (must_stop x (16 + promise.p)) back fault) is.gate kept)))
+      (subst (λ x. HasSent begun promise.p promise.cut promise.script.now (may_stop x (16 + promise.p))
+      (must_stop x (16 + promise.p)) back fault) is.gate kept)))

@@ -47,7 +47,8 @@ of_file Holds (Some bytes) given events same is holds =
 -- a beginning of the report of a merge was written
 pub cut_merge : (size : ℕ) (old new input : Option (List ℕ)) (events : List Event) (text : List ℕ)
     → IfSome input (λ bytes. events_of bytes ≡ Ok events) → IsReportOfMerge (IsOfReplay size events) events text → AppendsFront old new text
-    → IfSome input (λ bytes. (found : List Event) × (said : List ℕ) × (events_of bytes ≡ Ok found) × IsReportOfMerge (IsOfReplay size found) found said × AppendsFront old new said)
+    → IfSome input (λ bytes. (found : List Event) × (said : List ℕ) × (events_of bytes ≡ Ok found) × IsReportOfMerge (IsOfReplay size found) found said
+    × AppendsFront old new said)
 cut_merge size old new None events text is of_merge wrote = tt
 cut_merge size old new (Some bytes) events text is of_merge wrote = (events, text, is, of_merge, wrote)
 

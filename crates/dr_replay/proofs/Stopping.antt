@@ -39,7 +39,8 @@ module _ (may_stop : ℕ → Type 0) where
 
   -- producers' workers that each were stopped by their gate alone
   pub numbered_stopped : {X : Type 0} (fault_of : X → Option WorkFault) (who : ℕ) (given : List X)
-      → ((k : ℕ) (d : X) → k < length given → fault_of (get_or given k d) ≡ Some Stopped → may_stop (who + k)) → AreStopped may_stop (numbered who (map fault_of given))
+      → ((k : ℕ) (d : X) → k < length given → fault_of (get_or given k d) ≡ Some Stopped → may_stop (who + k))
+      → AreStopped may_stop (numbered who (map fault_of given))
   numbered_stopped fault_of who [] each = All-nil IsStopped
   numbered_stopped fault_of who (x ∷ given) each =
       let first : who + 0 ≡ who = omega arith in
@@ -96,7 +97,8 @@ pub joined_stopped : {L Z : Type 0} (begun : History Event) (may_stop must_stop 
     (lock_endings (error_of joined.journal.part) (error_of joined.replica.part) (error_of joined.business.part) (map (λ s. s.fault) joined.producers.items))
 joined_stopped begun may_stop must_stop size scripts joined is =
     let at_some_passage : ℕ → Type 0 = λ who. (passage : ℕ) × may_stop who passage in
-    lock_stopped at_some_passage (error_of joined.journal.part) (error_of joined.replica.part) (error_of joined.business.part) (map (λ s. s.fault) joined.producers.items)
+    lock_stopped at_some_passage (error_of joined.journal.part) (error_of joined.replica.part) (error_of joined.business.part)
+    (map (λ s. s.fault) joined.producers.items)
     is.journal.stopped is.replica.stopped is.business.stopped
     (numbered_stopped at_some_passage (λ s. s.fault) 16 joined.producers.items
     (λ k d below. (is.producers.each k d (some_of scripts k (subst (λ n. k < n) is.producers.many below)) below).stopped))

@@ -50,7 +50,16 @@ kept_opening k graph some_slot = let n = words_of k in let ws = zeros n in let h
       }));
   room = λ f final. omega arith;
   payload = record { events = λ s lt near. absurd (omega arith); writes = λ i v e. absurd (cc); halves = λ x e. absurd (cc) };
-  flags = record { halt = omega arith; close = omega arith; by_sender = λ y. absurd (cc); by_halter = λ y. absurd (cc); closed = λ y. absurd (cc); known_halt = λ y. absurd (omega arith); known_close = λ y. absurd (omega arith); complete = λ y. absurd (omega arith) };
+  flags = record {
+    halt = omega arith;
+    close = omega arith;
+    by_sender = λ y. absurd (cc);
+    by_halter = λ y. absurd (cc);
+    closed = λ y. absurd (cc);
+    known_halt = λ y. absurd (omega arith);
+    known_close = λ y. absurd (omega arith);
+    complete = λ y. absurd (omega arith);
+  };
   looks = λ i x there. absurd (some-ne-none x (sym there));
 }
 

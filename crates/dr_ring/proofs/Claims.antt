@@ -147,7 +147,8 @@ module _ {r s t e : SenderRecord} {xs : List Look} {n q needed : ℕ} (S : Scann
   pub claim_no_room : IsShort s.plan xs needed → TriesToClaim e q t (Err NoRoom)
   claim_no_room short =
       let H = subst (λ (k : Shape). IsShort k xs needed) plan short in
-      let only : t ≡ sender_saw r (look halt_word 0 ∷ gate_looks r H.counts) = scanned.is ∙ ap (λ (ys : List Look). sender_saw r (look halt_word 0 ∷ ys)) H.are in
+      let only : t ≡ sender_saw r (look halt_word 0 ∷ gate_looks r H.counts) =
+      scanned.is ∙ ap (λ (ys : List Look). sender_saw r (look halt_word 0 ∷ ys)) H.are in
       let sent : t.sent ≡ r.sent = ap (λ (x : SenderRecord). x.sent) only in
       subst (λ (x : SenderRecord). TriesToClaim x q t (Err NoRoom)) S.same (record {
         answer = inr (refl, inr (bad_count_fails q r.plan.size S.size, inr (refl, inr (within, inl (tt, refl)))));

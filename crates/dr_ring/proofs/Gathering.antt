@@ -124,9 +124,10 @@ pub has_run : (k : Shape) (v after now : View EndRecord Step) (s : SenderEnd) (e
 has_run k v after now s es t T leads laws =
     let A = all_stand k v after now s es t T in let R = T.ran.reached in let w = T.ran.world in
     let plan : k ≡ s.knows.plan = sym A.rule.sender_plan ∙ ap (λ (q : SenderRecord). q.plan) A.sender in
-    let P : Shape
-    → Type 0 = λ p. Runs p R.steps R.entries (new_world p) w × LeadsTo (ring_setup p) R.entries (picture_of p w) × Laws (ring_setup p) R.entries in
-    let all : P s.knows.plan = subst P plan (R.runs, leads k R.steps R.entries w R.made.0 R.made.1 R.runs, laws k R.steps R.entries w R.made.0 R.made.1 R.runs) in record {
+    let P : Shape → Type 0 =
+    λ p. Runs p R.steps R.entries (new_world p) w × LeadsTo (ring_setup p) R.entries (picture_of p w) × Laws (ring_setup p) R.entries in
+    let all : P s.knows.plan = subst P plan
+    (R.runs, leads k R.steps R.entries w R.made.0 R.made.1 R.runs, laws k R.steps R.entries w R.made.0 R.made.1 R.runs) in record {
       steps = R.steps;
       entries = R.entries;
       world = w;

@@ -33,7 +33,8 @@ no_claim : (w : World) (n m : ℕ) → HaltedAt n w → claimed (halt_looked w.s
 no_claim w n m H =
     let found = word_at w.words halt_word in let more : List (Option Event) = if found == 0 then replicate m None else [] in
     let none : more ≡ [] = rw (ne_eqb found 0 (λ (e : found ≡ 0). (let h = H.0 in omega arith))) refl in
-    let len : length (w.sender.sent.pending ++ more) ≡ length w.sender.sent.pending = ap (λ (xs : List (Option Event)). length (w.sender.sent.pending ++ xs)) none ∙ ap length (append-nil w.sender.sent.pending) in
+    let len : length (w.sender.sent.pending ++ more) ≡ length w.sender.sent.pending =
+    ap (λ (xs : List (Option Event)). length (w.sender.sent.pending ++ xs)) none ∙ ap length (append-nil w.sender.sent.pending) in
     let c = H.1 in omega arith
 
 pub still_claimed : (r : SenderRecord) (m : ℕ) → length r.sent.published < m → m ≤ claimed r → AreWritten r m → claimed (published_to r m) ≡ claimed r
@@ -52,11 +53,12 @@ halted_step k (SenderStoresSecond v) w u n H K is =
       (let c = is.1 in
           omega (
             arith,
-            length-set w.sender.sent.pending (H.0.sequence - length w.sender.sent.published) (let x : Option Event = Some record { first = H.0.first; second = v } in
-                x),
+            length-set w.sender.sent.pending (H.0.sequence - length w.sender.sent.published)
+                (let x : Option Event = Some record { first = H.0.first; second = v } in x),
           )),
     )
-halted_step k (SenderPublishes m) w u n H K is = subst (HaltedAt n) (sym H.4) (other_word w n cursor_word m (λ e. omega arith) is.0, still_claimed w.sender m H.0 H.1 H.2 ∙ is.1)
+halted_step k (SenderPublishes m) w u n H K is =
+    subst (HaltedAt n) (sym H.4) (other_word w n cursor_word m (λ e. omega arith) is.0, still_claimed w.sender m H.0 H.1 H.2 ∙ is.1)
 halted_step k SenderHalts w u n H K is = let wide = K.wide in subst (HaltedAt n) (sym H) (get_or-set_same w.words halt_word 1 0 (omega arith), is.1)
 halted_step k SenderCloses w u n H K is = subst (HaltedAt n) (sym H.2) (other_word w n closed_word 1 (λ e. omega arith) is.0, is.1)
 halted_step k (ReceiverLooksAtClosed h) w u n H K is = subst (HaltedAt n) (sym H.2) is

@@ -33,9 +33,9 @@ use Rattle.dr_ring.specs.Calls.Receiving.{Answers}
 use Rattle.dr_runs.specs.Polls.{PollLooks, offer, handed}
 use Rattle.dr_ring.specs.Calls.Replies.{HandsWhatWasThere}
 use Rattle.dr_runs.proofs.Elements.{at_below}
-use Rattle.dr_ring.proofs.Keeps.{word_at}
+use Rattle.dr_ring.proofs.Keeps.{word_at, inside_of}
 use Rattle.dr_runs.proofs.Completions.{count_at, upstream_inside}
-use Rattle.dr_ring.proofs.Pictures.{keeps_step, inside_of}
+use Rattle.dr_ring.proofs.Pictures.{keeps_step}
 use Rattle.dr_ring.proofs.Replies.{at_front}
 use Rattle.dr_ring.proofs.Rising.{rises_step}
 
@@ -52,8 +52,8 @@ nothing_seen k w r r' same = ([], same ∙ sym (append-nil r.looks), All-nil (Fo
 
 -- a look finds the word as it is
 one_seen : (k : Shape) (w : World) (r r' : ReceiverRecord) (i : ℕ) → r'.looks ≡ r.looks ++ look i (word_at w.words i) ∷ [] → SawLater k w r r'
-one_seen k w r r' i same =
-    (look i (word_at w.words i) ∷ [], same, All-cons (FoundLater k w) (look i (word_at w.words i)) [] (λ lt. let le : word_at w.words i ≤ word_at w.words i = omega arith in le) (All-nil (FoundLater k w)))
+one_seen k w r r' i same = let n = word_at w.words i in
+    (look i n ∷ [], same, All-cons (FoundLater k w) (look i n) [] (λ lt. let le : n ≤ n = omega arith in le) (All-nil (FoundLater k w)))
 
 -- the receiver h stands there, and has looked since
 abbrev HasSeen : Shape → World → ℕ → ReceiverRecord → List ReceiverRecord → Type 0
@@ -88,17 +88,22 @@ seen_step k (SenderPublishes n) w u h r H at = subst (Stood k w h r) (sym H.4) (
 seen_step k SenderHalts w u h r H at = subst (Stood k w h r) (sym H) (stays k w h r at)
 seen_step k SenderCloses w u h r H at = subst (Stood k w h r) (sym H.2) (stays k w h r at)
 seen_step k (ReceiverLooksAtClosed g) w u h r H at =
-    subst (Stood k w h r) (sym H.2) (changes k w h g r H.0 (receiver_looked H.0 closed_word (word_at w.words closed_word)) at H.1 (one_seen k w H.0 (receiver_looked H.0 closed_word (word_at w.words closed_word)) closed_word refl))
+    let q = receiver_looked H.0 closed_word (word_at w.words closed_word) in
+    subst (Stood k w h r) (sym H.2) (changes k w h g r H.0 q at H.1 (one_seen k w H.0 q closed_word refl))
 seen_step k (ReceiverLooksAtCursor g) w u h r H at =
-    subst (Stood k w h r) (sym H.2) (changes k w h g r H.0 (cursor_looked H.0 (word_at w.words cursor_word)) at H.1 (one_seen k w H.0 (cursor_looked H.0 (word_at w.words cursor_word)) cursor_word refl))
+    let q = cursor_looked H.0 (word_at w.words cursor_word) in
+    subst (Stood k w h r) (sym H.2) (changes k w h g r H.0 q at H.1 (one_seen k w H.0 q cursor_word refl))
 seen_step k (ReceiverLooksAtCount g c) w u h r H at =
-    subst (Stood k w h r) (sym H.2.1) (changes k w h g r H.0 (receiver_looked H.0 (count_word c) (word_at w.words (count_word c))) at H.1 (one_seen k w H.0 (receiver_looked H.0 (count_word c) (word_at w.words (count_word c))) (count_word c) refl))
+    let i = count_word c in let q = receiver_looked H.0 i (word_at w.words i) in
+    subst (Stood k w h r) (sym H.2.1) (changes k w h g r H.0 q at H.1 (one_seen k w H.0 q i refl))
 seen_step k (ReceiverLoadsFirst g) w u h r H at =
-    subst (Stood k w h r) (sym H.2.1) (changes k w h g r H.0 (half_taken H.0 (word_at w.words (payload_word k (length H.0.received) 0))) at H.1 (nothing_seen k w H.0 (half_taken H.0 (word_at w.words (payload_word k (length H.0.received) 0))) refl))
+    let q = half_taken H.0 (word_at w.words (payload_word k (length H.0.received) 0)) in
+    subst (Stood k w h r) (sym H.2.1) (changes k w h g r H.0 q at H.1 (nothing_seen k w H.0 q refl))
 seen_step k (ReceiverLoadsSecond g) w u h r H at =
-    subst (Stood k w h r) (sym H.2.3) (changes k w h g r H.0 (took H.0 record { first = H.2.0; second = word_at w.words (payload_word k (length H.0.received) 1) }) at H.1 (nothing_seen k w H.0 (took H.0 record { first = H.2.0; second = word_at w.words (payload_word k (length H.0.received) 1) }) refl))
+    let q = took H.0 record { first = H.2.0; second = word_at w.words (payload_word k (length H.0.received) 1) } in
+    subst (Stood k w h r) (sym H.2.3) (changes k w h g r H.0 q at H.1 (nothing_seen k w H.0 q refl))
 seen_step k (ReceiverCompletes g n) w u h r H at =
-    subst (Stood k w h r) (sym H.2.2) (changes k w h g r H.0 (completed_to H.0 n) at H.1 (nothing_seen k w H.0 (completed_to H.0 n) refl))
+    let q = completed_to H.0 n in subst (Stood k w h r) (sym H.2.2) (changes k w h g r H.0 q at H.1 (nothing_seen k w H.0 q refl))
 seen_step k HalterHalts w u h r H at = subst (Stood k w h r) (sym H) (stays k w h r at)
 
 -- what was found after a later moment was found after an earlier one
@@ -135,7 +140,8 @@ least_later k w (u ∷ v ∷ ups) (n ∷ []) len inside all = absurd (omega arit
 least_later k w (u ∷ v ∷ ups) (n ∷ m ∷ ns) len inside all =
     let lt : u < handlers_of k = inside u (0, omega arith, refl) in let c = count_at k.upstreams w.words u lt in
     let x : word_at w.words (count_word u) ≤ n = all 0 (look 0 0) (omega arith) (omega arith) in
-    let rest = least_later k w (v ∷ ups) (m ∷ ns) (omega arith) (λ y has. inside y (suc has.0, (let l = has.1 in omega arith), has.2)) (λ i d l. all (suc i) d (omega arith)) in omega arith
+    let rest = least_later k w (v ∷ ups) (m ∷ ns) (omega arith) (λ y has. inside y (suc has.0, (let l = has.1 in omega arith), has.2))
+    (λ i d l. all (suc i) d (omega arith)) in omega arith
 
 offered_later : (k : Shape) (w : World) (ups counts : List ℕ) (found : ℕ) → length counts ≡ length ups → ((u : ℕ) → Contains ups u → u < handlers_of k)
     → All (FoundLater k w) (count_looks ups counts) → front (picture_of k w) ≤ found → offered (picture_of k w) ups ≤ offered_by found counts
@@ -167,11 +173,12 @@ hands_what_was_there k steps es w u R K h r r' out out' polled at there P =
     let stood = seen_runs k steps es w u h r R K at in let later = stood.2 in
     let is : stood.0 ≡ r' = some-injective stood.0 r' (sym stood.1 ∙ there) in
     let xs = look closed_word seen.closed ∷ look cursor_word seen.cursor ∷ count_looks ups seen.counts in
-    let all : All (FoundLater k w) xs =
-    subst (All (FoundLater k w)) (append_cancel_left r.looks later.0 xs (sym later.1 ∙ ap (λ (q : ReceiverRecord). q.looks) is ∙ looks_of r r' out out' seen polled answer)) later.2 in
+    let looks = sym later.1 ∙ ap (λ (q : ReceiverRecord). q.looks) is ∙ looks_of r r' out out' seen polled answer in
+    let all : All (FoundLater k w) xs = subst (All (FoundLater k w)) (append_cancel_left r.looks later.0 xs looks) later.2 in
     let cursor : word_at w.words cursor_word ≤ seen.cursor = all 1 (look 0 0) (omega arith) (omega arith) in
     let published = at_front k w K in let kept = K.counts.cursor in
     let inside : (v : ℕ) → Contains ups v → v < handlers_of k = λ v has.
     upstream_inside k.upstreams K.graph h v (inside_of k w h r K at) (subst (λ (vs : List ℕ). Contains vs v) same has) in
     let more = offered_later k w ups seen.counts seen.cursor P.1.1 inside (λ i d lt. all (suc (suc i)) d (omega arith)) (omega arith) in
-    hands r r' out out' seen polled (available (ring_setup k) (picture_of k w) h) answer (subst (λ (vs : List ℕ). offered (picture_of k w) vs ≤ offer seen) same more)
+    hands r r' out out' seen polled (available (ring_setup k) (picture_of k w) h) answer
+    (subst (λ (vs : List ℕ). offered (picture_of k w) vs ≤ offer seen) same more)

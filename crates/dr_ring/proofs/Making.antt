@@ -30,7 +30,8 @@ use Rattle.dr_ring.specs.Calls.Making.{at_ring, AreFreshEnds}
 -- where each end stands in the first view
 stands_fresh : (k : Shape) (j : ℕ) (e : EndRecord) → get_elem? (fresh_ends k) j ≡ some e → (end_number e ≡ j) × Stands (new_world k) e
 stands_fresh k zero e at = subst (λ (x : EndRecord). (end_number x ≡ 0) × Stands (new_world k) x) (some-injective (Sends (fresh_sender k)) e at) (refl, refl)
-stands_fresh k (suc zero) e at = subst (λ (x : EndRecord). (end_number x ≡ 1) × Stands (new_world k) x) (some-injective (Halts (fresh_halter k)) e at) (refl, refl)
+stands_fresh k (suc zero) e at =
+    subst (λ (x : EndRecord). (end_number x ≡ 1) × Stands (new_world k) x) (some-injective (Halts (fresh_halter k)) e at) (refl, refl)
 stands_fresh k (suc (suc j)) e at =
     let rs = fresh_receivers k 0 (handlers_of k) in let t = at_map (λ (r : ReceiverRecord). Receives r) rs j e at in
     let number : t.0.number ≡ j = ap (λ (r : ReceiverRecord). r.number) (fresh_at k 0 (handlers_of k) j t.0 t.1) ∙ omega arith in
@@ -68,7 +69,15 @@ cut_rest k h n me me' lt was is = is ∙ ap rest_cut was ∙ ap (λ (rs : List R
 
 pub sits_fresh : (at own : TableId) (me : End) (k : Shape) (h : ℕ) → IsAtTable own at k → IsPlan k → h < handlers_of k
     → me ≡ as_receiver (fresh_receiver k h) → ReceiverSits at own k me h 0
-sits_fresh at own me k h table made lt is = subst (λ (m : End). ReceiverSits at own k m h 0) (sym is) (record { table = table; made = made; end = refl; plan = refl; own = refl; handler = lt; looks = refl })
+sits_fresh at own me k h table made lt is = subst (λ (m : End). ReceiverSits at own k m h 0) (sym is) (record {
+  table = table;
+  made = made;
+  end = refl;
+  plan = refl;
+  own = refl;
+  handler = lt;
+  looks = refl;
+})
 
 abbrev zeros : ℕ → List ℕ
 zeros n = replicate n 0
@@ -76,8 +85,10 @@ zeros n = replicate n 0
 pub listed_next : (t : TableId) (k : Shape) (h n : ℕ) (items new : List ReceiverEnd) (e : ReceiverEnd) (all : List ReceiverEnd) → h < n
     → items ++ map (at_ring t) (fresh_receivers k h (n - h)) ≡ all → new ≡ items ++ e ∷ [] → e ≡ at_ring t (fresh_receiver k h)
     → new ++ map (at_ring t) (fresh_receivers k (h + 1) (n - (h + 1))) ≡ all
-listed_next t k h n items new e all lt was is own = ap (λ (xs : List ReceiverEnd). xs ++ map (at_ring t) (fresh_receivers k (h + 1) (n - (h + 1)))) (is ∙ ap (λ (x : ReceiverEnd). items ++ x ∷ []) own)
-    ∙ append_assoc items (at_ring t (fresh_receiver k h) ∷ []) (map (at_ring t) (fresh_receivers k (h + 1) (n - (h + 1))))
+listed_next t k h n items new e all lt was is own =
+    let rest = map (at_ring t) (fresh_receivers k (h + 1) (n - (h + 1))) in
+    ap (λ (xs : List ReceiverEnd). xs ++ rest) (is ∙ ap (λ (x : ReceiverEnd). items ++ x ∷ []) own)
+    ∙ append_assoc items (at_ring t (fresh_receiver k h) ∷ []) rest
     ∙ ap (λ (rs : List ReceiverRecord). items ++ map (at_ring t) rs) (sym (fresh_next k h n lt)) ∙ was
 
 pub view_fresh : (t own : TableId) (me : Sitting) (k : Shape) (h : ℕ) → own ≡ t → me ≡ own_seat k h → receiver_end own me ≡ at_ring t (fresh_receiver k h)
@@ -89,15 +100,18 @@ some_words k n ws count is = let z : ℕ = 0 in let same = ap length is in let l
 fresh_end : (k : Shape) (t : TableId) (h n i : ℕ) (e : ReceiverEnd) → get_elem? (map (at_ring t) (fresh_receivers k h n)) i ≡ some e
     → (e.ring ≡ t) × (e.knows.number ≡ h + i)
 fresh_end k t h zero i e at = absurd (cc)
-fresh_end k t h (suc n) zero e at = subst (λ (x : ReceiverEnd). (x.ring ≡ t) × (x.knows.number ≡ h + 0)) (some-injective (at_ring t (fresh_receiver k h)) e at) (refl, omega arith)
+fresh_end k t h (suc n) zero e at =
+    subst (λ (x : ReceiverEnd). (x.ring ≡ t) × (x.knows.number ≡ h + 0)) (some-injective (at_ring t (fresh_receiver k h)) e at) (refl, omega arith)
 fresh_end k t h (suc n) (suc i) e at = let r = fresh_end k t (suc h) n i e at in let m = r.1 in (r.0, omega arith)
 
 -- the ends of a new ring are all of its ends
 pub all_fresh : (k : Shape) (s : SenderEnd) (rs : List ReceiverEnd) (t : HalterEnd) → AreFreshEnds k s rs t → AreAllEnds s rs t
 all_fresh k s rs t F = record {
-  all = ap length F.receivers ∙ length-map (fresh_receivers k 0 (handlers_of k)) (at_ring s.ring) ∙ fresh_count k 0 (handlers_of k) ∙ sym (ap (λ (q : SenderRecord). handlers_of q.plan) F.sender);
+  all = ap length F.receivers ∙ length-map (fresh_receivers k 0 (handlers_of k)) (at_ring s.ring) ∙ fresh_count k 0 (handlers_of k)
+      ∙ sym (ap (λ (q : SenderRecord). handlers_of q.plan) F.sender);
   each = λ h e at. (
-      let x : (e.ring ≡ s.ring) × (e.knows.number ≡ 0 + h) = fresh_end k s.ring 0 (handlers_of k) h e (subst (λ (xs : List ReceiverEnd). get_elem? xs h ≡ some e) F.receivers at) in
+      let x : (e.ring ≡ s.ring) × (e.knows.number ≡ 0 + h) =
+      fresh_end k s.ring 0 (handlers_of k) h e (subst (λ (xs : List ReceiverEnd). get_elem? xs h ≡ some e) F.receivers at) in
       let m = x.1 in (x.0, omega arith));
   halter = ap (λ (x : HalterEnd). x.ring) F.halter;
 }
@@ -107,7 +121,8 @@ pub all_receiver : (s : SenderEnd) (rs : List ReceiverEnd) (t : HalterEnd) (h : 
     → e'.knows.number ≡ e.knows.number → AreAllEnds s (set rs h e') t
 all_receiver s rs t h e e' A here ring number = record {
   all = length-set rs h e' ∙ A.all;
-  each = each_set (λ j x. (x.ring ≡ s.ring) × (x.knows.number ≡ j)) rs h e' (let was = A.each h e here in (ring ∙ was.0, number ∙ was.1)) (λ j x ne at. A.each j x at);
+  each = each_set (λ j x. (x.ring ≡ s.ring) × (x.knows.number ≡ j)) rs h e' (let was = A.each h e here in (ring ∙ was.0, number ∙ was.1))
+      (λ j x ne at. A.each j x at);
   halter = A.halter;
 }
 

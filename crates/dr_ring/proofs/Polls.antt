@@ -30,10 +30,14 @@ saw closed cursor counts = record { closed = closed; cursor = cursor; counts = c
 
 -- the three rounds of looks, as one
 round_is : (r : ReceiverRecord) (closed cursor : ℕ) (xs : List Look)
-    → receiver_saw (looked_twice r closed cursor) xs ≡ record r { told = r.told || ((closed == 1) && (cursor == length r.received)); looks = r.looks ++ look closed_word closed ∷ look cursor_word cursor ∷ xs }
+    → receiver_saw (looked_twice r closed cursor) xs ≡ record r {
+      told = r.told || ((closed == 1) && (cursor == length r.received));
+      looks = r.looks ++ look closed_word closed ∷ look cursor_word cursor ∷ xs;
+    }
 round_is r closed cursor xs = λ i. record r {
   told = r.told || ((last_look_more 0 r.looks closed_word closed i == 1) && (cursor == length r.received));
-  looks = (ap (λ (ys : List Look). ys ++ xs) (append_assoc r.looks (look closed_word closed ∷ []) (look cursor_word cursor ∷ [])) ∙ append_assoc r.looks (look closed_word closed ∷ look cursor_word cursor ∷ []) xs) i;
+  looks = (ap (λ (ys : List Look). ys ++ xs) (append_assoc r.looks (look closed_word closed ∷ []) (look cursor_word cursor ∷ []))
+      ∙ append_assoc r.looks (look closed_word closed ∷ look cursor_word cursor ∷ []) xs) i;
 }
 
 pub round_of : (r s : ReceiverRecord) (closed cursor available : ℕ) → (L : LooksAtUpstreams (looked_twice r closed cursor) cursor s available)
@@ -60,14 +64,17 @@ poll_nothing r s out closed cursor available taken next L flag ahead none =
     let P : Polled → Type 0 = λ p. Answers r out s out (saw closed cursor L.counts) p in
     elim (cases_eq cursor taken) [
       | inl all ↦ elim (cases_eq closed 1) [
-        | inl one ↦ subst P (sym (drains closed cursor taken one all)) (one, omega arith, sym L.offered ∙ level, round, ap (λ (q : ReceiverRecord). q.told) round ∙ is_told r closed cursor one (omega arith), refl)
+        | inl one ↦
+            let told = ap (λ (q : ReceiverRecord). q.told) round ∙ is_told r closed cursor one (omega arith) in
+            subst P (sym (drains closed cursor taken one all)) (one, omega arith, sym L.offered ∙ level, round, told, refl)
         | inr still ↦ subst P (sym (idles closed cursor taken still (omega arith))) (omega arith, omega arith, sym L.offered ∙ level, round, refl)
       ]
       | inr more ↦ (
           let taken_least = L.taken in
           let ups : ups_of r ≢ [] = λ e. more (let c = only_cursor (looked_twice r closed cursor) s cursor available e L in omega arith) in
           let at : available ≡ length r.received = omega arith in
-          subst P (sym (gates closed cursor taken more (omega arith))) (omega arith, subst (λ (n : ℕ). Contains L.counts n) at (L.found ups), sym L.offered ∙ at, round, refl))
+          let found = subst (λ (n : ℕ). Contains L.counts n) at (L.found ups) in
+          subst P (sym (gates closed cursor taken more (omega arith))) (omega arith, found, sym L.offered ∙ at, round, refl))
     ]
 
 -- what is offered is offered as far as the receiver saw
@@ -79,8 +86,11 @@ offers r s closed cursor available upto L le = let q = looked_twice r closed cur
       completed = λ u has. (let a = L.completed u has in omega arith);
       published = λ e. (
           let c : available ≡ cursor = only_cursor q s cursor available e L in
-          let same : q.looks ++ count_looks (ups_of q) L.counts ≡ q.looks = ap (λ (ups : List ℕ). q.looks ++ count_looks ups L.counts) e ∙ append-nil q.looks in
-          let b : last_look 0 (q.looks ++ count_looks (ups_of q) L.counts) cursor_word ≡ cursor = ap (λ (xs : List Look). last_look 0 xs cursor_word) same ∙ last_look_more 0 (r.looks ++ look closed_word closed ∷ []) cursor_word cursor in omega arith);
+          let same : q.looks ++ count_looks (ups_of q) L.counts ≡ q.looks =
+          ap (λ (ups : List ℕ). q.looks ++ count_looks ups L.counts) e ∙ append-nil q.looks in
+          let b : last_look 0 (q.looks ++ count_looks (ups_of q) L.counts) cursor_word ≡ cursor =
+          ap (λ (xs : List Look). last_look 0 xs cursor_word) same
+          ∙ last_look_more 0 (r.looks ++ look closed_word closed ∷ []) cursor_word cursor in omega arith);
     })
 
 -- the fields after a batch
@@ -103,7 +113,8 @@ told_nothing r s closed cursor available L before told =
           let c = only_cursor (looked_twice r closed cursor) s cursor available none L in
           elim (either_true r.told _ told) [
             | inl old ↦ (let b = before old in omega arith)
-            | inr new ↦ (let all = eqb-true cursor (length r.received) (second_true (last_look 0 (receiver_looked r closed_word closed).looks closed_word == 1) (cursor == length r.received) new) in omega arith)
+            | inr new ↦ (let one = last_look 0 (receiver_looked r closed_word closed).looks closed_word == 1 in
+                let all = eqb-true cursor (length r.received) (second_true one (cursor == length r.received) new) in omega arith)
           ])
       | inr some ↦ L.told told some
     ]
@@ -128,4 +139,5 @@ poll_batch r s t out out' closed cursor available taken count last next L before
 -- the looks of a poll, by the record from before it
 pub seen_round : (r q s t : ReceiverRecord) (closed cursor available : ℕ) → q ≡ receiver_looked r closed_word closed → s ≡ cursor_looked q cursor
     → LooksAtUpstreams s cursor t available → LooksAtUpstreams (looked_twice r closed cursor) cursor t available
-seen_round r q s t closed cursor available first second L = subst (λ (x : ReceiverRecord). LooksAtUpstreams x cursor t available) (second ∙ ap (λ (x : ReceiverRecord). cursor_looked x cursor) first) L
+seen_round r q s t closed cursor available first second L =
+    subst (λ (x : ReceiverRecord). LooksAtUpstreams x cursor t available) (second ∙ ap (λ (x : ReceiverRecord). cursor_looked x cursor) first) L

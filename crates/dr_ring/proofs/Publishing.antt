@@ -14,7 +14,8 @@ use Rattle.dr_runs.proofs.Answering.{accepted, unwritten, out_of_order}
 use Rattle.dr_ring.proofs.Noting.{noted_written, unnoted_open}
 
 -- A sender that publishes from lo to hi: what is said of the sender is said of its end.
-module _ {r e : SenderRecord} {f : SenderFields} {lo hi : ℕ} (same : r ≡ e) (fits : SenderFits r f) (order : lo ≤ hi) (within : hi < f.claimed) (fresh : f.published ≤ lo) where
+module _ {r e : SenderRecord} {f : SenderFields} {lo hi : ℕ} (same : r ≡ e) (fits : SenderFits r f) (order : lo ≤ hi)
+    (within : hi < f.claimed) (fresh : f.published ≤ lo) where
   -- every sequence of a stretch that is all noted is written
   ready : AreNoted f.written lo hi → (s : ℕ) → lo ≤ s → s ≤ hi → (v : Event) × (get_or r.sent.pending (s - length r.sent.published) None ≡ Some v)
   ready all s after below = let next = fits.next in let front = fits.front in

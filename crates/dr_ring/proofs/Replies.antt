@@ -31,8 +31,8 @@ use Rattle.dr_ring.specs.Calls.Replies.{Replies, DecidesClaim, DecidesPoll, Repl
 use Rattle.dr_runs.proofs.Elements.{there, value_at}
 use Rattle.dr_runs.proofs.Replies as one
 use Rattle.dr_runs.proofs.Replies.{Picture, IsKept, Shows, HasRoom, IsAt}
-use Rattle.dr_ring.proofs.Keeps.{receiver_of_handler}
-use Rattle.dr_ring.proofs.Pictures.{values_of, taken_at, inside_of, claim_room, claim_fits}
+use Rattle.dr_ring.proofs.Keeps.{receiver_of_handler, inside_of}
+use Rattle.dr_ring.proofs.Pictures.{values_of, taken_at, claim_room, claim_fits}
 
 -- the look at one place, among those at some words
 look_at_place : (word_of : ℕ → ℕ) (hs counts : List ℕ) (i : ℕ) → i < length hs → i < length counts
@@ -83,12 +83,14 @@ module _ (k : Shape) (w : World) (K : KeepsRule k w) where
   -- what a claim without room found: the ring on, and a final too far behind
   pub no_room_at : (n before : ℕ) (r : SenderRecord) (counts : List ℕ) → w.sender ≡ record r { looks = w.sender.looks } → length counts ≡ before + 1
       → length counts ≤ length (finals r.plan.upstreams) → r.plan.size + get_or counts before 0 < claimed r + n
-      → ((i : ℕ) (x : Look) → get_elem? (look halt_word 0 ∷ looks_at count_word (finals r.plan.upstreams) counts) i ≡ some x → get_or w.words x.word 0 ≤ x.value)
+      → ((i : ℕ) (x : Look) → get_elem? (look halt_word 0 ∷ looks_at count_word (finals r.plan.upstreams) counts) i ≡ some x
+      → get_or w.words x.word 0 ≤ x.value)
       → Decided n (Err NoRoom)
   no_room_at n before r counts same last among behind low =
       let hs = finals r.plan.upstreams in let here : before < length hs = omega arith in
       let on = low 0 (look halt_word 0) refl in
-      let now = low (suc before) (look (count_word (get_or hs before 0)) (get_or counts before 0)) (look_at_place count_word hs counts before here (omega arith)) in
+      let now = low (suc before) (look (count_word (get_or hs before 0)) (get_or counts before 0))
+      (look_at_place count_word hs counts before here (omega arith)) in
       let x = there hs before here in let f = get_or hs before 0 in
       let has : Contains hs f = (before, here, value_at hs before x.0 f x.1 ∙ sym (value_at hs before x.0 0 x.1)) in
       let plan : r.plan ≡ k = sym (ap (λ (q : SenderRecord). q.plan) same) ∙ K.sender_plan in

@@ -39,7 +39,8 @@ module _ (i : ℕ) where
   rises_step k (SenderStoresFirst s v) w u lt H K = subst (Rises i w) (sym H.2) (other_word w.words i (payload_word k s 0) v (λ e. omega arith))
   rises_step k (SenderStoresSecond v) w u lt H K = subst (Rises i w) (sym H.2) (other_word w.words i (payload_word k H.0.sequence 1) v (λ e. omega arith))
   rises_step k (SenderPublishes n) w u lt H K =
-      let wide = K.wide in let more = H.0 in let cursor = K.counts.cursor in subst (Rises i w) (sym H.4) (raised_word w.words i cursor_word n (omega arith) (omega arith))
+      let wide = K.wide in let more = H.0 in let cursor = K.counts.cursor in
+      subst (Rises i w) (sym H.4) (raised_word w.words i cursor_word n (omega arith) (omega arith))
   rises_step k SenderHalts w u lt H K = let wide = K.wide in subst (Rises i w) (sym H) (raised_word w.words i halt_word 1 (omega arith) K.flags.halt)
   rises_step k SenderCloses w u lt H K = let wide = K.wide in subst (Rises i w) (sym H.2) (raised_word w.words i closed_word 1 (omega arith) K.flags.close)
   rises_step k (ReceiverLooksAtClosed h) w u lt H K = subst (Rises i w) (sym H.2) (omega arith)

@@ -92,7 +92,8 @@ pub round_more : (ups : List ℕ) (r s s' : ReceiverRecord) (cursor available av
     → available' ≡ lesser_of (i == 0) v available → Round ups r cursor available' (i + 1) s'
 round_more ups r s s' cursor available available' i u v R lt at is le told new =
     let xs = count_looks (take i ups) R.counts in let len = R.each in
-    let next : count_looks (take (i + 1) ups) (R.counts ++ v ∷ []) ≡ xs ++ look (count_word u) v ∷ [] = looks_more count_word ups R.counts i v R.each lt ∙ ap (λ (w : ℕ). xs ++ look (count_word w) v ∷ []) at in
+    let next : count_looks (take (i + 1) ups) (R.counts ++ v ∷ []) ≡ xs ++ look (count_word u) v ∷ [] =
+    looks_more count_word ups R.counts i v R.each lt ∙ ap (λ (w : ℕ). xs ++ look (count_word w) v ∷ []) at in
     let offer = offers_more cursor v available available' R.counts (i == 0) (ap (λ (m : ℕ). m == 0) (sym len)) R.offered new in
     let low = offer.1 in let down = offer.2 in
     let received : length r.received ≤ v = subst (λ (q : ReceiverRecord). length q.received ≤ v) R.is le in
@@ -100,7 +101,8 @@ round_more ups r s s' cursor available available' i u v R lt at is le told new =
     let P : List Look → ℕ → Type 0 = λ ys w. available' ≤ last_look 0 ys w in record {
       counts = R.counts ++ v ∷ [];
       each = omega (arith, length-append R.counts (v ∷ []));
-      is = is ∙ ap (λ (q : ReceiverRecord). receiver_looked q (count_word u) v) R.is ∙ ap (λ (ys : List Look). record r { looks = ys }) (append_assoc r.looks xs (look (count_word u) v ∷ [])) ∙ ap (receiver_saw r) (sym next);
+      is = is ∙ ap (λ (q : ReceiverRecord). receiver_looked q (count_word u) v) R.is
+          ∙ ap (λ (ys : List Look). record r { looks = ys }) (append_assoc r.looks xs (look (count_word u) v ∷ [])) ∙ ap (receiver_saw r) (sym next);
       offered = offer.0;
       taken = elim offer.3 [ inl this ↦ omega arith | inr old ↦ (let e = old.1 in let t = R.taken in omega arith) ];
       found = λ _. elim offer.3 [
@@ -110,9 +112,13 @@ round_more ups r s s' cursor available available' i u v R lt at is le told new =
       high = λ j below. subst (λ (ys : List Look). P (r.looks ++ ys) (count_word (get_or ups j 0))) (sym next)
           (subst (λ (ys : List Look). P ys (count_word (get_or ups j 0))) (append_assoc r.looks xs (look (count_word u) v ∷ []))
           (elim (cases_lt j i) [
-            | inl before ↦ (let a = R.high j before in let b = down (omega arith) in last_least 0 (r.looks ++ xs) (count_word u) v (count_word (get_or ups j 0)) available' (omega arith) low)
-            | inr here ↦ (let same : j ≡ i = omega arith in let w : count_word (get_or ups j 0) ≡ count_word u = ap (λ (m : ℕ). count_word (get_or ups m 0)) same ∙ ap count_word at in
-                let b : last_look 0 ((r.looks ++ xs) ++ look (count_word u) v ∷ []) (count_word (get_or ups j 0)) ≡ v = ap (λ (m : ℕ). last_look 0 ((r.looks ++ xs) ++ look (count_word u) v ∷ []) m) w ∙ last_look_more 0 (r.looks ++ xs) (count_word u) v in omega arith)
+            | inl before ↦ (let a = R.high j before in let b = down (omega arith) in
+                last_least 0 (r.looks ++ xs) (count_word u) v (count_word (get_or ups j 0)) available' (omega arith) low)
+            | inr here ↦ (let same : j ≡ i = omega arith in
+                let w : count_word (get_or ups j 0) ≡ count_word u = ap (λ (m : ℕ). count_word (get_or ups m 0)) same ∙ ap count_word at in
+                let b : last_look 0 ((r.looks ++ xs) ++ look (count_word u) v ∷ []) (count_word (get_or ups j 0)) ≡ v =
+                ap (λ (m : ℕ). last_look 0 ((r.looks ++ xs) ++ look (count_word u) v ∷ []) m) w
+                ∙ last_look_more 0 (r.looks ++ xs) (count_word u) v in omega arith)
           ]));
       told = λ y _. (let a = told_low y in omega arith);
     }
@@ -130,6 +136,7 @@ round_all r s cursor available i R all =
       found = λ ne. R.found (some_one ne);
       completed = λ u has. (let lt = has.1 in let at : get_or ups has.0 0 ≡ u = get_any ups has.0 0 u has.1 ∙ has.2 in
           subst (λ (m : ℕ). available ≤ last_look 0 (r.looks ++ count_looks ups R.counts) (count_word m)) at
-          (subst (λ (xs : List ℕ). available ≤ last_look 0 (r.looks ++ count_looks xs R.counts) (count_word (get_or ups has.0 0))) whole (R.high has.0 (omega arith))));
+          (subst (λ (xs : List ℕ). available ≤ last_look 0 (r.looks ++ count_looks xs R.counts) (count_word (get_or ups has.0 0))) whole
+          (R.high has.0 (omega arith))));
       told = λ y ne. R.told y (some_one ne);
     }

@@ -44,12 +44,18 @@ not_receiver k w us h q (Halts x) ne stood = stood
 
 -- what the end of a number is told of a step, and that it comes after all that it saw and stored
 abbrev Tells : ℕ → (List Step → List Step) → List (List Step) → (ℕ → End → Type 0) → ℕ → Sitting → Type 0
-Tells end grow pasts told n me' = told n (end_of me') × IsBeginning (first_past pasts) (past_of me'.0) × (stored_of me'.0 ≡ grow (stores_of ring_ends end (first_past pasts)))
+Tells end grow pasts told n me' =
+    told n (end_of me') × IsBeginning (first_past pasts) (past_of me'.0) × (stored_of me'.0 ≡ grow (stores_of ring_ends end (first_past pasts)))
+
+-- the words of a world after a step that changes one of them
+abbrev changed : World → ℕ → (ℕ → ℕ) → List ℕ
+changed w i f = set w.words i (f (get_or w.words i 0))
 
 -- a step of the sender
-pub by_sender : (k : Shape) (slots id : ℕ) (step : Step) (grow : List Step → List Step) (pasts : List (List Step)) (r : SenderRecord) (i : ℕ) (f : ℕ → ℕ) (g : ℕ → SenderRecord) (told : ℕ → End → Type 0)
+pub by_sender : (k : Shape) (slots id : ℕ) (step : Step) (grow : List Step → List Step) (pasts : List (List Step)) (r : SenderRecord)
+    (i : ℕ) (f : ℕ → ℕ) (g : ℕ → SenderRecord) (told : ℕ → End → Type 0)
     → Adds ring_ends 0 step grow
-    → ((w : World) → w.sender ≡ r → KeepsRule k w → Happens k step w (world_of (set w.words i (f (get_or w.words i 0))) (g (get_or w.words i 0)) w.receivers w.halter))
+    → ((w : World) → w.sender ≡ r → KeepsRule k w → Happens k step w (world_of (changed w i f) (g (get_or w.words i 0)) w.receivers w.halter))
     → ((w : World) → w.sender ≡ r → KeepsRule k w → told (get_or w.words i 0) (as_sender (g (get_or w.words i 0))))
     → Allows (Ruled k) slots id (seat_at (as_sender r) pasts) i f (Tells 0 grow pasts told)
 by_sender k slots id step grow pasts r i f g told adds does tells =
@@ -66,9 +72,10 @@ by_sender k slots id step grow pasts r i f g told adds does tells =
     ))
 
 -- a step of the halter
-pub by_halter : (k : Shape) (slots id : ℕ) (step : Step) (grow : List Step → List Step) (pasts : List (List Step)) (r : HalterRecord) (i : ℕ) (f : ℕ → ℕ) (g : ℕ → HalterRecord) (told : ℕ → End → Type 0)
+pub by_halter : (k : Shape) (slots id : ℕ) (step : Step) (grow : List Step → List Step) (pasts : List (List Step)) (r : HalterRecord)
+    (i : ℕ) (f : ℕ → ℕ) (g : ℕ → HalterRecord) (told : ℕ → End → Type 0)
     → Adds ring_ends 1 step grow
-    → ((w : World) → w.halter ≡ r → KeepsRule k w → Happens k step w (world_of (set w.words i (f (get_or w.words i 0))) w.sender w.receivers (g (get_or w.words i 0))))
+    → ((w : World) → w.halter ≡ r → KeepsRule k w → Happens k step w (world_of (changed w i f) w.sender w.receivers (g (get_or w.words i 0))))
     → ((w : World) → w.halter ≡ r → KeepsRule k w → told (get_or w.words i 0) (as_halter (g (get_or w.words i 0))))
     → Allows (Ruled k) slots id (seat_at (as_halter r) pasts) i f (Tells 1 grow pasts told)
 by_halter k slots id step grow pasts r i f g told adds does tells =
@@ -85,10 +92,12 @@ by_halter k slots id step grow pasts r i f g told adds does tells =
     ))
 
 -- a step of a receiver, which keeps its number
-pub by_receiver : (k : Shape) (slots id : ℕ) (step : Step) (grow : List Step → List Step) (pasts : List (List Step)) (r : ReceiverRecord) (i : ℕ) (f : ℕ → ℕ) (g : ℕ → ReceiverRecord) (told : ℕ → End → Type 0)
+pub by_receiver : (k : Shape) (slots id : ℕ) (step : Step) (grow : List Step → List Step) (pasts : List (List Step)) (r : ReceiverRecord)
+    (i : ℕ) (f : ℕ → ℕ) (g : ℕ → ReceiverRecord) (told : ℕ → End → Type 0)
     → ((n : ℕ) → (g n).number ≡ r.number)
     → Adds ring_ends (r.number + 2) step grow
-    → ((w : World) → get_elem? w.receivers r.number ≡ some r → KeepsRule k w → Happens k step w (world_of (set w.words i (f (get_or w.words i 0))) w.sender (set w.receivers r.number (g (get_or w.words i 0))) w.halter))
+    → ((w : World) → get_elem? w.receivers r.number ≡ some r → KeepsRule k w
+    → Happens k step w (world_of (changed w i f) w.sender (set w.receivers r.number (g (get_or w.words i 0))) w.halter))
     → ((w : World) → get_elem? w.receivers r.number ≡ some r → KeepsRule k w → told (get_or w.words i 0) (as_receiver (g (get_or w.words i 0))))
     → Allows (Ruled k) slots id (seat_at (as_receiver r) pasts) i f (Tells (r.number + 2) grow pasts told)
 by_receiver k slots id step grow pasts r i f g told same adds does tells =

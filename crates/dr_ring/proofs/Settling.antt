@@ -23,7 +23,8 @@ saw_published k w h i u r x at K there which =
     let past = (K.received h r at).looks i x there in
     let before = past.before in
     let rises = past.rises in
-    ⊎_elim (λ cursor. let now : get_or w.words x.word 0 ≡ length w.sender.sent.published = ap (λ (n : ℕ). get_or w.words n 0) cursor ∙ K.counts.cursor in omega arith)
+    ⊎_elim (λ cursor. let now : get_or w.words x.word 0 ≡ length w.sender.sent.published =
+    ap (λ (n : ℕ). get_or w.words n 0) cursor ∙ K.counts.cursor in omega arith)
     (λ count.
     let below : u < handlers_of k = omega arith in
     let other = receiver_of_handler k w K u below in
@@ -41,7 +42,8 @@ agrees k w s r same at K = let was = K.received r.number r at in subst (λ (q : 
   drained = λ told. was.beginning ∙ take_whole w.sender.sent.published (length r.received) (was.told told).1;
   completed = was.completed;
   seen = λ i u x there which. saw_published k w r.number i u r x at K there which;
-  room = λ has. (let e : claimed w.sender ≤ k.size + get_or w.words (count_word r.number) 0 = K.room r.number (subst (λ (p : Shape). Contains (finals p.upstreams) r.number) K.sender_plan has) in
+  room = λ has. (let final = subst (λ (p : Shape). Contains (finals p.upstreams) r.number) K.sender_plan has in
+      let e : claimed w.sender ≤ k.size + get_or w.words (count_word r.number) 0 = K.room r.number final in
       let size : w.sender.plan.size ≡ k.size = ap (λ (p : Shape). p.size) K.sender_plan in let count = was.count in omega arith);
 })
 

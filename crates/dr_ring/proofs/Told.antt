@@ -31,7 +31,8 @@ Heard w h = WasTold (λ (r : ReceiverRecord). r.told) w.receivers h
 stays : (w u : World) (h : ℕ) → u.receivers ≡ w.receivers → Heard u h → Heard w h
 stays w u h same now = all_stay (λ (r : ReceiverRecord). r.told) w.receivers u.receivers h same now
 
-quiet : (w u : World) (g h : ℕ) (q q' : ReceiverRecord) → get_elem? w.receivers g ≡ some q → u.receivers ≡ set w.receivers g q' → q'.told ≡ q.told → Heard u h → Heard w h
+quiet : (w u : World) (g h : ℕ) (q q' : ReceiverRecord) → get_elem? w.receivers g ≡ some q
+    → u.receivers ≡ set w.receivers g q' → q'.told ≡ q.told → Heard u h → Heard w h
 quiet w u g h q q' at are same now = none_hears (λ (r : ReceiverRecord). r.told) w.receivers u.receivers g h q q' at are same now
 
 -- each look that tells a receiver so has the entry
@@ -42,10 +43,12 @@ LooksTell k = (w : World) (g : ℕ) (q : ReceiverRecord) → get_elem? w.receive
 pub look_tells : (k : Shape) (w : World) (g : ℕ) (q : ReceiverRecord) → get_elem? w.receivers g ≡ some q → tells_drained q (word_at w.words cursor_word) ≡ true
     → Contains (if tells_drained (receiver_at k w g) (word_at w.words cursor_word) then told_drained g ∷ [] else []) (told_drained {T = Event} g)
 look_tells k w g q at tells =
-    let here : tells_drained (receiver_at k w g) (word_at w.words cursor_word) ≡ true = ap (λ (x : ReceiverRecord). tells_drained x (word_at w.words cursor_word)) (is_receiver k w g q at) ∙ tells in
+    let here : tells_drained (receiver_at k w g) (word_at w.words cursor_word) ≡ true =
+    ap (λ (x : ReceiverRecord). tells_drained x (word_at w.words cursor_word)) (is_receiver k w g q at) ∙ tells in
     subst (λ (b : Bool). Contains (if b then told_drained g ∷ [] else []) (told_drained {T = Event} g)) (sym here) (0, omega arith, refl)
 
-told_step : (k : Shape) → LooksTell k → (s : Step) (w u : World) (h : ℕ) → Happens k s w u → Heard u h → Heard w h ⊎ Contains (entries_of k s w) (told_drained h)
+told_step : (k : Shape) → LooksTell k → (s : Step) (w u : World) (h : ℕ) → Happens k s w u → Heard u h
+    → Heard w h ⊎ Contains (entries_of k s w) (told_drained h)
 told_step k tell (SenderLooksAtCount f) w u h H now = inl (stays w u h (ap (λ (x : World). x.receivers) H.1) now)
 told_step k tell (SenderLooksAtHalt n) w u h H now = inl (stays w u h (ap (λ (x : World). x.receivers) H.1) now)
 told_step k tell (SenderStoresFirst s v) w u h H now = inl (stays w u h (ap (λ (x : World). x.receivers) H.2) now)
@@ -57,7 +60,9 @@ told_step k tell (ReceiverLooksAtClosed g) w u h H now =
     inl (quiet w u g h H.0 (receiver_looked H.0 closed_word (word_at w.words closed_word)) H.1 (ap (λ (x : World). x.receivers) H.2) refl now)
 told_step k tell (ReceiverLooksAtCursor g) w u h H now =
     let told : ℕ → Type 0 = λ j. Contains (entries_of k (ReceiverLooksAtCursor g) w) (told_drained j) in
-    elim (one_hears (λ (r : ReceiverRecord). r.told) w.receivers u.receivers g h H.0 (cursor_looked H.0 (word_at w.words cursor_word)) (told g) H.1 (ap (λ (x : World). x.receivers) H.2) (λ heard. elim (or_cases H.0.told (tells_drained H.0 (word_at w.words cursor_word)) heard) [
+    let cursor = word_at w.words cursor_word in
+    elim (one_hears (λ (r : ReceiverRecord). r.told) w.receivers u.receivers g h H.0 (cursor_looked H.0 cursor) (told g) H.1
+    (ap (λ (x : World). x.receivers) H.2) (λ heard. elim (or_cases H.0.told (tells_drained H.0 cursor) heard) [
       | inl before ↦ inl before
       | inr now_told ↦ inr (tell w g H.0 H.1 now_told)
     ]) now) [
@@ -69,7 +74,8 @@ told_step k tell (ReceiverLooksAtCount g c) w u h H now =
 told_step k tell (ReceiverLoadsFirst g) w u h H now =
     inl (quiet w u g h H.0 (half_taken H.0 (word_at w.words (payload_word k (length H.0.received) 0))) H.1 (ap (λ (x : World). x.receivers) H.2.1) refl now)
 told_step k tell (ReceiverLoadsSecond g) w u h H now =
-    inl (quiet w u g h H.0 (took H.0 record { first = H.2.0; second = word_at w.words (payload_word k (length H.0.received) 1) }) H.1 (ap (λ (x : World). x.receivers) H.2.3) refl now)
+    inl (quiet w u g h H.0 (took H.0 record { first = H.2.0; second = word_at w.words (payload_word k (length H.0.received) 1) }) H.1
+    (ap (λ (x : World). x.receivers) H.2.3) refl now)
 told_step k tell (ReceiverCompletes g n) w u h H now =
     inl (quiet w u g h H.0 (completed_to H.0 n) H.1 (ap (λ (x : World). x.receivers) H.2.2) refl now)
 told_step k tell HalterHalts w u h H now = inl (stays w u h (ap (λ (x : World). x.receivers) H) now)
@@ -77,7 +83,8 @@ told_step k tell HalterHalts w u h H now = inl (stays w u h (ap (λ (x : World).
 -- and nobody was told anything before a ring begins
 pub were_told : (k : Shape) → LooksTell k → (steps : List Step) (es : Transcript Event) (w : World) → Runs k steps es (new_world k) w → WereTold w es
 were_told k tell steps es w R h r at heard =
-    elim (told_runs (Happens k) (entries_of k) (λ (x : World). x.receivers) (λ (x : ReceiverRecord). x.told) (λ s v u j H. told_step k tell s v u j H) steps es (new_world k) w h R (r, at, heard)) [
+    elim (told_runs (Happens k) (entries_of k) (λ (x : World). x.receivers) (λ (x : ReceiverRecord). x.told) (λ s v u j H. told_step k tell s v u j H)
+    steps es (new_world k) w h R (r, at, heard)) [
       | inl before ↦ absurd (false≢true (sym (ap (λ (x : ReceiverRecord). x.told) (fresh_at k 0 (handlers_of k) h before.0 before.1)) ∙ before.2))
       | inr told ↦ told
     ]

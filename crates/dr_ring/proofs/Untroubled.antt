@@ -16,7 +16,8 @@ pub polls : (a b : ReceiverEnd) (before after : List Event) (trouble : Trouble) 
 polls a b before after Memory some is = is
 polls a b before after (Refused r) some is =
     ⊎_elim (λ no. false≢true no.0)
-    (λ there. ⊎_elim (λ no. false≢true no.0) (λ left. ⊎_elim (λ room. let none : length before ≡ 0 = eqb-true (length before) 0 room.0 in absurd (omega arith)) (λ more. more.1) left.1) there.1)
+    (λ there. ⊎_elim (λ no. false≢true no.0)
+    (λ left. ⊎_elim (λ room. let none : length before ≡ 0 = eqb-true (length before) 0 room.0 in absurd (omega arith)) (λ more. more.1) left.1) there.1)
     is.1.0
 
 pub takes : (a b : ReceiverEnd) (before after : List Event) (answer : Polled) → receiver_does a (PollsInto before after (Ok answer)) b

@@ -14,7 +14,8 @@ pub fits_write : {r q : SenderRecord} {f : SenderFields} {w : Written} (s : ℕ)
     → Notes f.written s w → SenderFits q (record f { written = w })
 fits_write {r = r} {f = f} {w = w} s v F is le lt notes =
     let next = F.next in let front = F.front in let near = F.near in
-    let count : length (set r.sent.pending (s - length r.sent.published) (Some v)) ≡ length r.sent.pending = length-set r.sent.pending (s - length r.sent.published) (Some v) in
+    let count : length (set r.sent.pending (s - length r.sent.published) (Some v)) ≡ length r.sent.pending =
+    length-set r.sent.pending (s - length r.sent.published) (Some v) in
     subst (λ (t : SenderRecord). SenderFits t (record f { written = w })) (sym is) (record {
       made = F.made;
       whole = refl;

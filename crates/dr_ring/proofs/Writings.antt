@@ -24,7 +24,14 @@ pub record WroteFirst (e : SenderEnd) (lo : ℕ) (events : List Event) (k : ℕ)
   pub past : IsBeginning e.past e'.past
 
 pub wrote_none : (e : SenderEnd) (lo : ℕ) (events : List Event) → WroteFirst e lo events 0 e
-wrote_none e lo events = record { place = refl; answers = λ j lt. absurd (omega arith); sent = refl; only = refl; stored = sym (append-nil e.stored); past = begins_same e.past }
+wrote_none e lo events = record {
+  place = refl;
+  answers = λ j lt. absurd (omega arith);
+  sent = refl;
+  only = refl;
+  stored = sym (append-nil e.stored);
+  past = begins_same e.past;
+}
 
 -- what another sender's record has besides what it sent
 only_more : (a b c : SenderRecord) → OnlySends a b → OnlySends b c → OnlySends a c
@@ -32,7 +39,9 @@ only_more a b c one two = two ∙ ap (λ (r : SenderRecord). record r { sent = c
 
 writes_append : (lo : ℕ) (xs : List Event) (event : Event)
     → writes_from lo (xs ++ event ∷ []) ≡ writes_from lo xs ++ SenderStoresFirst (lo + length xs) event.first ∷ SenderStoresSecond event.second ∷ []
-writes_append lo [] event = let at : lo ≡ lo + 0 = omega arith in ap (λ (n : ℕ). let steps : List Step = SenderStoresFirst n event.first ∷ SenderStoresSecond event.second ∷ [] in steps) at
+writes_append lo [] event =
+    let at : lo ≡ lo + 0 = omega arith in
+    ap (λ (n : ℕ). let steps : List Step = SenderStoresFirst n event.first ∷ SenderStoresSecond event.second ∷ [] in steps) at
 writes_append lo (x ∷ xs) event =
     let at : lo + 1 + length xs ≡ lo + length (x ∷ xs) = omega arith in
     ap (λ (steps : List Step). SenderStoresFirst lo x.first ∷ SenderStoresSecond x.second ∷ steps)
@@ -48,7 +57,8 @@ wrote_more e a b lo k s events d event less at is W C =
     let steps : ℕ → List Step = λ n. SenderStoresFirst n event.first ∷ SenderStoresSecond event.second ∷ [] in record {
       place = C.0 ∙ W.place;
       answers = below_more (λ j. WriteAnswers (Some e.knows.sent) (lo + j) (Ok tt)) k W.answers
-          (subst (λ (n : ℕ). WriteAnswers (Some e.knows.sent) n (Ok tt)) at (answer_before lo s (take k events) (Ok tt) (Some e.knows.sent) (Some a.knows.sent) W.sent C.1.0));
+          (subst (λ (n : ℕ). WriteAnswers (Some e.knows.sent) n (Ok tt)) at
+          (answer_before lo s (take k events) (Ok tt) (Some e.knows.sent) (Some a.knows.sent) W.sent C.1.0));
       sent = written_more lo k s events d event less at is (Some e.knows.sent) (Some a.knows.sent) (Some b.knows.sent) W.sent C.1.1;
       only = only_more e.knows a.knows b.knows W.only C.1.2;
       past = begins_on e.past a.past b.past W.past C.3;

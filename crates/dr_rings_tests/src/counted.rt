@@ -20,11 +20,11 @@ pub fn event(rt: &impl Abort, alive: &Arc<u64>, number: u64) -> Counted {
     }
 }
 
-/// The events that four cells begin with.
+/// The events that four cells begin with, whose numbers are no sequence's.
 pub fn four(rt: &impl Abort, alloc: Global, alive: &Arc<u64>) -> Vec<Counted> {
     let mut events = Vec::new(alloc);
-    for _ in 0..4 {
-        events.push(event(rt, alive, 0)).expect(rt, "memory");
+    for number in 100..104u64 {
+        events.push(event(rt, alive, number)).expect(rt, "memory");
     }
     events
 }

@@ -6,7 +6,7 @@ use dr_disruptor_lock::{HistoryFault, LockedFault};
 use dr_graph::GraphFault;
 use dr_lock::AuditFault;
 use dr_meaning::Refusal;
-use dr_senders::ClaimFault;
+use dr_plain_senders::ClaimFault;
 use dr_seq::Size;
 use dr_workers::WorkFault;
 use std::alloc::Global;

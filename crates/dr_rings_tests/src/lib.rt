@@ -1,10 +1,11 @@
-//! Tests of `dr_ring`, `dr_plain`, `dr_plain_senders`, `dr_senders`, `dr_disruptor` and `dr_disruptor_senders` by their
-//! public calls, of what no clause says: that the calls succeed with ample memory and threads, worked runs by their answers,
+//! Tests of `dr_ring`, `dr_plain`, `dr_plain_senders`, `dr_disruptor` and `dr_disruptor_senders` by their public calls, of what no clause says: that the calls succeed with ample memory and threads, worked runs by their answers,
 //! printed texts, which events lie where, and that threads hand all events over.
 #![tactic(auto)]
 
 #[cfg(test)]
 mod by_closures;
+#[cfg(test)]
+mod by_scripts;
 #[cfg(test)]
 mod calls;
 #[cfg(test)]
@@ -23,10 +24,6 @@ mod plain;
 mod plain_senders;
 #[cfg(test)]
 mod rows;
-#[cfg(test)]
-mod rows_of_several;
-#[cfg(test)]
-mod senders;
 #[cfg(test)]
 mod texts;
 #[cfg(test)]

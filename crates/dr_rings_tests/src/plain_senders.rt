@@ -5,6 +5,7 @@ ghost use Rattle.dr_plain_senders.specs.Calls.Settling.{AreAllEnds};
 mod endings;
 mod opening;
 mod play;
+mod rows;
 mod texts;
 mod threads;
 mod workers;

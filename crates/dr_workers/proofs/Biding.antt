@@ -7,6 +7,10 @@ use Rattle.dr_meaning.specs.Calls.Calling.{CompletesBelow, SomeCalls}
 use Rattle.dr_workers.specs.Calls.Waits.{Attended, Attends, Provided, Provides}
 use Rattle.dr_workers.specs.Inside.Retries.{Retries, tries_in}
 
+-- an end with its worker's patience
+abbrev pub end_with : {S P : Type 0} → S → P → Attended S P
+end_with e p = record { end = e; patience = p }
+
 module _ {S P E : Type 0} (does : S → OutletCall E → S → Type 0) (waits : P → P → Type 0) (finds : P → ℕ → P → Type 0) where
   called : (a b : Attended S P) (call : OutletCall E) → Attends does waits finds a call b → does a.end call b.end
   called a b (PollsInto before after answer) h = h.0
@@ -24,20 +28,21 @@ module _ {S P E : Type 0} (does : S → OutletCall E → S → Type 0) (waits : 
   -- a completion that is tried until memory suffices asks for no patience
   tries : (p : P) (upto times : ℕ) (r : Result (Unit {0}) Trouble) (a b : S)
       → CallsLead does a (replicate times (CompletesBelow upto (Err Memory)) ++ CompletesBelow upto r ∷ []) b
-      → CallsLead (Attends does waits finds) (record { end = a; patience = p }) (replicate times (CompletesBelow upto (Err Memory)) ++ CompletesBelow upto r ∷ []) (record { end = b; patience = p })
-  tries p upto zero r a b h = (record { end = h.0; patience = p }, (h.1, refl), ap (λ (x : S). record { end = x; patience = p }) h.2)
-  tries p upto (suc times) r a b h = (record { end = h.0; patience = p }, (h.1, refl), tries p upto times r h.0 b h.2)
+      → CallsLead (Attends does waits finds) (end_with a p) (replicate times (CompletesBelow upto (Err Memory)) ++ CompletesBelow upto r ∷ []) (end_with b p)
+  tries p upto zero r a b h = (end_with h.0 p, (h.1, refl), ap (λ (x : S). end_with x p) h.2)
+  tries p upto (suc times) r a b h = (end_with h.0 p, (h.1, refl), tries p upto times r h.0 b h.2)
 
   pub completing : (p : P) (upto : ℕ) (r : Result (Unit {0}) Trouble) (a b : S)
       → SomeCalls does a b (Retries (CompletesBelow upto (Err Memory)) (CompletesBelow upto r))
-      → SomeCalls (Attends does waits finds) (record { end = a; patience = p }) (record { end = b; patience = p }) (Retries (CompletesBelow upto (Err Memory)) (CompletesBelow upto r))
+      → SomeCalls (Attends does waits finds) (end_with a p) (end_with b p) (Retries (CompletesBelow upto (Err Memory)) (CompletesBelow upto r))
   completing p upto r a b h = record {
     calls = h.calls;
-    lead = subst (λ l. CallsLead (Attends does waits finds) (record { end = a; patience = p }) l (record { end = b; patience = p })) (sym h.holds.1)
+    lead = subst (λ l. CallsLead (Attends does waits finds) (end_with a p) l (end_with b p)) (sym h.holds.1)
         (tries p upto h.holds.0 r a b (subst (λ l. CallsLead does a l b) h.holds.1 h.lead));
     holds = h.holds;
   }
 
+-- and with the room that was found
 abbrev pub with_room : {S P : Type 0} → S → P → ℕ → Provided S P
 with_room e p room = record { end = e; patience = p; room = room }
 

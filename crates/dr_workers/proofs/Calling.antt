@@ -59,8 +59,11 @@ retry_more does a b c waits times h call =
 pub retried : {S C : Type 0} (does : S → C → S → Type 0) (a b c : S) (waits answered : C) (times : ℕ) → CallsLead does a (replicate times waits) b
     → does b answered c
     → SomeCalls does a c (Retries waits answered)
-retried does a b c waits answered times h call =
-    record { calls = replicate times waits ++ answered ∷ []; lead = lead_more does a b c (replicate times waits) (answered ∷ []) h (c, call, refl); holds = (times, refl) }
+retried does a b c waits answered times h call = record {
+  calls = replicate times waits ++ answered ∷ [];
+  lead = lead_more does a b c (replicate times waits) (answered ∷ []) h (c, call, refl);
+  holds = (times, refl);
+}
 
 -- what the calls that waited do not tell, the last one may
 picks_last : {C X : Type 0} (pick : C → Option X) (waits answered : C) → pick waits ≡ None → (times : ℕ)
@@ -176,7 +179,8 @@ many_writes {S} {E} does lo events wrote a b stops within (inr each) =
             ∙ ap (λ l. first ++ l) (none_accepted (lo + wrote.count) wrote.trouble (drop wrote.count events)) ∙ append-nil first;
         refused = λ r is.
             let at = there events wrote.count (stops r is) in
-            ends_after (WriteFails lo events (Refused r)) first rest (rw (drop-cons events wrote.count at.0 (stops r is)) (one_refused lo wrote.count events wrote.trouble r _ _ (at.1 ∙ ap (λ x. Some x) (sym at.2)) is));
+            ends_after (WriteFails lo events (Refused r)) first rest (rw (drop-cons events wrote.count at.0 (stops r is))
+            (one_refused lo wrote.count events wrote.trouble r _ _ (at.1 ∙ ap (λ x. Some x) (sym at.2)) is));
         order = λ cut stretch later some. each_in_order cut stretch later lo wrote.count events wrote.trouble;
         end = λ stretch later fine. each_at_end stretch later lo wrote.count events wrote.trouble fine within;
       };
@@ -202,7 +206,13 @@ pub first_none : {S E : Type 0} (does : S → InletCall E → S → Type 0) (a :
 first_none does a lo events = record {
   calls = [];
   lead = refl;
-  holds = record { tries = refl; claims = refl; accepted = refl; order = λ cut stretch rest some. tt; end = λ stretch rest. ap (λ n. ToSend stretch n events rest) (sym (add-zero lo)) };
+  holds = record {
+    tries = refl;
+    claims = refl;
+    accepted = refl;
+    order = λ cut stretch rest some. tt;
+    end = λ stretch rest. ap (λ n. ToSend stretch n events rest) (sym (add-zero lo));
+  };
 }
 
 -- the first of some events, and then the first of those that are left
@@ -254,8 +264,10 @@ ends_more : {E : Type 0} (lo done : ℕ) (events : List E) (wrote : Wrote) (xs y
     → (stretch : Claimed) (rest : List E)
     → task_at_end (ToSend stretch lo events rest) (xs ++ ys) ≡ ToSend stretch (lo + (done + wrote.count)) (drop (done + wrote.count) events) rest
 ends_more lo done events wrote xs ys fine h k stretch rest =
-    let later : task_at_end (ToSend stretch (lo + done) (drop done events) rest) ys ≡ ToSend stretch (lo + done + wrote.count) (drop wrote.count (drop done events)) rest
-    = subst (λ l. task_at_end (ToSend stretch (lo + done) l rest) ys ≡ ToSend stretch (lo + done + wrote.count) (drop wrote.count l) rest) (rest_of events done) (k.end stretch rest fine) in
+    let later : task_at_end (ToSend stretch (lo + done) (drop done events) rest) ys
+    ≡ ToSend stretch (lo + done + wrote.count) (drop wrote.count (drop done events)) rest
+    = subst (λ l. task_at_end (ToSend stretch (lo + done) l rest) ys ≡ ToSend stretch (lo + done + wrote.count) (drop wrote.count l) rest) (rest_of events done)
+    (k.end stretch rest fine) in
     task_more (ToSend stretch lo events rest) xs ys ∙ ap (λ t. task_at_end t ys) (h.end stretch rest) ∙ later
     ∙ ap (λ n. ToSend stretch n (drop wrote.count (drop done events)) rest) (add_later lo done wrote.count)
     ∙ ap (λ l. ToSend stretch (lo + (done + wrote.count)) l rest) (rest_later done wrote.count events)
@@ -295,8 +307,10 @@ all_accepted does a b lo done events all h = record {
 
 fails_later : {E : Type 0} (lo done : ℕ) (events : List E) (trouble : Trouble) (call : InletCall E)
     → WriteFails (lo + done) (drop done events) trouble call → WriteFails lo events trouble call
-fails_later lo done events trouble (WritesOne s event (Err fault)) (k, at, is, same, refusal) = (done + k, sym (event_later done k events) ∙ at, is ∙ add_later lo done k, same, refusal)
-fails_later lo done events trouble (WritesMany s some wrote) (k, at, is, same, refusal) = (done + k, at ∙ rest_later done k events, is ∙ add_later lo done k, same, refusal)
+fails_later lo done events trouble (WritesOne s event (Err fault)) (k, at, is, same, refusal) =
+    (done + k, sym (event_later done k events) ∙ at, is ∙ add_later lo done k, same, refusal)
+fails_later lo done events trouble (WritesMany s some wrote) (k, at, is, same, refusal) =
+    (done + k, at ∙ rest_later done k events, is ∙ add_later lo done k, same, refusal)
 fails_later lo done events trouble (WritesOne s event (Ok fine)) h = h
 fails_later lo done events trouble (TriesClaim n answer) h = h
 fails_later lo done events trouble (PublishesStretch from to answer) h = h
@@ -314,11 +328,16 @@ last_refused {S} {E} does a b c lo done events wrote (Refused r) is other within
     tries = untried_more h.calls k.calls h.holds.tries k.holds.tries;
     claims = none_more h.calls k.calls h.holds.claims k.holds.claims;
     trouble = λ fault same.
-        let later = ends_as (WriteFails (lo + done) (drop done events) (Refused r)) (WriteFails lo events (Refused r)) (fails_later lo done events (Refused r)) k.calls
+        let later = ends_as (WriteFails (lo + done) (drop done events) (Refused r)) (WriteFails lo events (Refused r))
+        (fails_later lo done events (Refused r)) k.calls
         (subst (λ l. EndsIn (WriteFails (lo + done) l (Refused r)) k.calls) (rest_of events done) (k.holds.refused r is)) in
         subst (λ f. EndsIn (WriteFails lo events f) (h.calls ++ k.calls)) (same_trouble (Err (Refused r)) (Refused r) fault refl same)
         (ends_after (WriteFails lo events (Refused r)) h.calls k.calls later);
-    accepted = (done + wrote.count, accepted_more lo done events wrote.count h.calls k.calls within h.holds.accepted k.holds.accepted ∙ each_written-take (done + wrote.count) lo events);
+    accepted = (
+      done + wrote.count,
+      accepted_more lo done events wrote.count h.calls k.calls within h.holds.accepted k.holds.accepted
+          ∙ each_written-take (done + wrote.count) lo events,
+    );
     order = orders_more lo done events wrote h.calls k.calls before h.holds k.holds;
     end = λ stretch rest fine. absurd (is_ok (Err (Refused r)) (Refused r) fine refl);
   };

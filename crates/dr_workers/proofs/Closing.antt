@@ -68,7 +68,8 @@ may_write n c a b claim here =
     let low = here.first in
     let high = here.last in
     let published : length b.published ≡ length a.published = ap (λ x. length x.published) claim.1 in
-    let pending : length b.pending ≡ length a.pending + n = ap (λ x. length x.pending) claim.1 ∙ length-append a.pending (replicate n None) ∙ ap (λ k. length a.pending + k) (length-replicate n None) in
+    let pending : length b.pending ≡ length a.pending + n = ap (λ x. length x.pending) claim.1 ∙ length-append a.pending (replicate n None)
+    ∙ ap (λ k. length a.pending + k) (length-replicate n None) in
     elim here.closed [ inl beyond ↦ omega arith | inr below ↦ omega arith ]
 
 -- a refused write leaves nothing open: the end shows nothing
@@ -126,12 +127,15 @@ may_publish {E} events lo hi d r ordered is f refused =
     let each : (k : ℕ) → k < hi + 1 - lo → NoneHolds CannotHold (sequence_causes (end_sequence_tests (Some d) (lo + k)))
     = λ k less.
     let here : lo + k - length d.published ≡ k = omega arith in
-    let written : is_none (open_event d (lo + k)) ≡ false = rw (here, f.pending) (written_there events k (omega arith)) in
-    (cannot (nat_lt (lo + k) (length d.published)) (grind (arith, nat_tests, first)), (cannot false refl, (cannot (is_none (open_event d (lo + k))) written, tt))) in
+    let written : is_none (open_event d (lo + k)) ≡ false = rw (here, f.pending) (written_there events k (omega arith)) in (
+      cannot (nat_lt (lo + k) (length d.published)) (grind (arith, nat_tests, first)),
+      (cannot false refl, (cannot (is_none (open_event d (lo + k))) written, tt)),
+    ) in
     let stretch = none_of_stretch MayHold CannotHold (λ s. sequence_causes (end_sequence_tests (Some d) s)) lo (hi + 1 - lo) each in
     let order : (lo == length d.published) ≡ true = grind (arith, nat_tests, first) in
     let last : NoneHolds CannotHold ((tests.out_of_order, OutOfOrder) ∷ []) = (cannot (not (lo == length d.published)) (ap not order), tt) in
-    let whole = none_join MayHold CannotHold (flat_map (λ s. sequence_causes (tests.of_sequence s)) (range_with_len lo (hi + 1 - lo))) ((tests.out_of_order, OutOfOrder) ∷ []) stretch last in
+    let whole = none_join MayHold CannotHold (flat_map (λ s. sequence_causes (tests.of_sequence s)) (range_with_len lo (hi + 1 - lo)))
+    ((tests.out_of_order, OutOfOrder) ∷ []) stretch last in
     let claimed = cannot (nat_le (claimed_in d) hi) (grind (arith, nat_tests, first, many, is)) in
     no_refusal r (publish_causes lo hi tests) (cannot false refl, (cannot (nat_lt hi lo) (grind (arith, nat_tests, ordered)), (claimed, whole))) refused
 
@@ -152,7 +156,8 @@ not_refused : {E : Type 0} (events : List E) (c : Claimed) → c.lo ≤ c.hi →
     → trouble ≢ Memory → Opens (length events) c a b
     → Writing c.lo events (length events) b d → PublishAnswers (Some d) c.lo c.hi (Err trouble) → LeavesNothingOpen a d
 not_refused events c ordered is a b d Memory other claim write answer closed = absurd (other refl)
-not_refused events c ordered is a b d (Refused r) other claim write answer closed = absurd (may_publish events c.lo c.hi d r ordered is (filled events c a b d closed claim write) answer)
+not_refused events c ordered is a b d (Refused r) other claim write answer closed =
+    absurd (may_publish events c.lo c.hi d r ordered is (filled events c a b d closed claim write) answer)
 
 abbrev pub Publishing : {E : Type 0} → Claimed → Result (Unit {0}) Trouble → Option (Sent E) → Option (Sent E) → Type 0
 Publishing c (Ok done) q s = WhereShown (Shows c.lo c.hi) q s

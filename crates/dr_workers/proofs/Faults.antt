@@ -34,7 +34,8 @@ one_or_none (Some a) = refl
 
 -- one worker more
 pub least_with_next : (number k : ℕ) (ended : List Ended) (d : Ended) → k < length ended
-    → least (faults_with number (take (k + 1) ended)) ≡ least (option_to_list (least (faults_with number (take k ended))) ++ option_to_list (fault_with number (get_or ended k d).who (get_or ended k d).fault))
+    → least (faults_with number (take (k + 1) ended))
+    ≡ least (option_to_list (least (faults_with number (take k ended))) ++ option_to_list (fault_with number (get_or ended k d).who (get_or ended k d).fault))
 least_with_next number k ended d less =
     let fault = λ (e : Ended). fault_with number e.who e.fault in
     let one : Option WorkerFault = fault (get_or ended k d) in

@@ -68,18 +68,21 @@ each_in_order cut stretch rest lo (suc k) [] None = tt
 each_in_order cut stretch rest lo (suc k) [] (Some trouble) = tt
 each_in_order cut stretch rest lo (suc k) (event ∷ events) trouble = (
   (refl, refl),
-  subst (λ n. InOrder cut (ToSend stretch (lo + 1) events rest) (each_written (lo + 1) (take k events) ++ first_in_trouble n trouble (drop k events))) (next_place lo k)
+  subst (λ n. InOrder cut (ToSend stretch (lo + 1) events rest) (each_written (lo + 1) (take k events) ++ first_in_trouble n trouble (drop k events)))
+      (next_place lo k)
       (each_in_order cut stretch rest (lo + 1) k events trouble),
 )
 
 pub each_at_end : {E : Type 0} (stretch : Claimed) (rest : List E) (lo k : ℕ) (events : List E) (trouble : Option Trouble) → WritesGoOn trouble
     → k ≤ length events
-    → task_at_end (ToSend stretch lo events rest) (each_written lo (take k events) ++ first_in_trouble (lo + k) trouble (drop k events)) ≡ ToSend stretch (lo + k) (drop k events) rest
+    → task_at_end (ToSend stretch lo events rest) (each_written lo (take k events) ++ first_in_trouble (lo + k) trouble (drop k events))
+    ≡ ToSend stretch (lo + k) (drop k events) rest
 each_at_end stretch rest lo zero events None fine within = ap (λ n. ToSend stretch n events rest) (sym (add-zero lo))
 each_at_end stretch rest lo zero [] (Some trouble) fine within = ap (λ n. ToSend stretch n [] rest) (sym (add-zero lo))
 each_at_end stretch rest lo zero (event ∷ events) (Some Memory) fine within = ap (λ n. ToSend stretch n (event ∷ events) rest) (sym (add-zero lo))
 each_at_end stretch rest lo zero (event ∷ events) (Some (Refused refusal)) fine within = absurd fine
 each_at_end stretch rest lo (suc k) [] trouble fine within = absurd (omega arith)
 each_at_end stretch rest lo (suc k) (event ∷ events) trouble fine within =
-    subst (λ n. task_at_end (ToSend stretch (lo + 1) events rest) (each_written (lo + 1) (take k events) ++ first_in_trouble n trouble (drop k events)) ≡ ToSend stretch n (drop k events) rest) (next_place lo k)
+    subst (λ n. task_at_end (ToSend stretch (lo + 1) events rest) (each_written (lo + 1) (take k events) ++ first_in_trouble n trouble (drop k events))
+    ≡ ToSend stretch n (drop k events) rest) (next_place lo k)
     (each_at_end stretch rest (lo + 1) k events trouble fine (omega arith))

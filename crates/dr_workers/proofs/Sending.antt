@@ -57,7 +57,8 @@ accepts_publication lo hi answer calls h = accepted_last (PublishesStretch lo hi
 claim_next : {E : Type 0} (cut : ℕ) (events rest : List E) (answer : Result Claimed Trouble) → 0 < length events
     → length events ≡ min (length (events ++ rest)) cut
     → IsNextStep cut (ToClaim (events ++ rest)) (TriesClaim (length events) answer)
-claim_next cut events rest answer some size = (let long : length (events ++ rest) ≡ length events + length rest = length-append events rest in omega arith, size)
+claim_next cut events rest answer some size =
+    (let long : length (events ++ rest) ≡ length events + length rest = length-append events rest in omega arith, size)
 
 claim_in_order : {E : Type 0} (cut : ℕ) (events rest : List E) (answer : Result Claimed Trouble) (calls : List (InletCall E)) → 0 < length events
     → length events ≡ min (length (events ++ rest)) cut → IsClaimed (length events) answer calls → InOrder cut (ToClaim (events ++ rest)) calls
@@ -100,7 +101,8 @@ part_unclaimed does events a b may_stop must_stop t trouble other h =
 accepts_part : {E : Type 0} (events : List E) (stretch : Claimed) (result : Result (Unit {0}) Trouble) (first rest : List (InletCall E)) → 0 < length events
     → first ≡ TriesClaim (length events) (Ok stretch) ∷ [] → AreWrittenOut (record { stretch = stretch; events = events }) result rest
     → IsPartSent events result (first ++ rest)
-accepts_part events stretch (Ok done) first rest some is written = (stretch, ap (λ l. l ++ rest) is ∙ ap (λ l. TriesClaim (length events) (Ok stretch) ∷ l) written)
+accepts_part events stretch (Ok done) first rest some is written =
+    (stretch, ap (λ l. l ++ rest) is ∙ ap (λ l. TriesClaim (length events) (Ok stretch) ∷ l) written)
 accepts_part events stretch (Err trouble) first rest some is written =
     inr (
       stretch,
@@ -130,7 +132,8 @@ pub part_claimed : {S E : Type 0} (does : S → InletCall E → S → Type 0) (e
 part_claimed {S} {E} does events claimed a b c may_stop must_stop t t' result some h k passes =
     let n = length events in
     let part : Part E = record { stretch = claimed; events = events } in
-    let one : claims_in (h.calls ++ k.calls) ≡ n ∷ [] = claims_in-append h.calls k.calls ∙ ap (λ l. l ++ claims_in k.calls) (claims_one n claimed h.calls h.holds) ∙ ap (λ l. n ∷ l) k.holds.claims in record {
+    let one : claims_in (h.calls ++ k.calls) ≡ n ∷ [] = claims_in-append h.calls k.calls
+    ∙ ap (λ l. l ++ claims_in k.calls) (claims_one n claimed h.calls h.holds) ∙ ap (λ l. n ∷ l) k.holds.claims in record {
       calls = h.calls ++ k.calls;
       lead = lead_more does a b c h.calls k.calls h.lead k.lead;
       holds = record {
@@ -138,11 +141,13 @@ part_claimed {S} {E} does events claimed a b c may_stop must_stop t t' result so
         passes = subst (λ l. Passes may_stop must_stop (length l) t t') (sym one) passes;
         trouble = λ fault is. inr (
           claimed,
-          opened events claimed fault h.calls k.calls (accepts_claim n (Ok claimed) h.calls h.holds) (subst (λ r. AreWrittenOut part r (accepted_in k.calls)) is k.holds.accepted),
+          opened events claimed fault h.calls k.calls (accepts_claim n (Ok claimed) h.calls h.holds)
+              (subst (λ r. AreWrittenOut part r (accepted_in k.calls)) is k.holds.accepted),
           ends_after (PartFails part fault) h.calls k.calls (k.holds.trouble fault is),
         );
         accepted = subst (IsPartSent events result) (sym (accepted_in-append h.calls k.calls))
-            (accepts_part events claimed result (accepted_in h.calls) (accepted_in k.calls) some (accepts_claim n (Ok claimed) h.calls h.holds) k.holds.accepted);
+            (accepts_part events claimed result (accepted_in h.calls) (accepted_in k.calls) some
+            (accepts_claim n (Ok claimed) h.calls h.holds) k.holds.accepted);
         order = λ cut rest more size.
             in_order_more cut (ToClaim (events ++ rest)) h.calls k.calls (claim_in_order cut events rest (Ok claimed) h.calls more size h.holds)
             (subst (λ t. InOrder cut t k.calls) (sym (claim_at_end events rest claimed h.calls h.holds)) (k.holds.order cut rest some));
@@ -165,7 +170,8 @@ written_in_part does part a b trouble h =
       lead = h.lead;
       holds = record {
         claims = h.holds.claims;
-        trouble = λ fault is. ends_as (WriteFails part.stretch.lo part.events fault) (PartFails part fault) (λ call fails. inl fails) h.calls (h.holds.trouble fault is);
+        trouble = λ fault is.
+            ends_as (WriteFails part.stretch.lo part.events fault) (PartFails part fault) (λ call fails. inl fails) h.calls (h.holds.trouble fault is);
         accepted = h.holds.accepted;
         order = λ cut rest some. h.holds.order cut part.stretch rest some;
         end = λ rest fine. absurd (failed (Err trouble) trouble refl fine);
@@ -192,16 +198,20 @@ written_and_published {S} {E} does part a b c result waits h k =
       holds = record {
         claims = claims_in-append h.calls k.calls ∙ ap (λ l. l ++ claims_in k.calls) h.holds.claims ∙ publishes_none lo hi result k.calls k.holds;
         trouble = λ fault is.
-            let refused : PublicationFails {E = E} part.stretch fault (PublishesStretch lo hi (Err fault)) = (refl, refl, refl, a_refusal fault (λ out. waits (is ∙ ap Err out))) in
-            let last = ends_retried (PublicationFails part.stretch fault) (PublishesStretch lo hi (Err Memory)) (PublishesStretch lo hi result) k.calls k.holds (subst (λ r. PublicationFails {E = E} part.stretch fault (PublishesStretch lo hi r)) (sym is) refused) in
-            ends_after (PartFails part fault) h.calls k.calls (ends_as (PublicationFails part.stretch fault) (PartFails part fault) (λ call fails. inr fails) k.calls last);
+            let refused : PublicationFails {E = E} part.stretch fault (PublishesStretch lo hi (Err fault)) =
+            (refl, refl, refl, a_refusal fault (λ out. waits (is ∙ ap Err out))) in
+            let last = ends_retried (PublicationFails part.stretch fault) (PublishesStretch lo hi (Err Memory)) (PublishesStretch lo hi result) k.calls k.holds
+            (subst (λ r. PublicationFails {E = E} part.stretch fault (PublishesStretch lo hi r)) (sym is) refused) in
+            ends_after (PartFails part fault) h.calls k.calls
+            (ends_as (PublicationFails part.stretch fault) (PartFails part fault) (λ call fails. inr fails) k.calls last);
         accepted = subst (AreWrittenOut part result) (sym (accepted_in-append h.calls k.calls))
             (accepts_rest part result (accepted_in h.calls) (accepted_in k.calls) h.holds.accepted (accepts_publication lo hi result k.calls k.holds));
         order = λ cut rest some.
             let written = ToSend part.stretch (lo + length part.events) [] rest in
             in_order_more cut (ToSend part.stretch lo part.events rest) h.calls k.calls (h.holds.order cut part.stretch rest some)
             (subst (λ t. InOrder cut t k.calls) (sym (h.holds.end part.stretch rest refl))
-            (retried_in_order cut written (PublishesStretch lo hi (Err Memory)) (PublishesStretch lo hi result) k.calls k.holds refl (refl, refl, refl) (refl, refl, refl)));
+            (retried_in_order cut written (PublishesStretch lo hi (Err Memory)) (PublishesStretch lo hi result) k.calls k.holds refl (refl, refl, refl)
+            (refl, refl, refl)));
         end = λ rest fine.
             let written : Task E = ToSend part.stretch (lo + length part.events) [] rest in
             task_more (ToSend part.stretch lo part.events rest) h.calls k.calls ∙ ap (λ t. task_at_end t k.calls) (h.holds.end part.stretch rest refl)
@@ -260,7 +270,8 @@ begins_part rest n trouble calls (inr (stretch, k, some, is)) =
     inr (record { stretch = stretch; events = take n rest }, k, part_of rest n, some, is)
 
 -- so many events are sent so far
-pub record Sending {E : Type 0} (cut : ℕ) (script : List E) (may_stop must_stop : ℕ → ℕ → Type 0) (who sent : ℕ) (passages : Passages) (calls : List (InletCall E)) : Type 0 where
+pub record Sending {E : Type 0} (cut : ℕ) (script : List E) (may_stop must_stop : ℕ → ℕ → Type 0) (who sent : ℕ) (passages : Passages)
+    (calls : List (InletCall E)) : Type 0 where
   pub cuts : AreCut cut (length script) (claims_in calls)
   pub left : left_after (length script) (claims_in calls) ≡ length script - sent
   pub passes : Passes may_stop must_stop (length (claims_in calls)) (begins who) passages
@@ -298,7 +309,8 @@ passes_both : {E : Type 0} (may_stop must_stop : ℕ → ℕ → Type 0) (xs ys 
     → Passes may_stop must_stop (length (claims_in xs)) t t'
     → Passes may_stop must_stop (length (claims_in ys)) t' t'' → Passes may_stop must_stop (length (claims_in (xs ++ ys))) t t''
 passes_both may_stop must_stop xs ys t t' t'' h k =
-    let many : length (claims_in (xs ++ ys)) ≡ length (claims_in xs) + length (claims_in ys) = ap length (claims_in-append xs ys) ∙ length-append (claims_in xs) (claims_in ys) in
+    let many : length (claims_in (xs ++ ys)) ≡ length (claims_in xs) + length (claims_in ys) = ap length (claims_in-append xs ys)
+    ∙ length-append (claims_in xs) (claims_in ys) in
     subst (λ n. Passes may_stop must_stop n t t'') (sym many) (passes_more may_stop must_stop (length (claims_in xs)) (length (claims_in ys)) t t' t'' h k)
 
 went_well : {P : Type 0} (result : Result (Unit {0}) Trouble) (trouble : Trouble) → result ≡ Ok tt → result ≡ Err trouble → P
@@ -307,15 +319,18 @@ went_well result trouble is is' = absurd (cc)
 -- the order of one part more
 parts_in_order : {E : Type 0} (cut : ℕ) (script : List E) (sent n : ℕ) (xs ys : List (InletCall E)) → n ≡ min (length script - sent) cut → 0 < n
     → InOrder cut (ToClaim script) xs → task_at_end (ToClaim script) xs ≡ ToClaim (drop sent script)
-    → ((rest : List E) → 0 < length (take n (drop sent script)) → length (take n (drop sent script)) ≡ min (length (take n (drop sent script) ++ rest)) cut → InOrder cut (ToClaim (take n (drop sent script) ++ rest)) ys)
+    → ((rest : List E) → 0 < length (take n (drop sent script)) → length (take n (drop sent script)) ≡ min (length (take n (drop sent script) ++ rest)) cut
+    → InOrder cut (ToClaim (take n (drop sent script) ++ rest)) ys)
     → InOrder cut (ToClaim script) (xs ++ ys)
 parts_in_order cut script sent n xs ys size some h end k =
     let left = drop sent script in
     let long : length (take n left) ≡ n = part_length script sent n cut size in
     let all : length left ≡ length script - sent = length-drop sent script in
     let whole : length (take n left ++ drop n left) ≡ length left = ap length (take-append-drop n left) in
-    let next : InOrder cut (ToClaim (take n left ++ drop n left)) ys = k (drop n left) (omega arith) (long ∙ size ∙ ap (λ l. min l cut) (sym all ∙ sym whole)) in
-    in_order_more cut (ToClaim script) xs ys h (subst (λ t. InOrder cut t ys) (sym end) (subst (λ l. InOrder cut (ToClaim l) ys) (take-append-drop n left) next))
+    let next : InOrder cut (ToClaim (take n left ++ drop n left)) ys =
+    k (drop n left) (omega arith) (long ∙ size ∙ ap (λ l. min l cut) (sym all ∙ sym whole)) in
+    in_order_more cut (ToClaim script) xs ys h
+    (subst (λ t. InOrder cut t ys) (sym end) (subst (λ l. InOrder cut (ToClaim l) ys) (take-append-drop n left) next))
 
 parts_at_end : {E : Type 0} (script : List E) (sent n : ℕ) (xs ys : List (InletCall E)) → task_at_end (ToClaim script) xs ≡ ToClaim (drop sent script)
     → ((rest : List E) → task_at_end (ToClaim (take n (drop sent script) ++ rest)) ys ≡ ToClaim rest)
@@ -333,7 +348,10 @@ pub sending_more : {S E : Type 0} (does : S → InletCall E → S → Type 0) (a
     → SomeCalls does a c (Sending cut script may_stop must_stop who (sent + n) t')
 sending_more does a b c cut script may_stop must_stop who sent n t t' result is size some h k =
     let all = length script in
-    let one : claims_in k.calls ≡ n ∷ [] = elim k.holds.claims [ inl one ↦ one ∙ ap (λ m. m ∷ []) (part_length script sent n cut size) | inr none ↦ went_well result none.1.0 is none.1.1 ] in
+    let one : claims_in k.calls ≡ n ∷ [] = elim k.holds.claims [
+      | inl one ↦ one ∙ ap (λ m. m ∷ []) (part_length script sent n cut size)
+      | inr none ↦ went_well result none.1.0 is none.1.1
+    ] in
     let whole = claims_both n h.calls k.calls one in record {
       calls = h.calls ++ k.calls;
       lead = lead_more does a b c h.calls k.calls h.lead k.lead;
@@ -342,7 +360,8 @@ sending_more does a b c cut script may_stop must_stop who sent n t t' result is 
         left = ap (λ l. left_after all l) whole ∙ left_more all (claims_in h.calls) n ∙ ap (λ l. l - n) h.holds.left ∙ (omega arith);
         passes = passes_both may_stop must_stop h.calls k.calls (begins who) t t' h.holds.passes k.holds.passes;
         sends = subst (InParts script (sent + n)) (sym (accepted_in-append h.calls k.calls))
-            (parts_more script sent n (accepted_in h.calls) (accepted_in k.calls) h.holds.sends (subst (λ r. IsPartSent (take n (drop sent script)) r (accepted_in k.calls)) is k.holds.accepted));
+            (parts_more script sent n (accepted_in h.calls) (accepted_in k.calls) h.holds.sends
+            (subst (λ r. IsPartSent (take n (drop sent script)) r (accepted_in k.calls)) is k.holds.accepted));
         order = parts_in_order cut script sent n h.calls k.calls size some h.holds.order h.holds.end (λ rest. k.holds.order cut rest);
         end = parts_at_end script sent n h.calls k.calls h.holds.end (λ rest. k.holds.end rest is);
       };
@@ -357,7 +376,8 @@ sends_all does a b cut script may_stop must_stop who sent t produced whole same 
   lead = h.lead;
   holds = record {
     cuts = h.holds.cuts;
-    gate = stops_after may_stop must_stop (length (claims_in h.calls)) who t (λ stopped. ProducerEnds cut script stopped h.calls produced) h.holds.passes (inl (whole, is));
+    gate = stops_after may_stop must_stop (length (claims_in h.calls)) who t (λ stopped. ProducerEnds cut script stopped h.calls produced) h.holds.passes
+        (inl (whole, is));
     sends = subst (λ n. IsSent script n (accepted_in h.calls)) (sym same) (record {
       parts = h.holds.sends.parts;
       next = [];
@@ -380,11 +400,17 @@ gives_up {E} cut script sent n trouble xs ys more size h =
     let next : n ≡ min (length rest) cut = size ∙ ap (λ l. min l cut) (sym left) in (
       omega arith,
       elim h [
-        | inl claim ↦ inl (subst (λ m. EndsIn (ClaimFails m trouble) (xs ++ ys)) (long ∙ next) (ends_after (ClaimFails (length (take n rest)) trouble) xs ys claim))
+        | inl claim ↦ inl (subst (λ m. EndsIn (ClaimFails m trouble) (xs ++ ys)) (long ∙ next)
+            (ends_after (ClaimFails (length (take n rest)) trouble) xs ys claim))
         | inr part ↦ inr (
           record { stretch = part.0; events = take n rest },
           ap (λ m. take m rest) next,
-          (accepted_in xs ++ part.1.0, part.1.1, accepted_in-append xs ys ∙ ap (λ l. accepted_in xs ++ l) part.1.2 ∙ sym (append_assoc (accepted_in xs) part.1.0 (take (part.1.1 + 1) (writing_of (record { stretch = part.0; events = take n rest }))))),
+          (
+            accepted_in xs ++ part.1.0,
+            part.1.1,
+            accepted_in-append xs ys ∙ ap (λ l. accepted_in xs ++ l) part.1.2
+                ∙ sym (append_assoc (accepted_in xs) part.1.0 (take (part.1.1 + 1) (writing_of (record { stretch = part.0; events = take n rest })))),
+          ),
           ends_after (PartFails (record { stretch = part.0; events = take n rest }) trouble) xs ys part.2,
         )
       ],
@@ -408,11 +434,18 @@ sends_in_trouble does a b c cut script may_stop must_stop who sent n t t' result
           | inl one ↦
               subst (λ l. AreCut cut all l) (sym (claims_both n h.calls k.calls (one ∙ ap (λ m. m ∷ []) (part_length script sent n cut size))))
               (cut_more cut all (claims_in h.calls) n h.holds.cuts (size ∙ ap (λ l. min l cut) (sym h.holds.left)))
-          | inr none ↦ subst (λ l. AreCut cut all l) (sym (claims_in-append h.calls k.calls ∙ ap (λ l. claims_in h.calls ++ l) none.0 ∙ append-nil (claims_in h.calls))) h.holds.cuts
+          | inr none ↦ subst (λ l. AreCut cut all l)
+              (sym (claims_in-append h.calls k.calls ∙ ap (λ l. claims_in h.calls ++ l) none.0 ∙ append-nil (claims_in h.calls))) h.holds.cuts
         ];
-        gate = stops_after may_stop must_stop (length (claims_in (h.calls ++ k.calls))) who t' (λ stopped. ProducerEnds cut script stopped (h.calls ++ k.calls) produced)
+        gate = stops_after may_stop must_stop (length (claims_in (h.calls ++ k.calls))) who t'
+            (λ stopped. ProducerEnds cut script stopped (h.calls ++ k.calls) produced)
             (passes_both may_stop must_stop h.calls k.calls (begins who) t t' h.holds.passes k.holds.passes)
-            (inr (trouble, subst (λ m. GivesUp cut (drop m script) trouble (h.calls ++ k.calls)) (sym same) (gives_up cut script sent n trouble h.calls k.calls more size (k.holds.trouble trouble fails)), is));
+            (inr (
+              trouble,
+              subst (λ m. GivesUp cut (drop m script) trouble (h.calls ++ k.calls)) (sym same)
+                  (gives_up cut script sent n trouble h.calls k.calls more size (k.holds.trouble trouble fails)),
+              is,
+            ));
         sends = subst (λ m. IsSent script m (accepted_in (h.calls ++ k.calls))) (sym same) (record {
           parts = h.holds.sends.parts;
           next = accepted_in k.calls;

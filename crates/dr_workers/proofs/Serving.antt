@@ -54,7 +54,8 @@ tries_in_turn E room upto zero completed = (refl, tt)
 tries_in_turn E room upto (suc times) completed = (refl, tries_in_turn E room upto times completed)
 
 tries_due : (E : Type 0) (upto times : ℕ) (completed : Result (Unit {0}) Trouble)
-    → due_at_end {E = E} (ToComplete upto) (replicate times (CompletesBelow upto (Err Memory)) ++ CompletesBelow upto completed ∷ []) ≡ due_after {E = E} (ToComplete upto) (CompletesBelow upto completed)
+    → due_at_end {E = E} (ToComplete upto) (replicate times (CompletesBelow upto (Err Memory)) ++ CompletesBelow upto completed ∷ [])
+    ≡ due_after {E = E} (ToComplete upto) (CompletesBelow upto completed)
 tries_due E upto zero completed = refl
 tries_due E upto (suc times) completed = tries_due E upto times completed
 
@@ -92,7 +93,8 @@ turned_nothing does goes before a b o p may_stop must_stop t result out out' ans
       calls = PollsInto out out' answer ∷ [];
       lead = (b, call, refl);
       holds = record {
-        works = subst (λ bs. Works goes before before o p bs) (sym none) (record { through = refl; handed = shown_as (Takes out' answer) (HandsOut []) (took_none out out' answer is) o p takes });
+        works = subst (λ bs. Works goes before before o p bs) (sym none)
+            (record { through = refl; handed = shown_as (Takes out' answer) (HandsOut []) (took_none out out' answer is) o p takes });
         passes = subst (λ bs. Passes may_stop must_stop (length bs) t t) (sym none) (passes_none may_stop must_stop t);
         told = told;
         trouble = trouble;
@@ -115,7 +117,8 @@ completed_or_not {E} deal upto (Ok done) before calls end rest batches advances 
 completed_or_not {E} deal upto (Err trouble) before calls end rest batches advances =
     inr (
       upto,
-      ends_after (LeavesOpen upto) before calls (ends_retried (LeavesOpen upto) (CompletesBelow upto (Err Memory)) (CompletesBelow upto (Err trouble)) calls rest refl),
+      ends_after (LeavesOpen upto) before calls
+          (ends_retried (LeavesOpen upto) (CompletesBelow upto (Err Memory)) (CompletesBelow upto (Err trouble)) calls rest refl),
       ap (λ l. l ++ CompletedBelow upto ∷ []) advances ∙ ap (λ n. HandedOut deal ∷ CompletedBelow n ∷ []) end ∙ ap each_completed (sym batches),
     )
 
@@ -129,7 +132,8 @@ pub turned_batch : {S E A : Type 0} (does : S → OutletCall E → S → Type 0)
     → (result ≡ Ok Drained → ⊥) → ((trouble : Trouble) → result ≡ Err trouble → completed ≡ Err trouble)
     → ((progress : Progress) → result ≡ Ok progress → completed ≡ Ok tt)
     → SomeCalls does a c (TakesBatch (length out) goes before after o q may_stop must_stop t t' result)
-turned_batch {S} {E} does goes before after a b c o q may_stop must_stop t t' result out out' first count upto end completed call rest works passes last whole same told trouble fine =
+turned_batch {S} {E} does goes before after a b c o q may_stop must_stop t t' result out out' first count upto end completed call rest works passes
+    last whole same told trouble fine =
     let deal = one out' first count end in
     let none : batches_in rest.calls ≡ [] = picked batch_of (CompletesBelow upto (Err Memory)) (CompletesBelow upto completed) rest.calls rest.holds refl in
     let batches : batches_in (PollsInto out out' (Ok (polled.Batch first count end)) ∷ rest.calls) ≡ deal ∷ [] = ap (λ bs. deal ∷ bs) none in
@@ -144,12 +148,17 @@ turned_batch {S} {E} does goes before after a b c o q may_stop must_stop t t' re
         told = λ is. absurd (told is);
         trouble = λ fault is.
             ends_after (IsInTrouble fault) (PollsInto out out' (Ok (polled.Batch first count end)) ∷ []) rest.calls
-            (ends_retried (IsInTrouble fault) (CompletesBelow upto (Err Memory)) (CompletesBelow upto completed) rest.calls rest.holds (rw (trouble fault is) refl));
+            (ends_retried (IsInTrouble fault) (CompletesBelow upto (Err Memory)) (CompletesBelow upto completed) rest.calls rest.holds
+            (rw (trouble fault is) refl));
         completes = completed_or_not deal upto completed (poll ∷ []) rest.calls last rest.holds batches advances;
         whole = λ progress is.
             advances ∙ ap (λ r. HandedOut deal ∷ cons_option (advance_of (CompletesBelow upto r)) []) (fine progress is)
             ∙ ap (λ n. HandedOut deal ∷ CompletedBelow n ∷ []) last ∙ ap each_completed (sym batches);
-        order = ((refl, same), subst (λ n. InTurn (length out) (ToComplete n) rest.calls) whole (subst (InTurn (length out) (ToComplete upto)) (sym rest.holds.1) (tries_in_turn E (length out) upto rest.holds.0 completed)));
+        order = (
+          (refl, same),
+          subst (λ n. InTurn (length out) (ToComplete n) rest.calls) whole
+              (subst (InTurn (length out) (ToComplete upto)) (sym rest.holds.1) (tries_in_turn E (length out) upto rest.holds.0 completed)),
+        );
         closed = λ is.
             ap (λ n. due_at_end (ToComplete n) rest.calls) (sym whole) ∙ ap (due_at_end (ToComplete upto)) rest.holds.1
             ∙ tries_due E upto rest.holds.0 completed
@@ -160,7 +169,8 @@ turned_batch {S} {E} does goes before after a b c o q may_stop must_stop t t' re
 -- Turn after turn.
 
 -- the work so far, and the worker's passages of its gate
-pub record Serving {E A : Type 0} (room : ℕ) (goes : Relation E A) (before after : A) (old new : Option (Received E)) (may_stop must_stop : ℕ → ℕ → Type 0) (who : ℕ) (passages : Passages) (calls : List (OutletCall E)) : Type 0 where
+pub record Serving {E A : Type 0} (room : ℕ) (goes : Relation E A) (before after : A) (old new : Option (Received E)) (may_stop must_stop : ℕ → ℕ → Type 0)
+    (who : ℕ) (passages : Passages) (calls : List (OutletCall E)) : Type 0 where
   pub works : Works goes before after old new (batches_in calls)
   pub passes : Passes may_stop must_stop (length (batches_in calls)) (begins who) passages
   pub whole : advances_in calls ≡ each_completed (batches_in calls)
@@ -173,21 +183,29 @@ pub serving_none : {S E A : Type 0} (does : S → OutletCall E → S → Type 0)
 serving_none does room goes before a o may_stop must_stop who passages is = record {
   calls = [];
   lead = refl;
-  holds = record { works = works_none goes before o; passes = subst (λ t. Passes may_stop must_stop 0 (begins who) t) (sym is) (passes_none may_stop must_stop (begins who)); whole = refl; order = tt; closed = refl };
+  holds = record {
+    works = works_none goes before o;
+    passes = subst (λ t. Passes may_stop must_stop 0 (begins who) t) (sym is) (passes_none may_stop must_stop (begins who));
+    whole = refl;
+    order = tt;
+    closed = refl;
+  };
 }
 
 -- the batches of one turn more
 batches_more : {E A : Type 0} (goes : Relation E A) (before between after : A) (o p q : Option (Received E)) (xs ys : List (OutletCall E))
     → Works goes before between o p (batches_in xs) → Works goes between after p q (batches_in ys) → Works goes before after o q (batches_in (xs ++ ys))
 batches_more goes before between after o p q xs ys h k =
-    subst (λ bs. Works goes before after o q bs) (sym (batches_in-append xs ys)) (works_more goes before between after o p q (batches_in xs) (batches_in ys) h k)
+    subst (λ bs. Works goes before after o q bs) (sym (batches_in-append xs ys))
+    (works_more goes before between after o p q (batches_in xs) (batches_in ys) h k)
 
 -- and the passages
 passes_both : {E : Type 0} (may_stop must_stop : ℕ → ℕ → Type 0) (xs ys : List (OutletCall E)) (t t' t'' : Passages)
     → Passes may_stop must_stop (length (batches_in xs)) t t'
     → Passes may_stop must_stop (length (batches_in ys)) t' t'' → Passes may_stop must_stop (length (batches_in (xs ++ ys))) t t''
 passes_both may_stop must_stop xs ys t t' t'' h k =
-    let many : length (batches_in (xs ++ ys)) ≡ length (batches_in xs) + length (batches_in ys) = ap length (batches_in-append xs ys) ∙ length-append (batches_in xs) (batches_in ys) in
+    let many : length (batches_in (xs ++ ys)) ≡ length (batches_in xs) + length (batches_in ys) = ap length (batches_in-append xs ys)
+    ∙ length-append (batches_in xs) (batches_in ys) in
     subst (λ n. Passes may_stop must_stop n t t'') (sym many) (passes_more may_stop must_stop (length (batches_in xs)) (length (batches_in ys)) t t' t'' h k)
 
 -- and the completions
@@ -255,7 +273,8 @@ pub serves_told : {S E A : Type 0} (does : S → OutletCall E → S → Type 0) 
     → SomeCalls does b c (TakesBatch room goes between after p q may_stop must_stop t t' result)
     → result ≡ Ok Drained → answer ≡ fault_at_end t'.stopped → SomeCalls does a c (Serves room goes before after o q (may_stop who) (must_stop who) answer)
 serves_told does room goes before between after a b c o p q may_stop must_stop who t t' result answer h k told is =
-    serving_ends does room goes before between after a b c o p q may_stop must_stop who t t' result answer h k (inl (ends_after IsTold h.calls k.calls (k.holds.told told), is))
+    serving_ends does room goes before between after a b c o p q may_stop must_stop who t t' result answer h k
+    (inl (ends_after IsTold h.calls k.calls (k.holds.told told), is))
 
 pub serves_in_trouble : {S E A : Type 0} (does : S → OutletCall E → S → Type 0) (room : ℕ) (goes : Relation E A) (before between after : A) (a b c : S)
     (o p q : Option (Received E)) (may_stop must_stop : ℕ → ℕ → Type 0) (who : ℕ) (t t' : Passages) (result : Result Progress Trouble)
@@ -265,12 +284,14 @@ pub serves_in_trouble : {S E A : Type 0} (does : S → OutletCall E → S → Ty
     → result ≡ Err trouble → answer ≡ Some (fault_in_trouble t'.stopped trouble)
     → SomeCalls does a c (Serves room goes before after o q (may_stop who) (must_stop who) answer)
 serves_in_trouble does room goes before between after a b c o p q may_stop must_stop who t t' result answer trouble h k fails is =
-    serving_ends does room goes before between after a b c o p q may_stop must_stop who t t' result answer h k (inr (trouble, ends_after (IsInTrouble trouble) h.calls k.calls (k.holds.trouble trouble fails), is))
+    serving_ends does room goes before between after a b c o p q may_stop must_stop who t t' result answer h k
+    (inr (trouble, ends_after (IsInTrouble trouble) h.calls k.calls (k.holds.trouble trouble fails), is))
 
 -- a room of the same length
 pub of_room : {S E A : Type 0} {does : S → OutletCall E → S → Type 0} {goes : Relation E A} {before after : A} {a b : S} {o p : Option (Received E)}
     {may_stop must_stop : ℕ → ℕ → Type 0} {t t' : Passages} {result : Result Progress Trouble} {room whole : ℕ} → room ≡ whole
     → SomeCalls does a b (TakesBatch room goes before after o p may_stop must_stop t t' result)
     → SomeCalls does a b (TakesBatch whole goes before after o p may_stop must_stop t t' result)
-of_room {does = does} {goes = goes} {before = before} {after = after} {a = a} {b = b} {o = o} {p = p} {may_stop = may_stop} {must_stop = must_stop} {t = t} {t' = t'} {result = result} same takes =
+of_room {does = does} {goes = goes} {before = before} {after = after} {a = a} {b = b} {o = o} {p = p} {may_stop = may_stop} {must_stop = must_stop} {t = t}
+    {t' = t'} {result = result} same takes =
     subst (λ n. SomeCalls does a b (TakesBatch n goes before after o p may_stop must_stop t t' result)) same takes

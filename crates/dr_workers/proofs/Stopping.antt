@@ -12,7 +12,14 @@ use Rattle.dr_workers.specs.Calls.Stops.{Passes, Stops, begins, fault_at_end, fa
 
 -- no passage
 pub passes_none : (may_stop must_stop : ℕ → ℕ → Type 0) (t : Passages) → Passes may_stop must_stop 0 t t
-passes_none may_stop must_stop t = record { who = refl; may = λ is. inl is; stays = λ is. is; passage = λ going fits. sym (add-zero t.passage); must = λ k less fits stop. absurd (omega arith); most = omega arith }
+passes_none may_stop must_stop t = record {
+  who = refl;
+  may = λ is. inl is;
+  stays = λ is. is;
+  passage = λ going fits. sym (add-zero t.passage);
+  must = λ k less fits stop. absurd (omega arith);
+  most = omega arith;
+}
 
 -- who is not stopped later is not before
 going_before : (b c : Bool) → (b ≡ true → c ≡ true) → c ≡ false → b ≡ false
@@ -47,7 +54,8 @@ passes_more may_stop must_stop n m a b c h l = record {
       | inl first ↦ inl first
       | inr then ↦ (let early : then.0 < a.passage + n = then.1 in inr (then.0, omega arith, then.2))
     ]
-    | inr now ↦ (let late : now.0 < b.passage + m = now.1 in let most : b.passage ≤ a.passage + n = h.most in inr (now.0, omega arith, subst (λ who. may_stop who now.0) h.who now.2))
+    | inr now ↦ (let late : now.0 < b.passage + m = now.1 in let most : b.passage ≤ a.passage + n = h.most in
+        inr (now.0, omega arith, subst (λ who. may_stop who now.0) h.who now.2))
   ];
   stays = λ is. l.stays (h.stays is);
   passage = λ going fits.
@@ -64,7 +72,14 @@ passes_more may_stop must_stop n m a b c h l = record {
 -- one passage
 pub passes_stopped : (may_stop must_stop : ℕ → ℕ → Type 0) (t : Passages) → t.stopped ≡ true → Passes may_stop must_stop 1 t t
 passes_stopped may_stop must_stop t is =
-    record { who = refl; may = λ now. inl now; stays = λ now. now; passage = λ going fits. absurd (false≢true (sym going ∙ is)); must = λ k less fits stop. is; most = omega arith }
+    record {
+      who = refl;
+      may = λ now. inl now;
+      stays = λ now. now;
+      passage = λ going fits. absurd (false≢true (sym going ∙ is));
+      must = λ k less fits stop. is;
+      most = omega arith;
+    }
 
 -- a worker that passed its gate so often answers by whether it was stopped
 pub stops_after : (may_stop must_stop : ℕ → ℕ → Type 0) (times who : ℕ) (t : Passages) (Answers : Bool → Type 0)
@@ -73,14 +88,21 @@ pub stops_after : (may_stop must_stop : ℕ → ℕ → Type 0) (times who : ℕ
 stops_after may_stop must_stop times who t Answers h answers = record {
   stopped = t.stopped;
   answers = answers;
-  may = λ is. elim (h.may is) [ inl before ↦ absurd (false≢true before) | inr now ↦ (now.0, (let less : now.0 < (begins who).passage + times = now.1 in omega arith), now.2) ];
+  may = λ is. elim (h.may is) [
+    | inl before ↦ absurd (false≢true before)
+    | inr now ↦ (now.0, (let less : now.0 < (begins who).passage + times = now.1 in omega arith), now.2)
+  ];
   must = λ passage less fits stop. h.must passage less (omega arith) (subst (λ n. must_stop who n) (sym (zero-add passage)) stop);
 }
 
 -- one passage more
 pub stopped_more : (may_stop must_stop : ℕ → ℕ → Type 0) (times who : ℕ) (old new : Passages) → old.who ≡ who
-    → (old.stopped ≡ true → (passage : ℕ) × may_stop who passage) → Passes may_stop must_stop times old new → new.stopped ≡ true → (passage : ℕ) × may_stop who passage
-stopped_more may_stop must_stop times who old new same before passes is = elim (passes.may is) [ inl first ↦ before first | inr now ↦ (now.0, subst (λ w. may_stop w now.0) same now.2) ]
+    → (old.stopped ≡ true → (passage : ℕ) × may_stop who passage) → Passes may_stop must_stop times old new
+    → new.stopped ≡ true → (passage : ℕ) × may_stop who passage
+stopped_more may_stop must_stop times who old new same before passes is = elim (passes.may is) [
+  | inl first ↦ before first
+  | inr now ↦ (now.0, subst (λ w. may_stop w now.0) same now.2)
+]
 
 -- who answers that it was stopped was stopped
 pub was_stopped : (stopped : Bool) → fault_at_end stopped ≡ Some Stopped → stopped ≡ true

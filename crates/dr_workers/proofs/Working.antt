@@ -33,7 +33,8 @@ GoesThrough-append goes before (x ∷ xs) ys between after h k = (h.0, h.1, Goes
 
 hands_more : {E : Type 0} (bs cs : List (Dealt E)) (old mid new : Received E) → HandsOut bs old mid → HandsOut cs mid new → HandsOut (bs ++ cs) old new
 hands_more bs cs old mid new h k =
-    let events : new.events ≡ old.events ++ dealt_events (bs ++ cs) = k.0 ∙ ap (λ l. l ++ dealt_events cs) h.0 ∙ append_assoc old.events (dealt_events bs) (dealt_events cs) ∙ ap (λ l. old.events ++ l) (sym (dealt_events-append bs cs)) in
+    let events : new.events ≡ old.events ++ dealt_events (bs ++ cs) = k.0 ∙ ap (λ l. l ++ dealt_events cs) h.0
+    ∙ append_assoc old.events (dealt_events bs) (dealt_events cs) ∙ ap (λ l. old.events ++ l) (sym (dealt_events-append bs cs)) in
     let at : length mid.events ≡ length old.events + length (dealt_events bs) = ap length h.0 ∙ length-append old.events (dealt_events bs) in
     (events, FollowFrom-append (length old.events) (length mid.events) bs cs at h.1 k.1)
 
@@ -45,7 +46,8 @@ pub works_none : {E : Type 0} {A : Type 0} (goes : Relation E A) (before : A) (o
 works_none goes before old = record { through = refl; handed = shown_none (HandsOut []) hands_none old }
 
 -- some work after other work
-pub works_more : {E : Type 0} {A : Type 0} (goes : Relation E A) (before between after : A) (old mid new : Option (Received E)) (bs cs : List (Dealt E)) → Works goes before between old mid bs
+pub works_more : {E : Type 0} {A : Type 0} (goes : Relation E A) (before between after : A) (old mid new : Option (Received E)) (bs cs : List (Dealt E))
+    → Works goes before between old mid bs
     → Works goes between after mid new cs → Works goes before after old new (bs ++ cs)
 works_more goes before between after old mid new bs cs h k = record {
   through = rw shown_of-append (GoesThrough-append goes before (shown_of bs) (shown_of cs) between after h.through k.through);
@@ -84,20 +86,26 @@ dealt before out answer first count end old new is fills whole taken =
     record { some = f.0; within = (let room : count ≤ length before = f.1 in omega arith); taken = rw is at taken }
 
 -- a batch was handed out, shown and then completed
-pub works_batch : {E : Type 0} {A : Type 0} (goes : Relation E A) (before after : A) (out : List E) (first count upto : ℕ) (end : Bool) (old mid new : Option (Received E)) → IsDealt out first count end old mid
+pub works_batch : {E : Type 0} {A : Type 0} (goes : Relation E A) (before after : A) (out : List E) (first count upto : ℕ) (end : Bool)
+    (old mid new : Option (Received E)) → IsDealt out first count end old mid
     → GoesThrough goes before (showings (take count out) first end) after → WhereShown (IsCompleted upto) mid new
     → Works goes before after old new (one out first count end ∷ [])
 works_batch goes before after out first count upto end old mid new deal through done = record {
   through = rw (append-nil (showings (take count out) first end)) through;
-  handed = shown_through (TakesBatch out first count end) (IsCompleted upto) (HandsOut (one out first count end ∷ [])) (λ a b c h k. completed_one upto (one out first count end ∷ []) a b c (taken_one out first count end deal.some deal.within a b h) k) old mid new deal.taken done;
+  handed = shown_through (TakesBatch out first count end) (IsCompleted upto) (HandsOut (one out first count end ∷ []))
+      (λ a b c h k. completed_one upto (one out first count end ∷ []) a b c (taken_one out first count end deal.some deal.within a b h) k)
+      old mid new deal.taken done;
 }
 
 -- a batch was handed out and shown
-pub works_shown : {E : Type 0} {A : Type 0} (goes : Relation E A) (before after : A) (out : List E) (first count : ℕ) (end : Bool) (old mid new : Option (Received E)) → IsDealt out first count end old mid
+pub works_shown : {E : Type 0} {A : Type 0} (goes : Relation E A) (before after : A) (out : List E) (first count : ℕ) (end : Bool)
+    (old mid new : Option (Received E)) → IsDealt out first count end old mid
     → GoesThrough goes before (showings (take count out) first end) after → new ≡ mid → Works goes before after old new (one out first count end ∷ [])
 works_shown {E} goes before after out first count end old mid new deal through same = record {
   through = rw (append-nil (showings (take count out) first end)) through;
-  handed = rw same (shown_through (TakesBatch out first count end) (λ b c. c ≡ b) (HandsOut (one out first count end ∷ [])) (λ a b c h k. rw k (taken_one out first count end deal.some deal.within a b h)) old mid mid deal.taken (shown_none (λ (b c : Received E). c ≡ b) (λ b. refl) mid));
+  handed = rw same (shown_through (TakesBatch out first count end) (λ b c. c ≡ b) (HandsOut (one out first count end ∷ []))
+      (λ a b c h k. rw k (taken_one out first count end deal.some deal.within a b h)) old mid mid deal.taken
+      (shown_none (λ (b c : Received E). c ≡ b) (λ b. refl) mid));
 }
 
 -- what is completed
@@ -121,7 +129,9 @@ done_more o p q h k = shown_through IsDone IsDone IsDone done_after o p q h k
 -- a batch was handed out and then completed
 pub done_batch : {E : Type 0} (out : List E) (first count : ℕ) (end : Bool) (o p q : Option (Received E)) → IsDealt out first count end o p
     → WhereShown (IsCompleted (first + count)) p q → WhereShown IsDone o q
-done_batch out first count end o p q deal k = shown_through (TakesBatch out first count end) (IsCompleted (first + count)) IsDone (done_one out first count end deal.some deal.within) o p q deal.taken k
+done_batch out first count end o p q deal k =
+    shown_through (TakesBatch out first count end) (IsCompleted (first + count)) IsDone (done_one out first count end deal.some deal.within)
+    o p q deal.taken k
 
 -- nothing came
 pub done_none : {E : Type 0} (o p : Option (Received E)) → WhereShown (λ (a b : Received E). b ≡ a) o p → WhereShown IsDone o p

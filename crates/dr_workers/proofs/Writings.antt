@@ -36,12 +36,14 @@ length-map (x ∷ xs) = ap suc (length-map xs)
 
 -- one more of the events stands where nothing stood
 next_put : {E : Type 0} (events : List E) (k i : ℕ) (e : E) → k < length events → i ≡ k → get_or events k e ≡ e
-    → set (map some (take k events) ++ replicate (length events - k) None) i (Some e) ≡ map some (take (k + 1) events) ++ replicate (length events - (k + 1)) None
+    → set (map some (take k events) ++ replicate (length events - k) None) i (Some e)
+    ≡ map some (take (k + 1) events) ++ replicate (length events - (k + 1)) None
 next_put events k i e less at is =
     let many : length (map some (take k events)) ≡ k = length-map (take k events) ∙ length-take-le k events (omega arith) in
     let place : i ≡ length (map some (take k events)) = at ∙ sym many in
     let left : length events - k ≡ suc (length events - (k + 1)) = omega arith in
-    let front : map some (take (k + 1) events) ≡ map some (take k events) ++ Some e ∷ [] = ap (map some) (take_more events k e less) ∙ map-append some (take k events) (get_or events k e ∷ []) ∙ ap (λ x. map some (take k events) ++ Some x ∷ []) is in
+    let front : map some (take (k + 1) events) ≡ map some (take k events) ++ Some e ∷ [] = ap (map some) (take_more events k e less)
+    ∙ map-append some (take k events) (get_or events k e ∷ []) ∙ ap (λ x. map some (take k events) ++ Some x ∷ []) is in
     rw (place, left, front)
     (set-append_seam (map some (take k events)) None (replicate (length events - (k + 1)) None) (Some e)
     ∙ sym (append_assoc (map some (take k events)) (Some e ∷ []) (replicate (length events - (k + 1)) None)))
@@ -57,7 +59,8 @@ writing_more lo events k s e less at is a b c h put = record {
 }
 
 writing_none : {E : Type 0} (lo : ℕ) (events : List E) (a : Sent E) → Writing lo events 0 a a
-writing_none lo events a = record { published = refl; pending = λ front nothing. (let over : length events - 0 ≡ length events = omega arith in rw over nothing) }
+writing_none lo events a =
+    record { published = refl; pending = λ front nothing. (let over : length events - 0 ≡ length events = omega arith in rw over nothing) }
 
 -- the first of some events are written one after another
 writing_first : {E : Type 0} (lo : ℕ) (events : List E) (k : ℕ) → k ≤ length events → (a : Sent E) → Writing lo events k a (with_events lo (take k events) a)
@@ -68,9 +71,11 @@ writing_first {E} lo events (suc k) within a =
     let before : Sent E = with_events lo (take k events) a in
     let at = there events k less in
     let e : E = at.0 in
-    let next : with_event before (lo + k) e ≡ with_events lo (take (k + 1) events) a = written_more lo k (lo + k) events e e less refl at.2 (Some a) (Some before) (Some (with_event before (lo + k) e)) refl refl in
+    let next : with_event before (lo + k) e ≡ with_events lo (take (k + 1) events) a =
+    written_more lo k (lo + k) events e e less refl at.2 (Some a) (Some before) (Some (with_event before (lo + k) e)) refl refl in
     subst (λ n. Writing lo events n a (with_events lo (take n events) a)) on
-    (writing_more lo events k (lo + k) e less refl at.2 a before (with_events lo (take (k + 1) events) a) (writing_first lo events k (omega arith) a) (sym next))
+    (writing_more lo events k (lo + k) e less refl at.2 a before (with_events lo (take (k + 1) events) a)
+    (writing_first lo events k (omega arith) a) (sym next))
 
 written_as : {E : Type 0} (lo : ℕ) (events : List E) (a b : Sent E) → WritesAll lo events a b → Writing lo events (length events) a b
 written_as lo events a b h =
@@ -138,10 +143,12 @@ sent_all events c is a b d e claim write first_next shows =
     let before : b.published ≡ a.published = ap (λ x. x.published) claim.1 in
     let first : c.lo ≡ length b.published = at ∙ ap length (sym before) in
     let none : length a.pending ≡ 0 = (let lo = claim.0 in omega arith) in
-    let pending : b.pending ≡ replicate (length events) None = ap (λ x. x.pending) claim.1 ∙ ap (λ l. l ++ replicate (length events) None) (nothing_left a.pending none) in
+    let pending : b.pending ≡ replicate (length events) None = ap (λ x. x.pending) claim.1
+    ∙ ap (λ l. l ++ replicate (length events) None) (nothing_left a.pending none) in
     let all : take (length events) events ≡ events = take_all (length events) events (omega arith) in
     let over : length events - length events ≡ 0 = omega arith in
-    let written : d.pending ≡ map some events = write.pending first pending ∙ ap (λ n. map some (take (length events) events) ++ replicate n None) over ∙ append-nil (map some (take (length events) events)) ∙ ap (map some) all in
+    let written : d.pending ≡ map some events = write.pending first pending ∙ ap (λ n. map some (take (length events) events) ++ replicate n None) over
+    ∙ append-nil (map some (take (length events) events)) ∙ ap (map some) all in
     let many : c.hi + 1 - length d.published ≡ length d.pending = (let long = ap length written ∙ length-map events in let lo = first_next in omega arith) in
     ap (λ x. x.published) shows
     ∙ ap (λ l. d.published ++ written_of l) (take_over d.pending (c.hi + 1 - length d.published) many ∙ written)
@@ -156,7 +163,9 @@ last_fails (t ∷ tests) test h = last_fails tests test h.1
 in_order : {E : Type 0} (lo hi : ℕ) (d : Sent E) → PublishAnswers (Some d) lo hi (Ok tt) → lo ≡ length d.published
 in_order lo hi d h =
     let tests = publish_tests (Some d) lo hi in
-    let last : not (lo == length d.published) ≡ false = last_fails ((tests.no_producer, NoProducer) ∷ (tests.bad_count, BadCount) ∷ (tests.unclaimed, NotClaimed) ∷ flat_map (λ s. sequence_causes (tests.of_sequence s)) (range_with_len lo (hi + 1 - lo))) (tests.out_of_order, OutOfOrder) h in
+    let before : List (Verdict × Refusal) = (tests.no_producer, NoProducer) ∷ (tests.bad_count, BadCount) ∷ (tests.unclaimed, NotClaimed)
+    ∷ flat_map (λ s. sequence_causes (tests.of_sequence s)) (range_with_len lo (hi + 1 - lo)) in
+    let last : not (lo == length d.published) ≡ false = last_fails before (tests.out_of_order, OutOfOrder) h in
     eqb-true lo (length d.published) (not-false (lo == length d.published) last)
 
 pub sends : {E : Type 0} (events : List E) (c : Claimed) → c.hi + 1 ≡ c.lo + length events → (o p q r : Option (Sent E))
@@ -202,7 +211,8 @@ stops_nowhere shown lo n count trouble none stops = subst (λ t. StopsAt shown l
 
 -- the events after the first ones, as a slice has them
 pub rest_of : {E : Type 0} (events : List E) (done : ℕ) → take (length events - done) (drop done events) ≡ drop done events
-rest_of events done = (let left : length (drop done events) ≡ length events - done = length-drop done events in take_all (length events - done) (drop done events) (omega arith))
+rest_of events done =
+    (let left : length (drop done events) ≡ length events - done = length-drop done events in take_all (length events - done) (drop done events) (omega arith))
 
 pub length-rest : {E : Type 0} (events : List E) (done : ℕ) → length (take (length events - done) (drop done events)) ≡ length events - done
 length-rest events done = ap length (rest_of events done) ∙ length-drop done events
@@ -213,7 +223,8 @@ pub more_written : {E : Type 0} (lo done count : ℕ) (events : List E) → done
     → WhereShown (WritesAll lo (take (done + count) events)) o q
 more_written lo done count events within o p q h k =
     let many : length (take done events) ≡ done = length-take-le done events within in
-    writes_through lo (take done events) (take count (drop done events)) (take (done + count) events) (first_and_next events done count) (lo + done) (omega arith) o p q h
+    writes_through lo (take done events) (take count (drop done events)) (take (done + count) events) (first_and_next events done count) (lo + done)
+    (omega arith) o p q h
     (subst (λ l. WhereShown (WritesAll (lo + done) (take count l)) p q) (rest_of events done) k)
 
 pub all_written : {E : Type 0} (lo done count : ℕ) (events : List E) → done + count ≡ length events → (o p : Option (Sent E))

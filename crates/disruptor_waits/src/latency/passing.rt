@@ -8,8 +8,8 @@ use crate::words::{Exchange, Order};
 use dr_disruptor::RunFault;
 use dr_graph::{Graph, GraphBuilder, GraphFault};
 use dr_meaning::{MAX_LIMIT, Outlet};
+use dr_plain_senders::senders_ring;
 use dr_ring::ring;
-use dr_senders::senders_ring;
 use dr_seq::{Event, Size};
 use dr_workers::Bell;
 use std::alloc::Global;
@@ -75,7 +75,7 @@ fn through_plain<R: Threads + Clock + Wait + Copy + Send + 'static>(
     through(rt, alloc, order, begun, sender, receivers)
 }
 
-fn through_senders<R: Threads + Clock + Wait + Copy + Send + 'static>(
+fn through_plain_senders<R: Threads + Clock + Wait + Copy + Send + 'static>(
     rt: R,
     alloc: Global,
     order: Order,
@@ -83,8 +83,10 @@ fn through_senders<R: Threads + Clock + Wait + Copy + Send + 'static>(
     graph: &Graph,
     size: Size,
 ) -> Result<Vec<u64>, RunFault> {
-    let Ok((mut senders, receivers, _halter)) = senders_ring(alloc, graph, size, MAX_LIMIT, 1)
-    else {
+    let events = vec![in alloc; Event::NONE; size.get() as usize]?;
+    let Ok((mut senders, receivers, _halter)) = senders_ring(
+        alloc, graph, size, MAX_LIMIT, 1, events,
+    ) else {
         return Err(RunFault::Memory);
     };
     match senders.pop() {
@@ -106,6 +108,6 @@ pub fn pass<R: Threads + Clock + Wait + Copy + Send + 'static>(
     match order.exchange {
         Exchange::Ring => through_ring(rt, alloc, order, begun, &graph, size),
         Exchange::Plain => through_plain(rt, alloc, order, begun, &graph, size),
-        Exchange::Senders => through_senders(rt, alloc, order, begun, &graph, size),
+        Exchange::PlainSenders => through_plain_senders(rt, alloc, order, begun, &graph, size),
     }
 }

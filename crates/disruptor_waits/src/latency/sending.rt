@@ -27,7 +27,7 @@ impl Ends for dr_plain::Sender<Event> {
     }
 }
 
-impl Ends for dr_senders::Sender {
+impl Ends for dr_plain_senders::Sender<Event> {
     fn end(&mut self) -> Result<(), Refusal> {
         self.halt();
         Ok(())

@@ -2,17 +2,21 @@
 
 ghost use Rattle.dr_plain.specs.Meaning.Records.{halter_halted};
 ghost use Rattle.dr_plain.specs.declared.record.Step.TheVariants.{HalterHalts};
+ghost use Rattle.std.specs.Arc.{arc_value};
+ghost use Rattle.std.specs.Prelude.{◌≡◌};
 ghost use Rattle.dr_plain.specs.Calls.Ends.{HasStored};
+ghost use Rattle.dr_plain.specs.Inside.Leaving.{BelongsHalter};
 
+use super::RingSeat;
 use super::plays::Halt;
-use super::{RingBody, RingSeat};
+use crate::body::RingBody;
+use crate::left::HalterLeft;
 use dr_runs::HALT_WORD;
 use std::alloc::Global;
 use std::marker::Model;
 use std::sync::Arc;
 
 /// An end that halts the ring: its sender claims no more from then on.
-#[derive(Drop)]
 pub struct Halter<T> {
     pub(crate) ring: Arc<RingBody<T>, Global>,
     pub(crate) seat: RingSeat<T>,
@@ -39,5 +43,23 @@ impl<T> Halter<T> {
     {
         let words = &self.ring.table.shared;
         words.store::<Halt>(&mut self.seat, HALT_WORD, 1);
+    }
+
+    // All that it has, and the ring.
+    pub(crate) fn into_left(self) -> (Arc<RingBody<T>, Global>, HalterLeft<T>)
+        ensures ring { BelongsHalter (arc_value result.0).table.shared.table_id self }
+        ensures left { result.1 ≡ self }
+    {
+        let Halter { ring, seat } = self;
+        (ring, HalterLeft { seat })
+    }
+}
+
+/// It leaves what it holds in the ring, without waiting or taking memory. With the last end the events
+/// are dropped, and all memory of the ring is free.
+impl<T: Drop> Drop for Halter<T> {
+    fn drop(self) {
+        let (ring, left) = self.into_left();
+        drop(ring.halters.leave(0, left));
     }
 }

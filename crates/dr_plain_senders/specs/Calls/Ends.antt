@@ -4,21 +4,22 @@ use Rattle.atomic_table.specs.Seated.{TableId}
 use Rattle.dr_cells.specs.declared.token.Token.{Token}
 use Rattle.dr_meaning.specs.Calls.Ends.{Received}
 use Rattle.dr_runs.specs.declared.look.Look.{Look}
-use Rattle.dr_runs.specs.Looks.{look, looks_at}
+use Rattle.dr_runs.specs.Looks.{looks_at}
 use Rattle.dr_runs.specs.Runs.{IsBeginning}
 use Rattle.dr_plain_senders.specs.Meaning.Shape.{Shape}
-use Rattle.dr_plain_senders.specs.Meaning.Words.{count_word, mark_word}
+use Rattle.dr_plain_senders.specs.Meaning.Words.{count_word, marked_from}
 use Rattle.dr_plain_senders.specs.declared.record.Step.{Step}
 use Rattle.dr_plain_senders.specs.declared.record.SenderRecord.{SenderRecord}
 use Rattle.dr_plain_senders.specs.declared.record.ReceiverRecord.{ReceiverRecord}
 use Rattle.dr_plain_senders.specs.declared.record.HalterRecord.{HalterRecord}
-use Rattle.dr_plain_senders.specs.Meaning.Records.{events_of}
+use Rattle.dr_plain_senders.specs.declared.record.MarkLook.{MarkLook}
+use Rattle.dr_plain_senders.specs.Meaning.Records.{events_of, mark_look}
 
 -- an end: of which ring it is, made for what, what it knows, the slots that it has in hand,
 -- the run as it was at its last step, and what it has stored since the ring's opening
 pub record EndOf (T K : Type 0) : Type 0 where
   pub ring : TableId
-  pub plan : Shape
+  pub plan : Shape T
   pub knows : K
   pub hand : List (ℕ × Token T)
   pub past : List (Step T)
@@ -37,15 +38,15 @@ HalterStand T = EndOf T HalterRecord
 abbrev pub count_looks : List ℕ → List ℕ → List Look
 count_looks hs counts = looks_at count_word hs counts
 
--- looks at the marks of the sequences from s on
-abbrev pub mark_looks : Shape → ℕ → List ℕ → List Look
+-- looks at marks from that of the sequence s on, each at the first that the words before do not tell to be there
+abbrev pub mark_looks : {T : Type 0} → Shape T → ℕ → List ℕ → List MarkLook
 mark_looks k s [] = []
-mark_looks k s (m ∷ marks) = look (mark_word k s) m ∷ mark_looks k (s + 1) marks
+mark_looks k s (m ∷ marks) = mark_look s m ∷ mark_looks k (s + marked_from k s m) marks
 
 -- a sender as its caller sees it: with what is written of each of its sequences, as it claimed them one after another, while it is not published, and what it has in the cells
 pub record SenderEnd (T : Type 0) : Type 0 where
   pub ring : TableId
-  pub plan : Shape
+  pub plan : Shape T
   pub knows : SenderRecord T
   pub writes : List (Option T)
   pub cells : List (Option T)
@@ -55,24 +56,24 @@ pub record SenderEnd (T : Type 0) : Type 0 where
 -- a receiver as its caller sees it
 pub record ReceiverEnd (T : Type 0) : Type 0 where
   pub ring : TableId
-  pub plan : Shape
+  pub plan : Shape T
   pub knows : ReceiverRecord T
   pub past : List (Step T)
   pub stored : List (Step T)
 
 -- which end it is: of which ring, made for what, and its number
-abbrev pub EndPlace : Type 0
-EndPlace = TableId × Shape × ℕ
+abbrev pub EndPlace : Type 0 → Type 0
+EndPlace T = TableId × Shape T × ℕ
 
 module _ {T : Type 0} where
-  abbrev pub sender_place : SenderEnd T → EndPlace
+  abbrev pub sender_place : SenderEnd T → EndPlace T
   sender_place e = (e.ring, e.plan, e.knows.number)
 
   -- a sender's station alone
   abbrev pub at_station : SenderEnd T → SenderStand T
   at_station e = record { ring = e.ring; plan = e.plan; knows = e.knows; hand = []; past = e.past; stored = e.stored }
 
-  abbrev pub receiver_place : ReceiverEnd T → EndPlace
+  abbrev pub receiver_place : ReceiverEnd T → EndPlace T
   receiver_place e = (e.ring, e.plan, e.knows.number)
 
   -- what a receiver received

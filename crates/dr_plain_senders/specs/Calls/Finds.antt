@@ -1,15 +1,13 @@
 -- What a look may find: no word that is looked at falls. And what an exchange comes to.
-use Rattle.std.specs.Prelude.{◌≡◌, ℕ, ◌+◌, ◌<◌, ◌≤◌, ◌==◌, if◌then◌else◌, true, List, length, Some, None}
-use Rattle.dr_seq.specs.Rounds.{entry_of}
+use Rattle.std.specs.Prelude.{◌≡◌, ℕ, ◌+◌, ◌<◌, ◌≤◌, ◌==◌, if◌then◌else◌, true, List, length, None}
 use Rattle.dr_runs.specs.declared.look.Look.{Look}
 use Rattle.dr_runs.specs.Looks.{last_look}
 use Rattle.dr_plain_senders.specs.Meaning.Shape.{Shape}
 use Rattle.dr_plain_senders.specs.Meaning.Words.{claim_word, claimed_in, is_halted}
-use Rattle.dr_plain_senders.specs.declared.record.Lent.{Lent}
 use Rattle.dr_plain_senders.specs.declared.record.Stage.{Stage}
 use Rattle.dr_plain_senders.specs.declared.record.SenderRecord.{SenderRecord}
 use Rattle.dr_plain_senders.specs.declared.record.ReceiverRecord.{ReceiverRecord}
-use Rattle.dr_plain_senders.specs.Meaning.Records.{Owns, sender_looked, claimed_from}
+use Rattle.dr_plain_senders.specs.Meaning.Records.{Owns, sender_looked, claimed_from, marked_next}
 
 abbrev pub FindsMore : List Look → ℕ → ℕ → Type 0
 FindsMore looks word n = last_look 0 looks word ≤ n
@@ -24,21 +22,21 @@ module _ {T : Type 0} where
   FindsClaims r n = (last_look 0 r.looks claim_word ≤ n) × (length r.received ≤ claimed_in n) × (r.told ≡ true → (is_halted n ≡ true) × (claimed_in n ≡ length r.received))
 
   -- an upstream completed no less than a receiver took, no more where it was told that the ring drained, nor more than a round beyond what it completed
-  abbrev pub FindsEvents : Shape → ReceiverRecord T → ℕ → ℕ → Type 0
+  abbrev pub FindsEvents : Shape T → ReceiverRecord T → ℕ → ℕ → Type 0
   FindsEvents k r word n =
       (last_look 0 r.looks word ≤ n) × (length r.received ≤ n) × (r.told ≡ true → n ≤ length r.received) × (n ≤ k.size + r.completed)
 
-  -- who was told that the ring drained finds no mark of its next event, nor does who has a whole round in hand
-  abbrev pub FindsNext : Shape → ReceiverRecord T → ℕ → Type 0
-  FindsNext k r n = n ≡ entry_of k.size (length r.received) → (r.told ≡ true → ⊥) × (length r.received < k.size + r.completed)
+  -- who was told that the ring drained finds no mark of its next event there, and nobody more of them than leave it a round in hand
+  abbrev pub FindsNext : Shape T → ReceiverRecord T → ℕ → Type 0
+  FindsNext k r n = (r.told ≡ true → marked_next k r n ≡ 0) × (length r.received + marked_next k r n ≤ k.size + r.completed)
+
+  -- what a sender has is claimed
+  abbrev pub FindsOwn : SenderRecord T → ℕ → Type 0
+  FindsOwn r n = (s : ℕ) (t : Stage T) → Owns r s t → s < claimed_in n
 
   -- a sequence that a sender has is claimed before another claim from c up to n, and published where that takes its cell
-  abbrev pub IsEarlier : Shape → ℕ → ℕ → ℕ → Stage T → Type 0
+  abbrev pub IsEarlier : Shape T → ℕ → ℕ → ℕ → Stage T → Type 0
   IsEarlier k c n s t = (s < c) × (t.lent ≡ None → n ≤ s + k.size)
-
-  -- the mark of a sender's own sequence is there once it is published
-  abbrev pub FindsMark : Shape → SenderRecord T → ℕ → ℕ → Type 0
-  FindsMark k r s n = (t : Stage T) (l : Lent T) → Owns r s t → t.lent ≡ Some l → entry_of k.size s ≤ n
 
   -- a sender's exchange of c for c + n claims where it finds c, and is a look where it finds another number
   abbrev pub after_exchange : SenderRecord T → ℕ → ℕ → ℕ → SenderRecord T

@@ -13,7 +13,7 @@ use Rattle.dr_plain_senders.specs.Calls.Receiving.{PollSees}
 
 -- A poll hands over at least what the picture had for its handler at any earlier moment at which its receiver stood as the poll found it,
 -- as far as there is room; so where that was more than the handler took, it answers a batch.
-abbrev pub HandsWhatWasThere : {T : Type 0} → Shape → World T → World T → Type 0
+abbrev pub HandsWhatWasThere : {T : Type 0} → Shape T → World T → World T → Type 0
 HandsWhatWasThere {T} k w u =
     (h room : ℕ) (r r' : ReceiverRecord T) (polled : Polled) → get_elem? w.receivers h ≡ some r → get_elem? u.receivers h ≡ some r'
     → PollSees k r room r' (Ok polled) → min (available (ring_setup k) (picture_of k w) h - length r.received) room ≤ handed polled

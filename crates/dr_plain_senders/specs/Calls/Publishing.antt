@@ -1,5 +1,5 @@
 -- What a sender's publication answers, and what it leaves of what the sender knows.
-use Rattle.std.specs.Prelude.{◌≡◌, ◌≢◌, ℕ, ◌+◌, ◌<◌, ◌≤◌, ◌==◌, ◌&&◌, nat_lt, nat_le, if◌then◌else◌, Bool, true, false, List, [], ◌∷◌, ◌++◌, length, Option, None, Some, Result, Ok, Err}
+use Rattle.std.specs.Prelude.{◌≡◌, ◌≢◌, ℕ, ◌+◌, ◌<◌, ◌≤◌, ◌==◌, ◌&&◌, nat_lt, nat_le, if◌then◌else◌, Bool, true, false, min, List, [], ◌∷◌, ◌++◌, length, take, drop, Option, None, Some, Result, Ok, Err}
 use mathlib.Core.Option.{some}
 use lib.ListN.{get_elem?}
 use Rattle.dr_meaning.specs.declared.refusal.Refusal.{Refusal}
@@ -9,7 +9,7 @@ use Rattle.dr_runs.specs.declared.look.Look.{Look}
 use Rattle.dr_runs.specs.Looks.{look}
 use Rattle.dr_runs.specs.Runs.{IsBeginning, StoresWhereOk}
 use Rattle.dr_plain_senders.specs.Meaning.Shape.{Shape}
-use Rattle.dr_plain_senders.specs.Meaning.Words.{claim_word, claimed_in, cell_of}
+use Rattle.dr_plain_senders.specs.Meaning.Words.{claim_word, claimed_in, cell_of, in_word}
 use Rattle.dr_plain_senders.specs.declared.record.Lent.{Lent}
 use Rattle.dr_plain_senders.specs.declared.record.Stage.{Stage}
 use Rattle.dr_plain_senders.specs.declared.record.Own.{Own}
@@ -18,7 +18,7 @@ use Rattle.dr_plain_senders.specs.declared.record.Step.{Step}
 use Rattle.dr_plain_senders.specs.declared.record.Step.TheVariants.{SenderPublishes}
 use Rattle.dr_plain_senders.specs.Meaning.Records.{Owns, is_published, events_of, has_published}
 use Rattle.dr_plain_senders.specs.Calls.Ends.{SenderEnd, sender_place}
-use Rattle.dr_plain_senders.specs.Calls.Writing.{Sight, Unasked, Holds, IsSight, marks_of, sight_tests, written_where}
+use Rattle.dr_plain_senders.specs.Calls.Writing.{Sight, Unasked, Holds, IsSight, marks_of, claims_of, sight_tests, written_where}
 
 -- how a sender knows whether the last sequence of a stretch is claimed: it is its own, or never claimed, or it looked at the claim word, for one that is not its own, or published
 pub data Reach : Type 0 where
@@ -51,7 +51,7 @@ pub record PublishLooks (T : Type 0) : Type 0 where
   pub stop : Sight T
 
 module _ {T : Type 0} where
-  abbrev pub IsReach : Shape → SenderRecord T → ℕ → Reach → Type 0
+  abbrev pub IsReach : Shape T → SenderRecord T → ℕ → Reach → Type 0
   IsReach k r hi Inside = (t : Stage T) × Owns r hi t
   IsReach k r hi Outside = k.limit ≤ hi
   IsReach k r hi (Looked found) = (hi < k.limit) × ((t : Stage T) → Owns r hi t → is_published t ≡ true)
@@ -73,10 +73,10 @@ module _ {T : Type 0} where
     -- and where its last sequence is nobody's, no other is asked of
     pub nobodys : reach_unclaimed hi seen.reach ≡ Exactly true → seen.stop ≡ Unasked
 
-  abbrev pub stretch_tests : Shape → ℕ → PublishLooks T → ℕ → SequenceTests Verdict
+  abbrev pub stretch_tests : Shape T → ℕ → PublishLooks T → ℕ → SequenceTests Verdict
   stretch_tests k lo seen s = sight_tests k s (if s == lo + seen.ready then seen.stop else Unasked)
 
-  abbrev pub tests_of_publication : Shape → ℕ → ℕ → PublishLooks T → PublishTests Verdict
+  abbrev pub tests_of_publication : Shape T → ℕ → ℕ → PublishLooks T → PublishTests Verdict
   tests_of_publication k lo hi seen = record {
     no_producer = Exactly false;
     bad_count = Exactly (nat_lt hi lo);
@@ -91,10 +91,10 @@ module _ {T : Type 0} where
   LendsWritten e lo hi lents (Err refusal) = lents ≡ []
 
   -- what a sender knows after a publication: its stretch is published or, where it is refused, what it found
-  abbrev pub after_publication : Shape → SenderRecord T → ℕ → PublishLooks T → List (Lent T) → Result (Unit {0}) Refusal → SenderRecord T
-  after_publication k r lo seen lents (Ok _) = has_published r lo lents
-  after_publication k r lo seen lents (Err refusal) =
-      record r { marks = r.marks ++ marks_of k (lo + seen.ready) seen.stop; looks = r.looks ++ reach_looks seen.reach }
+  abbrev pub after_publication : SenderRecord T → ℕ → PublishLooks T → List (Lent T) → Result (Unit {0}) Refusal → SenderRecord T
+  after_publication r lo seen lents (Ok _) = has_published r lo lents
+  after_publication r lo seen lents (Err refusal) =
+      record r { marks = r.marks ++ marks_of (lo + seen.ready) seen.stop; looks = (r.looks ++ reach_looks seen.reach) ++ claims_of seen.stop }
 
   -- nothing is written any more of what is published
   abbrev pub writes_left : List (Own T) → List (Option T) → ℕ → ℕ → Result (Unit {0}) Refusal → List (Option T)
@@ -102,7 +102,7 @@ module _ {T : Type 0} where
   writes_left own writes lo hi (Err refusal) = writes
 
   -- nothing lies in the cells of the sequences from lo up to before upto, and what lies in all others is as before
-  pub record LosesCells (k : Shape) (lo upto : ℕ) (cells cells' : List (Option T)) : Type 0 where
+  pub record LosesCells (k : Shape T) (lo upto : ℕ) (cells cells' : List (Option T)) : Type 0 where
     pub lost : (s : ℕ) → lo ≤ s → s < upto → get_elem? cells' (cell_of k s) ≡ some None
     pub others : (i : ℕ) → ((s : ℕ) → lo ≤ s → s < upto → cell_of k s ≢ i) → get_elem? cells' i ≡ get_elem? cells i
 
@@ -110,10 +110,11 @@ module _ {T : Type 0} where
   PublishLoses e lo hi e' (Ok _) = LosesCells e.plan lo (hi + 1) e.cells e'.cells
   PublishLoses e lo hi e' (Err refusal) = e'.cells ≡ e.cells
 
-  -- the sequences from s on are published one after the other, in rising order, each with its event
-  abbrev pub publications : ℕ → ℕ → List T → List (Step T)
-  publications p s [] = []
-  publications p s (event ∷ events) = SenderPublishes p s (event ∷ []) ∷ publications p (s + 1) events
+  -- the sequences from s on are published with these events, in rising order: those whose marks are in one word together, and a word after another
+  abbrev pub ArePublished : Shape T → ℕ → ℕ → List T → List (Step T) → Type 0
+  ArePublished k p s events [] = events ≡ []
+  ArePublished k p s events (step ∷ steps) = let n : ℕ = min (in_word k s) (length events) in
+      (0 < n) × (step ≡ SenderPublishes p s (take n events)) × ArePublished k p (s + n) (drop n events) steps
 
   pub record PublishCall (e : SenderEnd T) (lo hi : ℕ) (e' : SenderEnd T) (result : Result (Unit {0}) Refusal) : Type 0 where
     pub place : sender_place e' ≡ sender_place e
@@ -123,8 +124,10 @@ module _ {T : Type 0} where
     pub all : AllReady lo hi seen.ready result
     pub lents : List (Lent T)
     pub lent : LendsWritten e lo hi lents result
-    pub knows : e'.knows ≡ after_publication e.plan e.knows lo seen lents result
+    pub knows : e'.knows ≡ after_publication e.knows lo seen lents result
     pub writes : e'.writes ≡ writes_left e.knows.own e.writes lo hi result
     pub cells : PublishLoses e lo hi e' result
-    pub stored : StoresWhereOk e.stored (publications e.knows.number lo (events_of lents)) e'.stored result
+    pub steps : List (Step T)
+    pub published : ArePublished e.plan e.knows.number lo (events_of lents) steps
+    pub stored : StoresWhereOk e.stored steps e'.stored result
     pub past : IsBeginning e.past e'.past

@@ -2,7 +2,6 @@
 use Rattle.std.specs.Prelude.{◌≡◌, ◌≢◌, ◌↔◌, ◌⊎◌, ℕ, ◌+◌, ◌-◌, ◌<◌, ◌≤◌, ◌==◌, ◌&&◌, ◌||◌, IsTrue, true, false, min, List, [], ◌∷◌, ◌++◌, length, Some, Result, Ok, Err}
 use mathlib.Core.Option.{some}
 use lib.ListN.{get_elem?}
-use Rattle.dr_seq.specs.Rounds.{entry_of}
 use Rattle.dr_graph.specs.Meaning.Graph.{upstreams_of}
 use Rattle.dr_meaning.specs.declared.refusal.Refusal.{Refusal}
 use Rattle.dr_meaning.specs.declared.command.Polled.{Polled}
@@ -12,20 +11,20 @@ use Rattle.dr_meaning.specs.Calls.Ends.{Verdict, Exactly, IsAnswerOf, Completes,
 use Rattle.dr_runs.specs.Looks.{look, offered_by}
 use Rattle.dr_runs.specs.Runs.{IsBeginning, StoresWhereOk}
 use Rattle.dr_plain_senders.specs.Meaning.Shape.{Shape}
-use Rattle.dr_plain_senders.specs.Meaning.Words.{claim_word, claimed_in, is_halted}
+use Rattle.dr_plain_senders.specs.Meaning.Words.{claim_word, claimed_in, is_halted, in_word, marked_from}
 use Rattle.dr_plain_senders.specs.declared.record.Lent.{Lent}
 use Rattle.dr_plain_senders.specs.declared.record.ReceiverRecord.{ReceiverRecord}
 use Rattle.dr_plain_senders.specs.declared.record.Step.TheVariants.{ReceiverCompletes}
 use Rattle.dr_plain_senders.specs.Meaning.Records.{events_of}
 use Rattle.dr_plain_senders.specs.Calls.Ends.{ReceiverEnd, received_of, receiver_place, count_looks, mark_looks}
 
--- a walk over the marks from the sequence s on: each is of its sequence, up to an end or to the first that is not of its
-abbrev pub WalksTo : ℕ → ℕ → ℕ → List ℕ → ℕ → Type 0
-WalksTo size end s [] upto = (end ≤ s) × (upto ≡ s)
-WalksTo size end s (m ∷ ms) upto =
-    (s < end) × (((m ≡ entry_of size s) × WalksTo size end (s + 1) ms upto) ⊎ ((m ≢ entry_of size s) × (ms ≡ []) × (upto ≡ s)))
+-- a walk over the words of marks from that of the sequence s on: all marks of its sequences from there on are there, up to an end or to the first word that has one which is not
+abbrev pub WalksTo : {T : Type 0} → Shape T → ℕ → ℕ → List ℕ → ℕ → Type 0
+WalksTo k end s [] upto = (end ≤ s) × (upto ≡ s)
+WalksTo k end s (m ∷ ms) upto = let n : ℕ = marked_from k s m in
+    (s < end) × (((n ≡ in_word k s) × WalksTo k end (s + n) ms upto) ⊎ ((n < in_word k s) × (ms ≡ []) × (upto ≡ s + n)))
 
--- what a poll saw: the claim word, then, without upstreams, the marks up to a sequence, or the count of each upstream
+-- what a poll saw: the claim word, then, without upstreams, the words of marks up to a sequence, or the count of each upstream
 pub record PollLooks : Type 0 where
   pub claims : ℕ
   pub marks : List ℕ
@@ -37,7 +36,7 @@ abbrev pub offer : PollLooks → ℕ
 offer seen = offered_by seen.upto seen.counts
 
 module _ {T : Type 0} where
-  abbrev pub ups_of : Shape → ReceiverRecord T → List ℕ
+  abbrev pub ups_of : Shape T → ReceiverRecord T → List ℕ
   ups_of k r = upstreams_of k.upstreams r.number
 
   -- a receiver knows all of its own tests
@@ -52,13 +51,13 @@ module _ {T : Type 0} where
   walk_end r claimed room = min claimed (length r.received + room + 1)
 
   -- it looked at nothing else
-  pub record LooksInOrder (k : Shape) (r : ReceiverRecord T) (room : ℕ) (seen : PollLooks) : Type 0 where
-    pub walks : ups_of k r ≡ [] → WalksTo k.size (walk_end r (claimed_in seen.claims) room) (length r.received) seen.marks seen.upto
+  pub record LooksInOrder (k : Shape T) (r : ReceiverRecord T) (room : ℕ) (seen : PollLooks) : Type 0 where
+    pub walks : ups_of k r ≡ [] → WalksTo k (walk_end r (claimed_in seen.claims) room) (length r.received) seen.marks seen.upto
     pub stands : ups_of k r ≢ [] → (seen.marks ≡ []) × (seen.upto ≡ length r.received)
     pub each : length seen.counts ≡ length (ups_of k r)
 
   -- what a receiver knows once it has looked so
-  abbrev pub looked_round : Shape → ReceiverRecord T → PollLooks → ReceiverRecord T
+  abbrev pub looked_round : Shape T → ReceiverRecord T → PollLooks → ReceiverRecord T
   looked_round k r seen = record r {
     told = r.told || (is_halted seen.claims && (claimed_in seen.claims == length r.received));
     marks = r.marks ++ mark_looks k (length r.received) seen.marks;
@@ -70,7 +69,7 @@ module _ {T : Type 0} where
   received_all r lents = record r { received = r.received ++ lents }
 
   -- what a poll with room for so many answers, where it saw this; who was told that the ring drained gets no batch any more
-  abbrev pub Answers : Shape → ReceiverRecord T → ℕ → ReceiverRecord T → PollLooks → Polled → Type 0
+  abbrev pub Answers : Shape T → ReceiverRecord T → ℕ → ReceiverRecord T → PollLooks → Polled → Type 0
   Answers k r room r' seen (Batch first count last) =
       (first ≡ length r.received) × (first < offer seen) × (count ≡ min (offer seen - first) room)
       × (IsTrue last ↔ (first + count ≡ offer seen)) × (r'.told ≡ false)
@@ -84,11 +83,11 @@ module _ {T : Type 0} where
       (is_halted seen.claims ≡ false) × (claimed_in seen.claims ≡ length r.received) × (offer seen ≡ length r.received) × (r' ≡ looked_round k r seen)
 
   -- a poll that is not refused answers by what it saw
-  abbrev pub PollSees : Shape → ReceiverRecord T → ℕ → ReceiverRecord T → Result Polled Refusal → Type 0
+  abbrev pub PollSees : Shape T → ReceiverRecord T → ℕ → ReceiverRecord T → Result Polled Refusal → Type 0
   PollSees k r room r' (Ok polled) = (seen : PollLooks) × LooksInOrder k r room seen × Answers k r room r' seen polled
   PollSees k r room r' (Err refusal) = r' ≡ r
 
-  abbrev pub Polls : Shape → ReceiverRecord T → ℕ → ReceiverRecord T → Result Polled Refusal → Type 0
+  abbrev pub Polls : Shape T → ReceiverRecord T → ℕ → ReceiverRecord T → Result Polled Refusal → Type 0
   Polls k r room r' result = IsAnswerOf (poll_causes (tests_of_poll r room)) (as_end result) × PollSees k r room r' result
 
   abbrev pub TriesToComplete : ReceiverRecord T → ℕ → ReceiverRecord T → Result (Unit {0}) Refusal → Type 0

@@ -1,8 +1,7 @@
 -- What an end of a ring answers is what the machine replies on the ring's picture.
-use Rattle.std.specs.Prelude.{◌≡◌, ◌≢◌, ℕ, ◌+◌, ◌-◌, ◌<◌, ◌≤◌, ◌⊎◌, ◌==◌, nat_le, if◌then◌else◌, true, false, List, [], ◌∷◌, ◌++◌, length, slice_index, Option, Some, None, Result, Ok, Err, Contains}
+use Rattle.std.specs.Prelude.{◌≡◌, ℕ, ◌+◌, ◌-◌, ◌<◌, ◌≤◌, ◌⊎◌, ◌==◌, nat_le, if◌then◌else◌, true, false, List, [], ◌∷◌, ◌++◌, length, slice_index, Option, Some, None, Result, Ok, Err, Contains}
 use mathlib.Core.Option.{some}
 use lib.ListN.{get_elem?}
-use Rattle.dr_seq.specs.Rounds.{entry_of}
 use Rattle.dr_graph.specs.Meaning.Graph.{finals}
 use Rattle.dr_meaning.specs.declared.refusal.Refusal.{Refusal}
 use Rattle.dr_meaning.specs.declared.refusal.Refusal.TheVariants.{BadCount, Halted, Exhausted, NoRoom, AlreadyPublished}
@@ -21,12 +20,12 @@ use Rattle.dr_meaning.specs.Calls.Replies.{unit_reply, poll_reply}
 use Rattle.dr_meaning.specs.Calls.Ends.{IsAnswerOf, as_end}
 use Rattle.dr_runs.specs.Entries.{entry}
 use Rattle.dr_plain_senders.specs.Meaning.Shape.{Shape, ring_setup}
-use Rattle.dr_plain_senders.specs.Meaning.Words.{claim_word, claimed_in, is_halted, count_word, mark_word}
+use Rattle.dr_plain_senders.specs.Meaning.Words.{claim_word, claimed_in, is_halted, count_word, is_out_by}
 use Rattle.dr_plain_senders.specs.declared.record.Stage.{Stage}
 use Rattle.dr_plain_senders.specs.declared.record.SenderRecord.{SenderRecord}
 use Rattle.dr_plain_senders.specs.declared.record.ReceiverRecord.{ReceiverRecord}
 use Rattle.dr_plain_senders.specs.Meaning.Records.{Owns, is_published}
-use Rattle.dr_plain_senders.specs.Meaning.Rule.{World}
+use Rattle.dr_plain_senders.specs.Meaning.Rule.{World, has_mark, is_out_now}
 use Rattle.dr_plain_senders.specs.Meaning.Moments.{stage_at, picture_of}
 use Rattle.dr_plain_senders.specs.Calls.Ends.{SenderEnd}
 use Rattle.dr_plain_senders.specs.Calls.Writing.{Sight, Found, Holds}
@@ -52,7 +51,7 @@ module _ {T : Type 0} where
   written_with (x ∷ writes) was s = written_with writes (λ q. if q == x.0 then Some x.1 else was q) s
 
   -- No word tells what senders wrote to sequences that they did not publish. With these writes the picture is so,
-  abbrev pub picture_with : Shape → World T → List (ℕ × T) → State T
+  abbrev pub picture_with : Shape T → World T → List (ℕ × T) → State T
   picture_with k w writes = record (picture_of k w) { written = λ s. written_with writes (picture_of k w).written s }
 
   -- and these are their entries
@@ -61,11 +60,11 @@ module _ {T : Type 0} where
   open_writes w (x ∷ writes) = entry (Write (stage_at w.stages x.0).owner x.0 x.1) Written [] ++ open_writes w writes
 
   -- in a state of it the machine replies so
-  abbrev pub RepliesIn : Shape → State T → Command T → Reply → Type 0
+  abbrev pub RepliesIn : Shape T → State T → Command T → Reply → Type 0
   RepliesIn k m command reply = (machine.step (ring_setup k) m command).reply ≡ reply
 
   -- and on the ring's picture
-  abbrev pub Replies : Shape → World T → Command T → Reply → Type 0
+  abbrev pub Replies : Shape T → World T → Command T → Reply → Type 0
   Replies k w command reply = RepliesIn k (picture_of k w) command reply
 
   -- the claim word, and how many events the handler at a place of a list completed, as they are now
@@ -77,7 +76,7 @@ module _ {T : Type 0} where
 
   -- Where a claim is refused, and what is so then: where its count is bad nothing else need be, and else what the deciding look finds at the claim word.
   -- A claim without room is decided by its first look, at which the finals' counts were no higher than it then found them.
-  abbrev pub DecidesRefusal : Shape → World T → ℕ → Refusal → Type 0
+  abbrev pub DecidesRefusal : Shape T → World T → ℕ → Refusal → Type 0
   DecidesRefusal k w n refusal =
       ((refusal ≡ BadCount) × ((n ≡ 0) ⊎ (k.size < n)))
       ⊎ ((refusal ≡ Halted) × IsCount k n × (is_halted (claims_now w) ≡ true))
@@ -86,7 +85,7 @@ module _ {T : Type 0} where
       × ((i : ℕ) → i < length counts → count_now w (finals k.upstreams) i ≤ slice_index counts i)))
 
   -- one that is given is decided by its exchange, at which they are no lower
-  pub record DecidesStretch (k : Shape) (w : World T) (n : ℕ) (c : Stretch) : Type 0 where
+  pub record DecidesStretch (k : Shape T) (w : World T) (n : ℕ) (c : Stretch) : Type 0 where
     pub count : IsCount k n
     pub first : c.lo ≡ claims_now w
     pub last : c.hi ≡ c.lo + n - 1
@@ -95,18 +94,18 @@ module _ {T : Type 0} where
     pub risen : (i : ℕ) → i < length counts → slice_index counts i ≤ count_now w (finals k.upstreams) i
 
   -- a handler's barrier offers nothing new: the mark of its next sequence is not there or, where it has upstreams, one of them completed no more than it took
-  abbrev pub OffersNothing : Shape → World T → ReceiverRecord T → Type 0
+  abbrev pub OffersNothing : Shape T → World T → ReceiverRecord T → Type 0
   OffersNothing k w r =
-      ((ups_of k r ≡ []) × (slice_index w.words (mark_word k (length r.received)) ≢ entry_of k.size (length r.received)))
+      ((ups_of k r ≡ []) × (has_mark k w (length r.received) ≡ false))
       ⊎ ((u : ℕ) × Contains (ups_of k r) u × (slice_index w.words (count_word u) ≡ length r.received))
 
   -- what the look finds by which a poll takes nothing: at the claim word or, for `Gating`, at a mark or a count; of a batch each event is an entry of the run
-  abbrev pub DecidesPoll : Shape → World T → ReceiverRecord T → Result Polled Refusal → Type 0
+  abbrev pub DecidesPoll : Shape T → World T → ReceiverRecord T → Result Polled Refusal → Type 0
   DecidesPoll k w r (Ok polled) = TellsNothing (claims_now w) (length r.received) polled × (polled ≡ Gating → OffersNothing k w r)
   DecidesPoll k w r (Err refusal) = Unit {0}
 
   -- these are what a sender wrote of its sequences that are not published
-  abbrev pub TellsWrites : Shape → World T → List (ℕ × T) → SenderEnd T → Type 0
+  abbrev pub TellsWrites : Shape T → World T → List (ℕ × T) → SenderEnd T → Type 0
   TellsWrites k w writes e = (s : ℕ) (t : Stage T) (o : Option T) → Holds e s t o → is_published t ≡ false → (picture_with k w writes).written s ≡ o
 
   -- whether the last sequence of a publication is claimed, as the claim word has it now
@@ -114,19 +113,19 @@ module _ {T : Type 0} where
   ReachesNow w hi (Looked found) = nat_le (claimed_in found) hi ≡ nat_le (claimed_in (claims_now w)) hi
   ReachesNow w hi _ = Unit {0}
 
-  -- what was found at the mark of a sequence is there now
-  abbrev pub FoundNow : Shape → World T → ℕ → Sight T → Type 0
-  FoundNow k w s (Found found) = slice_index w.words (mark_word k s) ≡ found
+  -- what the looks for a sequence tell is so now
+  abbrev pub FoundNow : Shape T → World T → ℕ → Sight T → Type 0
+  FoundNow k w s (Found before m after) = is_out_now k w s ≡ is_out_by k s before m after
   FoundNow k w s _ = Unit {0}
 
   -- what the looks find by which a publication is refused. An accepted one is decided where it begins, since each of its sequences may be published at once.
-  abbrev pub DecidesPublication : Shape → World T → ℕ → ℕ → PublishLooks T → Result (Unit {0}) Refusal → Type 0
+  abbrev pub DecidesPublication : Shape T → World T → ℕ → ℕ → PublishLooks T → Result (Unit {0}) Refusal → Type 0
   DecidesPublication k w lo hi seen (Ok done) = lo + seen.ready ≡ hi + 1
   DecidesPublication k w lo hi seen (Err refusal) = ReachesNow w hi seen.reach × FoundNow k w (lo + seen.ready) seen.stop
 
   -- Each call of an end, by what the end knows and, where it looks, by what the deciding look finds.
   -- A write is no event of its own here: with its publication it is an entry of the run. So writes and publications are answered as on the picture with what is written.
-  pub record RepliesAsAnswered (k : Shape) (w : World T) : Type 0 where
+  pub record RepliesAsAnswered (k : Shape T) (w : World T) : Type 0 where
     pub refused : (p n : ℕ) (refusal : Refusal) → p < k.senders → DecidesRefusal k w n refusal → Replies k w (Claim p n) (Refused refusal)
     pub claimed : (p n : ℕ) (c : Stretch) → p < k.senders → DecidesStretch k w n c → Replies k w (Claim p n) (Claimed c.lo c.hi)
     pub write : (writes : List (ℕ × T)) (p s : ℕ) (event : T) (r : SenderRecord T) (t : Stage T) → get_elem? w.senders p ≡ some r → Owns r s t

@@ -10,34 +10,36 @@ use Rattle.dr_runs.specs.declared.look.Look.{Look}
 use Rattle.dr_runs.specs.Looks.{look}
 use Rattle.dr_plain_senders.specs.Meaning.Shape.{Shape}
 use Rattle.dr_plain_senders.specs.Meaning.Words.{claim_word, is_halted, cell_of}
-use Rattle.dr_plain_senders.specs.Meaning.Records.{fresh_own}
+use Rattle.dr_plain_senders.specs.Meaning.Records.{fresh_own, Owns}
+use Rattle.dr_plain_senders.specs.declared.record.Lent.{Lent}
+use Rattle.dr_plain_senders.specs.declared.record.Stage.{Stage}
 use Rattle.dr_plain_senders.specs.declared.record.SenderRecord.{SenderRecord}
 use Rattle.dr_plain_senders.specs.declared.record.Step.{Step}
 use Rattle.dr_plain_senders.specs.declared.record.Step.TheVariants.{SenderClaims}
 use Rattle.dr_plain_senders.specs.declared.claiming.ClaimFault.{ClaimFault}
 use Rattle.dr_plain_senders.specs.declared.claiming.ClaimFault.TheVariants.{Refused, Contended}
 use Rattle.dr_plain_senders.specs.Meaning.Lying.{Laid}
-use Rattle.dr_plain_senders.specs.Inside.Seats.{LayIn, taken_by_claim}
+use Rattle.dr_plain_senders.specs.Inside.Seats.{LayIn, LayAsLent, taken_by_claim}
 use Rattle.dr_runs.specs.Runs.{IsBeginning}
 use Rattle.dr_plain_senders.specs.Calls.Ends.{SenderStand, SenderEnd, Stays, at_station, count_looks}
 
 -- a claim looks at the finals' counts in rising order
-abbrev pub gate_looks : Shape → List ℕ → List Look
+abbrev pub gate_looks : {T : Type 0} → Shape T → List ℕ → List Look
 gate_looks k counts = count_looks (finals k.upstreams) counts
 
 -- a count leaves room for n from c on
-abbrev pub LeavesRoom : Shape → ℕ → ℕ → ℕ → Type 0
+abbrev pub LeavesRoom : {T : Type 0} → Shape T → ℕ → ℕ → ℕ → Type 0
 LeavesRoom k c n count = c + n ≤ k.size + count
 
 -- there is room for n from c on: within the limit, and the sender looked at each final, and each leaves room
-pub record FoundRoom (k : Shape) (c n : ℕ) (counts : List ℕ) : Type 0 where
+pub record FoundRoom {T : Type 0} (k : Shape T) (c n : ℕ) (counts : List ℕ) : Type 0 where
   pub going : is_halted c ≡ false
   pub limit : c + n ≤ k.limit
   pub all : length counts ≡ length (finals k.upstreams)
   pub room : (i : ℕ) → i < length counts → LeavesRoom k c n (slice_index counts i)
 
 -- there is none: the last count at which the sender looked is the first that leaves no room
-pub record FoundNoRoom (k : Shape) (c n : ℕ) (counts : List ℕ) : Type 0 where
+pub record FoundNoRoom {T : Type 0} (k : Shape T) (c n : ℕ) (counts : List ℕ) : Type 0 where
   pub going : is_halted c ≡ false
   pub limit : c + n ≤ k.limit
   pub before : ℕ
@@ -47,17 +49,17 @@ pub record FoundNoRoom (k : Shape) (c n : ℕ) (counts : List ℕ) : Type 0 wher
   pub behind : k.size + slice_index counts before < c + n
 
 -- a claim is of some sequences, at most as many as there are slots
-abbrev pub IsCount : Shape → ℕ → Type 0
+abbrev pub IsCount : {T : Type 0} → Shape T → ℕ → Type 0
 IsCount k n = (0 < n) × (n ≤ k.size)
 
 -- a bad count is refused before all else
-abbrev pub Counts : Shape → ℕ → Result Claimed ClaimFault → Type 0
+abbrev pub Counts : {T : Type 0} → Shape T → ℕ → Result Claimed ClaimFault → Type 0
 Counts k n (Err (Refused BadCount)) = (n ≡ 0) ⊎ (k.size < n)
 Counts k n _ = IsCount k n
 
 module _ {T : Type 0} where
   -- where a claim of the sender p looked, what it found, and what it exchanged: it looked at the claim word first, then at the finals' counts, and where it found room it exchanged the claim word from what it found there, by which it is decided
-  abbrev pub LooksToClaim : Shape → ℕ → ℕ → List Look → List (Step T) → Result Claimed ClaimFault → Type 0
+  abbrev pub LooksToClaim : Shape T → ℕ → ℕ → List Look → List (Step T) → Result Claimed ClaimFault → Type 0
   LooksToClaim k p n seen steps (Ok c) =
       (counts : List ℕ) × FoundRoom k c.lo n counts × (c.hi ≡ c.lo + n - 1) × (seen ≡ look claim_word c.lo ∷ gate_looks k counts ++ look claim_word (c.lo + n) ∷ [])
       × (steps ≡ SenderClaims p c.lo n ∷ [])
@@ -82,7 +84,8 @@ module _ {T : Type 0} where
 
   -- the slots that the stretch has are in hand, with what lay in them, and else the same
   abbrev pub ClaimTakes : SenderStand T → ℕ → SenderStand T → Result Claimed ClaimFault → Type 0
-  ClaimTakes e n e' (Ok c) = (laid : List (Laid T)) × LayIn e.plan c.lo n laid × (e'.hand ≡ taken_by_claim e.plan c.lo laid ++ e.hand)
+  ClaimTakes e n e' (Ok c) =
+      (laid : List (Laid T)) × LayIn e.plan c.lo n laid × (e'.hand ≡ taken_by_claim e.plan c.lo laid ++ e.hand) × LayAsLent e.plan e.knows c.lo laid
   ClaimTakes e n e' (Err fault) = e'.hand ≡ e.hand
 
   pub record ClaimCall (e : SenderStand T) (n : ℕ) (e' : SenderStand T) (result : Result Claimed ClaimFault) : Type 0 where
@@ -98,14 +101,20 @@ module _ {T : Type 0} where
     pub few : e.plan.limit ≤ 2 ^ 62
     pub size : IsSize e.plan.size
 
-  -- something lies in the cell of each sequence of a stretch, and what lies in all others is as before
-  pub record GainsCells (k : Shape) (lo n : ℕ) (cells cells' : List (Option T)) : Type 0 where
-    pub gained : (s : ℕ) → lo ≤ s → s < lo + n → (x : T) × (get_elem? cells' (cell_of k s) ≡ some (Some x))
+  -- This lay in the cell of a sequence before: in the first round what the ring began with,
+  -- and what was published there last, where the sender published that itself. What another published it does not know.
+  abbrev pub LayThere : Shape T → SenderRecord T → ℕ → T → Type 0
+  LayThere k r q x = (q < k.size → get_elem? k.begun q ≡ some x)
+      × ((s : ℕ) (t : Stage T) (l : Lent T) → q ≡ k.size + s → Owns r s t → t.lent ≡ Some l → x ≡ l.event)
+
+  -- in the cell of each sequence of a stretch lies what lay there, and what lies in all others is as before
+  pub record GainsCells (k : Shape T) (r : SenderRecord T) (lo n : ℕ) (cells cells' : List (Option T)) : Type 0 where
+    pub gained : (s : ℕ) → lo ≤ s → s < lo + n → (x : T) × (get_elem? cells' (cell_of k s) ≡ some (Some x)) × LayThere k r s x
     pub others : (i : ℕ) → ((s : ℕ) → lo ≤ s → s < lo + n → cell_of k s ≢ i) → get_elem? cells' i ≡ get_elem? cells i
 
   -- nothing is written of what a claim adds
   abbrev pub ClaimGains : SenderEnd T → ℕ → SenderEnd T → Result Claimed ClaimFault → Type 0
-  ClaimGains e n e' (Ok c) = (e'.writes ≡ e.writes ++ replicate n None) × GainsCells e.plan c.lo n e.cells e'.cells
+  ClaimGains e n e' (Ok c) = (e'.writes ≡ e.writes ++ replicate n None) × GainsCells e.plan e.knows c.lo n e.cells e'.cells
   ClaimGains e n e' (Err fault) = (e'.writes ≡ e.writes) × (e'.cells ≡ e.cells)
 
   -- the call of a sender's end

@@ -1,5 +1,5 @@
 -- Which ends come together, which run came to them, and what is counted of them.
-use Rattle.std.specs.Prelude.{◌≡◌, ℕ, ◌+◌, ◌≤◌, Bool, List, length, map, Some, None}
+use Rattle.std.specs.Prelude.{◌≡◌, ℕ, ◌+◌, ◌<◌, ◌≤◌, Bool, List, length, map, Some, None}
 use mathlib.Core.Option.{some}
 use lib.ListN.{get_elem?}
 use Rattle.dr_meaning.specs.Meaning.Transcript.{Transcript, LeadsTo}
@@ -50,10 +50,12 @@ module _ {T : Type 0} where
   handler_counts r = record { taken = length r.received; completed = r.completed }
 
   -- The events of the cells come back: of each cell what its last sequence published there,
-  -- or what its sender has there, where that is not published.
-  pub record GivesBack (k : Shape) (claimed : ℕ) (ss : List (SenderEnd T)) (events : List T) : Type 0 where
+  -- or what its sender has there, where that is not published,
+  -- or what the ring began with, where nobody claimed it.
+  pub record GivesBack (k : Shape T) (claimed : ℕ) (ss : List (SenderEnd T)) (events : List T) : Type 0 where
     pub count : length events ≡ k.size
     pub published : (p s : ℕ) (e : SenderEnd T) (t : Stage T) (l : Lent T) → get_elem? ss p ≡ some e → Owns e.knows s t → t.lent ≡ Some l → claimed ≤ s + k.size
         → get_elem? events (cell_of k s) ≡ some l.event
     pub held : (p s : ℕ) (e : SenderEnd T) (t : Stage T) → get_elem? ss p ≡ some e → Owns e.knows s t → t.lent ≡ None
         → (x : T) × (get_elem? e.cells (cell_of k s) ≡ some (Some x)) × (get_elem? events (cell_of k s) ≡ some x)
+    pub unclaimed : (q : ℕ) (x : T) → claimed ≤ q → q < k.size → get_elem? k.begun q ≡ some x → get_elem? events (cell_of k q) ≡ some x

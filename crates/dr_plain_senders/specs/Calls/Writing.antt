@@ -1,8 +1,7 @@
 -- What a sender's write and change in place answer, and what it leaves of what the sender knows.
-use Rattle.std.specs.Prelude.{◌≡◌, ℕ, ◌<◌, ◌≤◌, ◌==◌, ◌%◌, nat_le, if◌then◌else◌, Bool, true, false, is_none, slice_index_or, List, [], ◌∷◌, ◌++◌, length, Option, None, Some, Result, Ok, Err, slice_set}
+use Rattle.std.specs.Prelude.{◌≡◌, ℕ, ◌<◌, ◌≤◌, ◌==◌, ◌%◌, if◌then◌else◌, Bool, true, false, is_none, slice_index_or, List, [], ◌∷◌, ◌++◌, length, Option, None, Some, Result, Ok, Err, slice_set}
 use mathlib.Core.Option.{some}
 use lib.ListN.{get_elem?}
-use Rattle.dr_seq.specs.Rounds.{entry_of}
 use Rattle.dr_meaning.specs.declared.refusal.Refusal.{Refusal}
 use Rattle.dr_meaning.specs.Meaning.Refusals.{WriteTests, SequenceTests, write_causes}
 use Rattle.dr_meaning.specs.Calls.Ends.{Verdict, Exactly, unknown, IsAnswerOf, as_end}
@@ -10,19 +9,20 @@ use Rattle.dr_runs.specs.declared.look.Look.{Look}
 use Rattle.dr_runs.specs.Looks.{look}
 use Rattle.dr_runs.specs.Runs.{IsBeginning}
 use Rattle.dr_plain_senders.specs.Meaning.Shape.{Shape}
-use Rattle.dr_plain_senders.specs.Meaning.Words.{mark_word}
+use Rattle.dr_plain_senders.specs.Meaning.Words.{claim_word, is_out_by}
+use Rattle.dr_plain_senders.specs.declared.record.MarkLook.{MarkLook}
 use Rattle.dr_plain_senders.specs.declared.record.Stage.{Stage}
 use Rattle.dr_plain_senders.specs.declared.record.Own.{Own}
 use Rattle.dr_plain_senders.specs.declared.record.SenderRecord.{SenderRecord}
-use Rattle.dr_plain_senders.specs.Meaning.Records.{Owns, is_published}
+use Rattle.dr_plain_senders.specs.Meaning.Records.{Owns, is_published, mark_look}
 use Rattle.dr_plain_senders.specs.Calls.Ends.{SenderEnd, sender_place}
 
--- The refusals of each call are the machine's, in its order. What a sender knows of its own sequences is exact. Of another's it learns by a look at the mark in its cell whether it is published, which the mark tells exactly; all that is then left of the machine's tests is answered `NotClaimed`, as the machine answers it at that moment (`moments`). A sequence at the limit or beyond is never claimed.
+-- The refusals of each call are the machine's, in its order. What a sender knows of its own sequences is exact. Of another's it learns by looks at the claim word, at its mark and at the claim word again whether it is published, which these tell exactly; all that is then left of the machine's tests is answered `NotClaimed`, as the machine answers it at one of these moments (`moments`). A sequence at the limit or beyond is never claimed.
 
--- what a sender knows of a sequence when it answers: how far it brought its own, and what it wrote, else what it found at the mark, or that it is never claimed; or it asked nothing of it
+-- what a sender knows of a sequence when it answers: how far it brought its own, and what it wrote, else what it found at the claim word, at the mark and at the claim word again, or that it is never claimed; or it asked nothing of it
 pub data Sight (T : Type 0) : Type 0 where
   Has : Stage T → Option T → Sight T
-  Found : ℕ → Sight T
+  Found : ℕ → ℕ → ℕ → Sight T
   Never : Sight T
   Unasked : Sight T
 
@@ -31,10 +31,10 @@ module _ {T : Type 0} where
   abbrev pub Holds : SenderEnd T → ℕ → Stage T → Option T → Type 0
   Holds e s t w = (i : ℕ) × (get_elem? e.knows.own i ≡ some record { sequence = s; stage = t }) × (get_elem? e.writes i ≡ some w)
 
-  -- it looks at no mark of a sequence that is never claimed, and at that of its own only where it is published, and finds it
+  -- it looks at nothing for a sequence that is never claimed, and for its own only where it is published, and finds it so
   abbrev pub IsSight : SenderEnd T → ℕ → Sight T → Type 0
   IsSight e s (Has t w) = Holds e s t w
-  IsSight e s (Found m) = (s < e.plan.limit) × ((t : Stage T) → Owns e.knows s t → (is_published t ≡ true) × (entry_of e.plan.size s ≤ m))
+  IsSight e s (Found before m after) = (s < e.plan.limit) × ((t : Stage T) → Owns e.knows s t → (is_published t ≡ true) × (is_out_by e.plan s before m after ≡ true))
   IsSight e s Never = e.plan.limit ≤ s
   IsSight e s Unasked = Unit {0}
 
@@ -42,25 +42,29 @@ module _ {T : Type 0} where
   IsAsked Unasked = ⊥
   IsAsked _ = Unit {0}
 
-  -- what it found at the mark of a sequence
-  abbrev pub marks_of : Shape → ℕ → Sight T → List Look
-  marks_of k s (Found m) = look (mark_word k s) m ∷ []
-  marks_of k s _ = []
+  -- what it found at the mark of a sequence, and at the claim word
+  abbrev pub marks_of : ℕ → Sight T → List MarkLook
+  marks_of s (Found before m after) = mark_look s m ∷ []
+  marks_of s _ = []
+
+  abbrev pub claims_of : Sight T → List Look
+  claims_of (Found before m after) = look claim_word before ∷ look claim_word after ∷ []
+  claims_of _ = []
 
   -- the tests of a sequence, of which one that is not asked refuses nothing
-  abbrev pub sight_tests : Shape → ℕ → Sight T → SequenceTests Verdict
+  abbrev pub sight_tests : Shape T → ℕ → Sight T → SequenceTests Verdict
   sight_tests k s (Has t w) = record { published = Exactly (is_published t); not_owned = Exactly false; unwritten = Exactly (is_none w) }
-  sight_tests k s (Found m) = record { published = Exactly (nat_le (entry_of k.size s) m); not_owned = Exactly true; unwritten = unknown }
+  sight_tests k s (Found before m after) = record { published = Exactly (is_out_by k s before m after); not_owned = Exactly true; unwritten = unknown }
   sight_tests k s Never = record { published = Exactly false; not_owned = Exactly true; unwritten = Exactly true }
   sight_tests k s Unasked = record { published = Exactly false; not_owned = Exactly false; unwritten = Exactly false }
 
   -- whether a sequence is nobody's: what is published is claimed, and of another's that is not published nothing is known
-  abbrev pub sight_unclaimed : Shape → ℕ → Sight T → Verdict
-  sight_unclaimed k s (Found m) = if nat_le (entry_of k.size s) m then Exactly false else unknown
+  abbrev pub sight_unclaimed : Shape T → ℕ → Sight T → Verdict
+  sight_unclaimed k s (Found before m after) = if is_out_by k s before m after then Exactly false else unknown
   sight_unclaimed k s Never = Exactly true
   sight_unclaimed k s _ = Exactly false
 
-  abbrev pub tests_of_write : Shape → ℕ → Sight T → WriteTests Verdict
+  abbrev pub tests_of_write : Shape T → ℕ → Sight T → WriteTests Verdict
   tests_of_write k s x = record {
     no_producer = Exactly false;
     unclaimed = sight_unclaimed k s x;
@@ -69,9 +73,9 @@ module _ {T : Type 0} where
   }
 
   -- what a sender knows after a write: where it is refused, what it found
-  abbrev pub after_write : Shape → SenderRecord T → ℕ → Sight T → Result (Unit {0}) Refusal → SenderRecord T
-  after_write k r s x (Ok _) = r
-  after_write k r s x (Err refusal) = record r { marks = r.marks ++ marks_of k s x }
+  abbrev pub after_write : SenderRecord T → ℕ → Sight T → Result (Unit {0}) Refusal → SenderRecord T
+  after_write r s x (Ok _) = r
+  after_write r s x (Err refusal) = record r { marks = r.marks ++ marks_of s x; looks = r.looks ++ claims_of x }
 
   -- what is written of each of its sequences, once it is this of all that are such
   abbrev pub written_where : (ℕ → Bool) → Option T → List (Own T) → List (Option T) → List (Option T)
@@ -94,7 +98,7 @@ module _ {T : Type 0} where
     pub sees : IsSight e s sight
     pub asked : IsAsked sight
     pub answer : IsAnswerOf (write_causes (tests_of_write e.plan s sight)) (as_end result)
-    pub knows : e'.knows ≡ after_write e.plan e.knows s sight result
+    pub knows : e'.knows ≡ after_write e.knows s sight result
     pub writes : e'.writes ≡ writes_after e.knows.own e.writes s event result
     pub cells : e'.cells ≡ cells_after e.cells s event result
     pub stored : e'.stored ≡ e.stored

@@ -1,15 +1,21 @@
 -- What the ends bring to its place, once they come together.
-use Rattle.std.specs.Prelude.{◌≡◌, ◌≢◌, ℕ, ◌<◌, ◌≤◌, Bool, true, List, length, Some, None}
+use Rattle.std.specs.Prelude.{◌≡◌, ◌≢◌, ℕ, ◌<◌, ◌≤◌, Bool, true, List, length, map, Some, None}
 use mathlib.Core.Option.{some}
 use lib.ListN.{get_elem?}
 use Rattle.dr_cells.specs.declared.token.Token.{Token}
 use Rattle.dr_cells.specs.Hold.{whole}
 use Rattle.dr_cells.specs.Tokens.{token_at}
+use Rattle.dr_runs.specs.declared.counts.HandlerCounts.{HandlerCounts}
+use Rattle.dr_runs.specs.declared.view.View.{View}
 use Rattle.dr_plain_senders.specs.Meaning.Shape.{Shape}
 use Rattle.dr_plain_senders.specs.Meaning.Words.{cell_of}
 use Rattle.dr_plain_senders.specs.Meaning.Records.{Owns}
+use Rattle.dr_plain_senders.specs.declared.record.EndRecord.{EndRecord}
 use Rattle.dr_plain_senders.specs.declared.record.Stage.{Stage}
-use Rattle.dr_plain_senders.specs.Calls.Ends.{SenderEnd, ReceiverEnd}
+use Rattle.dr_plain_senders.specs.declared.record.Step.{Step}
+use Rattle.dr_plain_senders.specs.Calls.Ends.{SenderEnd, ReceiverEnd, HalterStand}
+use Rattle.dr_plain_senders.specs.Calls.Settling.{handler_counts}
+use Rattle.dr_plain_senders.specs.Inside.Finishing.{HasAllEnds}
 use Rattle.dr_plain_senders.specs.Inside.Fits.{PartsFit}
 
 module _ {T : Type 0} where
@@ -18,11 +24,11 @@ module _ {T : Type 0} where
   IsOpenOf e s = (t : Stage T) × Owns e.knows s t × (t.lent ≡ None)
 
   -- a cell is whole in its place, with what a sender had there
-  abbrev pub HasCellOf : Shape → List (Token T) → ℕ → SenderEnd T → Type 0
+  abbrev pub HasCellOf : Shape T → List (Token T) → ℕ → SenderEnd T → Type 0
   HasCellOf k tokens i e = (x : T) × (get_elem? tokens i ≡ some (token_at k.strip i (whole x))) × (get_elem? e.cells i ≡ some (Some x))
 
   -- one of some senders has a sequence open in a cell, which is whole in its place
-  pub record IsBroughtBy (k : Shape) (ss : List (SenderEnd T)) (tokens : List (Token T)) (i : ℕ) : Type 0 where
+  pub record IsBroughtBy (k : Shape T) (ss : List (SenderEnd T)) (tokens : List (Token T)) (i : ℕ) : Type 0 where
     pub number : ℕ
     pub sequence : ℕ
     pub end : SenderEnd T
@@ -32,14 +38,14 @@ module _ {T : Type 0} where
     pub has : HasCellOf k tokens i end
 
   -- the cells of the open sequences of some senders are marked as brought, and so are no others
-  pub record AreBrought (k : Shape) (ss : List (SenderEnd T)) (tokens : List (Token T)) (brought : List Bool) : Type 0 where
+  pub record AreBrought (k : Shape T) (ss : List (SenderEnd T)) (tokens : List (Token T)) (brought : List Bool) : Type 0 where
     pub count : length tokens ≡ k.size
     pub many : length brought ≡ k.size
     pub marked : (p s : ℕ) (e : SenderEnd T) → get_elem? ss p ≡ some e → IsOpenOf e s → get_elem? brought (cell_of k s) ≡ some true
     pub by : (i : ℕ) → get_elem? brought i ≡ some true → IsBroughtBy k ss tokens i
 
   -- of some sequences those that are open have their cells in their places, and all other places are as before
-  pub record AreTaken (k : Shape) (opened : ℕ → Bool) (first upto : ℕ) (own tokens tokens' : List (Token T)) (brought brought' : List Bool) : Type 0 where
+  pub record AreTaken (k : Shape T) (opened : ℕ → Bool) (first upto : ℕ) (own tokens tokens' : List (Token T)) (brought brought' : List Bool) : Type 0 where
     pub count : length tokens' ≡ length tokens
     pub many : length brought' ≡ length brought
     pub here : (s : ℕ) (t : Token T) → first ≤ s → s < upto → opened s ≡ true → get_elem? own (cell_of k s) ≡ some t
@@ -52,3 +58,12 @@ module _ {T : Type 0} where
     pub count : length hands ≡ length es
     pub each : (h : ℕ) (e : ReceiverEnd T) (parts : List (Token T)) → get_elem? es h ≡ some e → get_elem? hands h ≡ some parts
         → PartsFit e.plan e.knows parts
+
+  -- all ends of a ring are together: in one view, and with what they bring in its places
+  pub record AreTogether (k : Shape T) (v : View (EndRecord T) (Step T)) (ss : List (SenderEnd T)) (rs : List (ReceiverEnd T)) (t : HalterStand T)
+      (counts : List HandlerCounts) (hands : List (List (Token T))) (tokens : List (Token T)) (brought : List Bool) : Type 0 where
+    pub plan : k ≡ t.plan
+    pub ends : HasAllEnds v ss rs t
+    pub cells : AreBrought k ss tokens brought
+    pub counted : counts ≡ map (λ (e : ReceiverEnd T). handler_counts e.knows) rs
+    pub handed : AreHandsOf rs hands

@@ -32,23 +32,23 @@ module _ {T : Type 0} where
   value_of (lent l) = l.event
 
   -- the parts of what lies lent in the cell that the sequence q takes next, from the handler h on: all but those that handlers have in hand
-  abbrev pub parts_left : Shape → ℕ → List HandlerCounts → ℕ → Lent T → Hand T
+  abbrev pub parts_left : Shape T → ℕ → List HandlerCounts → ℕ → Lent T → Hand T
   parts_left k h [] q l = []
   parts_left k h (c ∷ counts) q l = if is_in_hand c (q - k.size) then parts_left k (h + 1) counts q l else placed k (lane_of h) q (lent l) ∷ parts_left k (h + 1) counts q l
 
   -- with what is kept of the cell
-  abbrev pub row_left : Shape → List HandlerCounts → ℕ → Laid T → Hand T
+  abbrev pub row_left : Shape T → List HandlerCounts → ℕ → Laid T → Hand T
   row_left k counts q (unlent x) = placed k keeping_lane q (unlent x) ∷ []
   row_left k counts q (lent l) = placed k keeping_lane q (lent l) ∷ parts_left k 0 counts q l
 
   -- the rows of the cells that the sequences from q on take next, but of those cells that a sender has
-  abbrev pub rows_left : Shape → List HandlerCounts → ℕ → List (Option (Laid T)) → Hand T
+  abbrev pub rows_left : Shape T → List HandlerCounts → ℕ → List (Option (Laid T)) → Hand T
   rows_left k counts q [] = []
   rows_left k counts q (None ∷ laid) = rows_left k counts (q + 1) laid
   rows_left k counts q (Some a ∷ laid) = row_left k counts q a ++ rows_left k counts (q + 1) laid
 
   -- what lies in each cell, from that of the next sequence on: nothing where a sequence is open
-  pub record AreLaid (k : Shape) (stages : List (Stage T)) (laid : List (Option (Laid T))) : Type 0 where
+  pub record AreLaid (k : Shape T) (stages : List (Stage T)) (laid : List (Option (Laid T))) : Type 0 where
     pub count : length laid ≡ k.size
     pub laid_there : (i : ℕ) (a : Laid T) → get_elem? laid i ≡ some (Some a) → IsLaid k stages (length stages + i) a
     pub opened : (i : ℕ) → get_elem? laid i ≡ some None
@@ -62,7 +62,7 @@ module _ {T : Type 0} where
     pub all : AreAllEnds ss rs t
 
   -- a load of the claim word by the seat that has them: it stands for none any more, and has in hand what lay in the slots
-  pub record TookAll (k : Shape) (me : Sitting T) (n : ℕ) (me' : Sitting T) : Type 0 where
+  pub record TookAll (k : Shape T) (me : Sitting T) (n : ℕ) (me' : Sitting T) : Type 0 where
     pub ran : ViewRan (exchange k) me.0
     pub finds : slice_index ran.world.words claim_word ≡ n
     pub laid : List (Option (Laid T))
@@ -74,12 +74,12 @@ module _ {T : Type 0} where
   AreAllWhole strip tokens = (i : ℕ) (t : Token T) → get_elem? tokens i ≡ some t → (x : T) × (t ≡ token_at strip i (whole x))
 
   -- each handler has a row of as many places as there are cells
-  pub record AreWide (k : Shape) (hands : List (List (Token T))) : Type 0 where
+  pub record AreWide (k : Shape T) (hands : List (List (Token T))) : Type 0 where
     pub count : length hands ≡ handlers_of k
     pub each : (h : ℕ) (parts : List (Token T)) → get_elem? hands h ≡ some parts → length parts ≡ k.size
 
   -- the parts of an event that handlers have in hand are in their rows
-  abbrev pub HoldParts : Shape → List HandlerCounts → ℕ → Lent T → List (List (Token T)) → Type 0
+  abbrev pub HoldParts : Shape T → List HandlerCounts → ℕ → Lent T → List (List (Token T)) → Type 0
   HoldParts k counts q l hands = (h : ℕ) (c : HandlerCounts) (parts : List (Token T)) → get_elem? counts h ≡ some c → get_elem? hands h ≡ some parts
       → is_in_hand c (q - k.size) ≡ true → get_elem? parts (cell_of k q) ≡ some (part_of k q (lent l))
 
@@ -90,17 +90,17 @@ module _ {T : Type 0} where
         → (length parts' ≡ length parts) × ((i : ℕ) → i ≢ place → get_elem? parts' i ≡ get_elem? parts i)
 
   -- what lies in one cell: its slots are first in hand, and all other parts of it in the handlers' rows
-  pub record IsRow (k : Shape) (counts : List HandlerCounts) (q : ℕ) (a : Laid T) (others hand : Hand T) (hands : List (List (Token T))) : Type 0 where
+  pub record IsRow (k : Shape T) (counts : List HandlerCounts) (q : ℕ) (a : Laid T) (others hand : Hand T) (hands : List (List (Token T))) : Type 0 where
     pub round : IsOfRound k q a
     pub in_front : hand ≡ row_left k counts q a ++ others
     pub held : (l : Lent T) → a ≡ lent l → HoldParts k counts q l hands
 
   -- the whole cell
-  abbrev pub whole_of : Shape → ℕ → Laid T → Token T
+  abbrev pub whole_of : Shape T → ℕ → Laid T → Token T
   whole_of k q a = token_at k.strip (cell_of k q) (whole (value_of a))
 
   -- what lies in all cells
-  pub record AreRows (k : Shape) (counts : List HandlerCounts) (c : ℕ) (laid : List (Option (Laid T))) (hand : Hand T) (hands : List (List (Token T))) (brought : List Bool) : Type 0 where
+  pub record AreRows (k : Shape T) (counts : List HandlerCounts) (c : ℕ) (laid : List (Option (Laid T))) (hand : Hand T) (hands : List (List (Token T))) (brought : List Bool) : Type 0 where
     pub count : length laid ≡ k.size
     pub rounds : (i : ℕ) (a : Laid T) → get_elem? laid i ≡ some (Some a) → IsOfRound k (c + i) a
     pub held : (i : ℕ) (l : Lent T) → get_elem? laid i ≡ some (Some (lent l)) → HoldParts k counts (c + i) l hands
@@ -110,7 +110,7 @@ module _ {T : Type 0} where
     pub in_front : hand ≡ rows_left k counts c laid ++ others
 
   -- each cell is whole in its place, with what lay in it, and those that a sender brought are as before
-  pub record AreBack (k : Shape) (c : ℕ) (laid : List (Option (Laid T))) (tokens tokens' : List (Token T)) : Type 0 where
+  pub record AreBack (k : Shape T) (c : ℕ) (laid : List (Option (Laid T))) (tokens tokens' : List (Token T)) : Type 0 where
     pub count : length tokens' ≡ length tokens
     pub back : (i : ℕ) (a : Laid T) → get_elem? laid i ≡ some (Some a) → get_elem? tokens' (cell_of k (c + i)) ≡ some (whole_of k (c + i) a)
     pub kept : (i : ℕ) → get_elem? laid i ≡ some None → get_elem? tokens' (cell_of k (c + i)) ≡ get_elem? tokens (cell_of k (c + i))

@@ -35,7 +35,7 @@ open_count opened s (suc n) = (if opened s then 1 else 0) + open_count opened (s
 
 module _ {T : Type 0} where
   -- a receiver has the parts of what it took and did not complete
-  pub record PartsFit (k : Shape) (r : ReceiverRecord T) (parts : List (Token T)) : Type 0 where
+  pub record PartsFit (k : Shape T) (r : ReceiverRecord T) (parts : List (Token T)) : Type 0 where
     pub count : length parts ≡ k.size
     pub held : (s : ℕ) (l : Lent T) → r.completed ≤ s → get_elem? r.received s ≡ some l → get_elem? parts (cell_of k s) ≡ some (part_of k s (lent l))
 
@@ -48,19 +48,19 @@ module _ {T : Type 0} where
     pub parts : PartsFit e.plan e.knows tokens
     pub hand : e.hand ≡ blanks_between e.plan e.knows e.knows.completed (length e.knows.received)
 
-  -- A sender's marks: what is marked as claimed is its own, and written and published as far as it is marked so. What it has else is of an older round, and published.
-  pub record MarksFit (k : Shape) (r : SenderRecord T) (o : Owned) : Type 0 where
+  -- A sender's marks: what is marked as claimed is its own, and written and published as far as it is marked so. What it has else is of an older round, and published, and its cell is claimed again.
+  pub record MarksFit (k : Shape T) (r : SenderRecord T) (o : Owned) : Type 0 where
     pub claims : length o.claimed ≡ k.size
     pub writes : length o.written ≡ k.size
     pub shows : length o.published ≡ k.size
     pub own : (s : ℕ) → is_marked o.claimed s ≡ true → (t : Stage T) × Owns r s t
     pub written : (s : ℕ) → is_marked o.written s ≡ true → (t : Stage T) × Owns r s t
     pub published : (s : ℕ) → is_marked o.published s ≡ true → (t : Stage T) × Owns r s t
-    pub old : (s : ℕ) (t : Stage T) → Owns r s t → is_marked o.claimed s ≡ false → is_published t ≡ true
+    pub old : (s : ℕ) (t : Stage T) → Owns r s t → is_marked o.claimed s ≡ false → (is_published t ≡ true) × ((z : ℕ) × (u : Stage T) × Owns r z u × (s + k.size ≤ z))
     pub shown : (s : ℕ) (t : Stage T) → Owns r s t → is_marked o.claimed s ≡ true → is_published t ≡ is_marked o.published s
 
   -- the rows of the open ones of n sequences from s on, in rising order, with nothing in them
-  abbrev pub open_rows : Shape → (ℕ → Bool) → ℕ → ℕ → Hand T
+  abbrev pub open_rows : Shape T → (ℕ → Bool) → ℕ → ℕ → Hand T
   open_rows k opened s zero = []
   open_rows k opened s (suc n) = if opened s then blank_row k s ++ open_rows k opened (s + 1) n else open_rows k opened (s + 1) n
 
@@ -81,8 +81,8 @@ module _ {T : Type 0} where
   cells_of tokens = map (λ (t : Token T). held t.hold) tokens
 
   -- what is written of a sequence that is not published
-  abbrev pub written_in : Shape → Owned → List (Token T) → ℕ → Option T
+  abbrev pub written_in : Shape T → Owned → List (Token T) → ℕ → Option T
   written_in k o tokens s = if is_ready o s then slice_index_or (cells_of tokens) (cell_of k s) None else None
 
-  abbrev pub writes_of : Shape → Owned → List (Token T) → List (Own T) → List (Option T)
+  abbrev pub writes_of : Shape T → Owned → List (Token T) → List (Own T) → List (Option T)
   writes_of k o tokens own = map (λ (x : Own T). written_in k o tokens x.sequence) own

@@ -16,9 +16,9 @@ module _ {T : Type 0} where
   with_hand e hand = record e { hand = hand }
 
   -- the slot of a lane for a sequence, with nothing in it
-  abbrev pub blank_slot : Shape → ℕ → ℕ → ℕ × Token T
+  abbrev pub blank_slot : Shape T → ℕ → ℕ → ℕ × Token T
   blank_slot k lane s = (slot_of k lane s, no_token)
 
   -- and those for n sequences from s on
-  abbrev pub blank_slots : Shape → ℕ → ℕ → ℕ → Hand T
+  abbrev pub blank_slots : Shape T → ℕ → ℕ → ℕ → Hand T
   blank_slots k lane s n = stretch (λ q (u : Unit {0}). blank_slot k lane q) s (nothings n)

@@ -1,24 +1,24 @@
 -- What the looks of a poll come to.
 use Rattle.std.specs.Prelude.{◌≡◌, ℕ, ◌+◌, ◌-◌, ◌<◌, ◌≤◌, ◌≢◌, Bool, true, nat_lt, if◌then◌else◌, min, List, [], ◌∷◌, ◌++◌, length, take, Contains}
-use Rattle.dr_seq.specs.Rounds.{entry_of}
 use Rattle.dr_meaning.specs.declared.command.Polled.{Polled}
 use Rattle.dr_meaning.specs.declared.command.Polled.TheVariants.{Drained, Gating, Idle}
 use Rattle.dr_runs.specs.declared.look.Look.{Look}
 use Rattle.dr_runs.specs.Looks.{offered_by}
 use Rattle.dr_plain_senders.specs.Meaning.Shape.{Shape}
+use Rattle.dr_plain_senders.specs.Meaning.Words.{in_word, marked_from}
 use Rattle.dr_plain_senders.specs.declared.record.Lent.{Lent}
 use Rattle.dr_plain_senders.specs.declared.record.ReceiverRecord.{ReceiverRecord}
 use Rattle.dr_runs.specs.Runs.{IsBeginning}
-use Rattle.dr_plain_senders.specs.Meaning.Records.{taken_at_mark, is_marked_next, mark_looked}
+use Rattle.dr_plain_senders.specs.Meaning.Records.{taken_at_mark, marked_next, mark_looked}
 use Rattle.dr_plain_senders.specs.Calls.Ends.{ReceiverEnd, count_looks, mark_looks}
 use Rattle.dr_plain_senders.specs.Calls.Finds.{FindsNext}
 use Rattle.dr_plain_senders.specs.Calls.Receiving.{ups_of, WalksTo, walk_end}
 use Rattle.dr_plain_senders.specs.Inside.Seats.{Hand, taken_by_poll}
 
--- each of these marks is of its sequence, and each of these sequences is below the end
-abbrev pub AllCarry : ℕ → ℕ → ℕ → List ℕ → Type 0
-AllCarry size end s [] = Unit {0}
-AllCarry size end s (m ∷ ms) = (s < end) × (m ≡ entry_of size s) × AllCarry size end (s + 1) ms
+-- these words of marks from that of the sequence s on have all marks of their sequences from there on, up to the sequence upto, and each begins below the end
+abbrev pub AllCarry : {T : Type 0} → Shape T → ℕ → ℕ → List ℕ → ℕ → Type 0
+AllCarry k end s [] upto = upto ≡ s
+AllCarry k end s (m ∷ ms) upto = (s < end) × (marked_from k s m ≡ in_word k s) × AllCarry k end (s + marked_from k s m) ms upto
 
 module _ {T : Type 0} where
   -- a receiver has made these looks more, and taken nothing
@@ -26,11 +26,11 @@ module _ {T : Type 0} where
   receiver_saw r seen = record r { looks = r.looks ++ seen }
 
   -- so many are not less than what it took, nor more than a round beyond what it completed
-  abbrev pub IsNear : Shape → ReceiverRecord T → ℕ → Type 0
+  abbrev pub IsNear : Shape T → ReceiverRecord T → ℕ → Type 0
   IsNear k r n = (length r.received ≤ n) × (n ≤ k.size + r.completed)
 
   -- it looked at the counts of its first upstreams, and took nothing
-  pub record LooksAtFirst (k : Shape) (r : ReceiverRecord T) (claimed first : ℕ) (r' : ReceiverRecord T) (least : ℕ) : Type 0 where
+  pub record LooksAtFirst (k : Shape T) (r : ReceiverRecord T) (claimed first : ℕ) (r' : ReceiverRecord T) (least : ℕ) : Type 0 where
     pub counts : List ℕ
     pub each : length counts ≡ first
     pub is : r' ≡ receiver_saw r (count_looks (take first (ups_of k r)) counts)
@@ -40,7 +40,7 @@ module _ {T : Type 0} where
     pub told : r.told ≡ true → 0 < first → least ≤ length r.received
 
   -- it looked at each upstream's count, and took at the last look what is offered, as much as there is room for
-  pub record LooksPast (k : Shape) (r : ReceiverRecord T) (claimed room available : ℕ) (hand : Hand T) (r' : ReceiverRecord T) (hand' : Hand T) : Type 0 where
+  pub record LooksPast (k : Shape T) (r : ReceiverRecord T) (claimed room available : ℕ) (hand : Hand T) (r' : ReceiverRecord T) (hand' : Hand T) : Type 0 where
     pub counts : List ℕ
     pub each : length counts ≡ length (ups_of k r)
     pub lents : List (Lent T)
@@ -56,58 +56,59 @@ module _ {T : Type 0} where
   abbrev pub OnlyLoads : ReceiverEnd T → ReceiverEnd T → Type 0
   OnlyLoads e e' = (e'.ring ≡ e.ring) × (e'.plan ≡ e.plan) × IsBeginning e.past e'.past × (e'.stored ≡ e.stored)
 
-  -- it looked at the mark of its next event, and took that event where the mark is there and it has room
-  pub record TakesNext (k : Shape) (r : ReceiverRecord T) (room : ℕ) (is_there : Bool) (r' : ReceiverRecord T) : Type 0 where
+  -- it looked at the mark of its next event, and took the next events up to where their marks are there, as far as it has room
+  pub record TakesNext (k : Shape T) (r : ReceiverRecord T) (room upto : ℕ) (r' : ReceiverRecord T) : Type 0 where
     pub mark : ℕ
     pub lents : List (Lent T)
     pub many : length lents ≡ taken_at_mark k r mark room
-    pub is : r' ≡ mark_looked k r mark lents
-    pub there : is_there ≡ is_marked_next k r mark
+    pub is : r' ≡ mark_looked r mark lents
+    pub there : upto ≡ length r.received + marked_next k r mark
     pub finds : FindsNext k r mark
 
   -- it looked at each upstream's count, and took at the last look what is offered
-  abbrev pub TakesPast : Shape → ReceiverRecord T → ℕ → ℕ → ℕ → ReceiverRecord T → Type 0
+  abbrev pub TakesPast : Shape T → ReceiverRecord T → ℕ → ℕ → ℕ → ReceiverRecord T → Type 0
   TakesPast k r claimed room available r' = (hand hand' : Hand T) × LooksPast k r claimed room available hand r' hand'
 
   -- it has found these marks, and taken these events
-  abbrev pub walked : Shape → ReceiverRecord T → List ℕ → List (Lent T) → ReceiverRecord T
+  abbrev pub walked : Shape T → ReceiverRecord T → List ℕ → List (Lent T) → ReceiverRecord T
   walked k r marks lents = record r { received = r.received ++ lents; marks = r.marks ++ mark_looks k (length r.received) marks }
 
-  -- it took its next events one by one below upto, up to the first whose mark is not there, and stopped there
-  pub record TakesEach (k : Shape) (r : ReceiverRecord T) (upto stopped : ℕ) (r' : ReceiverRecord T) : Type 0 where
+  -- so far each mark was there, up to the sequence front, and it took as many as there is room for
+  pub record Walking (k : Shape T) (r : ReceiverRecord T) (room end front : ℕ) (r' : ReceiverRecord T) : Type 0 where
     pub marks : List ℕ
     pub lents : List (Lent T)
-    pub walks : WalksTo k.size upto (length r.received) marks stopped
+    pub carry : AllCarry k end (length r.received) marks front
     pub is : r' ≡ walked k r marks lents
-    pub many : length r.received + length lents ≡ stopped
+    pub low : length r.received ≤ front
+    pub many : length lents ≡ min room (front - length r.received)
+    pub told : r.told ≡ true → front ≤ length r.received
+
+  -- it walked over the marks from its next event on, up to an end or to the first that is not there, and took as many as there is room for
+  pub record TakesEach (k : Shape T) (r : ReceiverRecord T) (room end stopped : ℕ) (r' : ReceiverRecord T) : Type 0 where
+    pub marks : List ℕ
+    pub lents : List (Lent T)
+    pub walks : WalksTo k end (length r.received) marks stopped
+    pub is : r' ≡ walked k r marks lents
+    pub low : length r.received ≤ stopped
+    pub many : length lents ≡ min room (stopped - length r.received)
     pub told : r.told ≡ true → stopped ≤ length r.received
 
-  -- so far each mark was there
-  pub record Walking (k : Shape) (r : ReceiverRecord T) (upto next : ℕ) (r' : ReceiverRecord T) : Type 0 where
+  -- it took events as their marks are there, as many as it has room for, and looked on where all these are there and more is claimed
+  pub record TakesMarked (k : Shape T) (r : ReceiverRecord T) (claimed room available : ℕ) (r' : ReceiverRecord T) : Type 0 where
     pub marks : List ℕ
     pub lents : List (Lent T)
-    pub carry : AllCarry k.size upto (length r.received) marks
-    pub at : length r.received + length marks ≡ next
-    pub is : r' ≡ walked k r marks lents
-    pub many : length lents ≡ length marks
-    pub told : r.told ≡ true → next ≤ length r.received
-
-  -- it took events as their marks are there, as many as it has room for, and looked at one mark more where all these are there and more is claimed
-  pub record TakesMarked (k : Shape) (r : ReceiverRecord T) (claimed room available : ℕ) (r' : ReceiverRecord T) : Type 0 where
-    pub marks : List ℕ
-    pub lents : List (Lent T)
-    pub walks : WalksTo k.size (walk_end r claimed room) (length r.received) marks available
+    pub walks : WalksTo k (walk_end r claimed room) (length r.received) marks available
     pub is : r' ≡ walked k r marks lents
     pub many : length lents ≡ min room (available - length r.received)
     pub told : r.told ≡ true → available ≤ length r.received
 
   -- it looked at marks, or at each upstream's count, and took what these let through, as much as there is room for
-  pub record TakesOffered (k : Shape) (r : ReceiverRecord T) (claimed room available : ℕ) (r' : ReceiverRecord T) : Type 0 where
+  pub record TakesOffered (k : Shape T) (r : ReceiverRecord T) (claimed room available : ℕ) (r' : ReceiverRecord T) : Type 0 where
     pub marks : List ℕ
     pub upto : ℕ
     pub counts : List ℕ
     pub lents : List (Lent T)
-    pub walks : ups_of k r ≡ [] → WalksTo k.size (walk_end r claimed room) (length r.received) marks upto
+    pub walks : ups_of k r ≡ [] → WalksTo k (walk_end r claimed room) (length r.received) marks upto
     pub stands : ups_of k r ≢ [] → (marks ≡ []) × (upto ≡ length r.received)
     pub each : length counts ≡ length (ups_of k r)
     pub is : r' ≡ record (walked k r marks lents) { looks = r.looks ++ count_looks (ups_of k r) counts }

@@ -17,7 +17,7 @@ unmarked n = record { claimed = replicate n 0; written = replicate n 0; publishe
 abbrev pub AreBlankRows : {T : Type 0} → ℕ → ℕ → List (Vec (Token T)) → Type 0
 AreBlankRows {T} count size rows = map (λ (row : Vec (Token T)). row.items) rows ≡ replicate count (replicate size no_token)
 
-pub record AreRooms {T : Type 0} (k : Shape) (rooms : Rooms T) : Type 0 where
+pub record AreRooms {T : Type 0} (k : Shape T) (rooms : Rooms T) : Type 0 where
   pub words : rooms.words.items ≡ replicate (words_of k) 0
   pub places : HasPlaces (handlers_of k) k.size rooms.gathered
   pub marks : rooms.marks.items ≡ replicate k.senders (unmarked k.size)

@@ -32,7 +32,7 @@ module _ {T : Type 0} where
   sender_saw r seen = record r { looks = r.looks ++ seen }
 
   -- a sender looked at the finals' counts
-  abbrev pub Scans : Shape → SenderRecord T → ℕ → SenderRecord T → Bool → Type 0
+  abbrev pub Scans : Shape T → SenderRecord T → ℕ → SenderRecord T → Bool → Type 0
   Scans k r need r' found = (counts : List ℕ) × (r' ≡ sender_saw r (count_looks (finals k.upstreams) counts)) × Found (finals k.upstreams) counts need found
 
   -- what a claim that is given tells of the sequences that the sender had

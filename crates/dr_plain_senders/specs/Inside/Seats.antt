@@ -1,5 +1,5 @@
 -- The seats that stand for the ends of a ring, the rule that its table keeps, and what each kind of step tells.
-use Rattle.std.specs.Prelude.{◌⊎◌, ◌≡◌, ℕ, ◌+◌, ◌-◌, ◌<◌, ◌≤◌, List, [], ◌∷◌, ◌++◌, map, length, take, drop}
+use Rattle.std.specs.Prelude.{◌⊎◌, ◌≡◌, ℕ, ◌+◌, ◌-◌, ◌<◌, ◌≤◌, List, [], ◌∷◌, ◌++◌, map, length, take, drop, Some}
 use mathlib.Core.Option.{some}
 use denote.RawPtr.{null_ptr}
 use lib.ListN.{get_elem?}
@@ -12,7 +12,7 @@ use Rattle.dr_runs.specs.Seats as seats
 use Rattle.dr_runs.specs.Seats.{holding, fresh_view}
 use Rattle.dr_runs.specs.Stretches.{stretch, rows}
 use Rattle.dr_plain_senders.specs.Meaning.Shape.{Shape, IsShape, handlers_of}
-use Rattle.dr_plain_senders.specs.Meaning.Words.{claim_word, halted_from, mark_word, words_of, lanes_of, lane_of, slots_of}
+use Rattle.dr_plain_senders.specs.Meaning.Words.{claim_word, halted_from, words_of, lanes_of, lane_of, slots_of}
 use Rattle.dr_plain_senders.specs.declared.record.Lent.{Lent}
 use Rattle.dr_plain_senders.specs.declared.record.Stage.{Stage}
 use Rattle.dr_plain_senders.specs.declared.record.SenderRecord.{SenderRecord}
@@ -28,7 +28,7 @@ use Rattle.dr_plain_senders.specs.Meaning.Lying.{Laid, unlent, lent, placed, Lie
 use Rattle.dr_plain_senders.specs.Meaning.Steps.{Happens}
 use Rattle.dr_plain_senders.specs.Meaning.Stores.{sender_number, receiver_number, is_store_of}
 use Rattle.dr_plain_senders.specs.Meaning.Moments.{fresh_sender, fresh_senders, fresh_receiver, fresh_receivers, new_world, entries_of}
-use Rattle.dr_plain_senders.specs.Calls.Finds.{FindsMore, FindsClaims, FindsEvents, FindsNext, IsEarlier, FindsMark, exchanged, after_exchange}
+use Rattle.dr_plain_senders.specs.Calls.Finds.{FindsMore, FindsClaims, FindsEvents, FindsNext, FindsOwn, IsEarlier, exchanged, after_exchange}
 
 -- what is known of a seat's ends, with the slots that it has in hand, and a seat: with it, the run as it was at each end's last step
 abbrev pub End : Type 0 → Type 0
@@ -43,11 +43,11 @@ Hand T = List (ℕ × Token T)
 abbrev pub Tells : Type 0 → Type 1
 Tells T = TableStep (Token T) → End T → ℕ → End T → Type 0
 
-abbrev pub no_shape : Shape
-no_shape = record { upstreams = []; size = 0; limit = 0; senders = 0; strip = null_ptr }
+abbrev pub no_shape : {T : Type 0} → Shape T
+no_shape = record { upstreams = []; size = 0; limit = 0; senders = 0; strip = null_ptr; begun = [] }
 
 -- a seat at a table with the words and the slots of a ring
-abbrev pub IsAtTable : TableId → TableId → Shape → Type 0
+abbrev pub IsAtTable : {T : Type 0} → TableId → TableId → Shape T → Type 0
 IsAtTable own at k = (own ≡ at) × (at.words ≡ words_of k) × (at.slots ≡ slots_of k)
 
 module _ {T : Type 0} where
@@ -70,7 +70,7 @@ module _ {T : Type 0} where
   Stands w (Halts r) = w.halter ≡ r
 
   -- a ring by its steps
-  abbrev pub exchange : Shape → Exchange T (Token T) (EndRecord T) (Step T) (World T)
+  abbrev pub exchange : Shape T → Exchange T (Token T) (EndRecord T) (Step T) (World T)
   exchange k = record {
     ends = ring_ends;
     IsMade = IsShape k;
@@ -86,7 +86,7 @@ module _ {T : Type 0} where
   abbrev pub IsOver : State (Token T) (View (EndRecord T) (Step T)) → Type 0
   IsOver s = (seat : ℕ) (view : View (EndRecord T) (Step T)) → get_elem? s.views seat ≡ some view → view.ends ≡ []
 
-  abbrev pub Ruled : Shape → State (Token T) (View (EndRecord T) (Step T)) → Type 0
+  abbrev pub Ruled : Shape T → State (Token T) (View (EndRecord T) (Step T)) → Type 0
   Ruled k s = seats.Ruled (exchange k) s ⊎ IsOver s
 
   -- n senders of a new ring, from the number p on
@@ -98,11 +98,11 @@ module _ {T : Type 0} where
   known_receivers h n = map (λ r. Receives r) (fresh_receivers h n)
 
   -- the ends of a new ring: the halter, the senders, and the receivers
-  abbrev pub fresh_ends : Shape → List (EndRecord T)
+  abbrev pub fresh_ends : Shape T → List (EndRecord T)
   fresh_ends k = Halts record { looks = [] } ∷ known_senders 0 k.senders ++ known_receivers 0 (handlers_of k)
 
   -- the view that has them all
-  abbrev pub all_ends : Shape → View (EndRecord T) (Step T)
+  abbrev pub all_ends : Shape T → View (EndRecord T) (Step T)
   all_ends k = fresh_view (fresh_ends k)
 
   -- a seat that stands for one end alone, with the slots that it has in hand
@@ -144,52 +144,60 @@ module _ {T : Type 0} where
   abbrev pub Stores : (TableStep (Token T) → End T → ℕ → Step T) → Tells T → TableStep (Token T) → Sitting T → ℕ → Sitting T → Type 0
   Stores step tells s me n me' = seats.Stores ring_ends step tells s me n me'
 
-  -- a cell is unlent in its first round alone
-  abbrev pub IsOfRound : Shape → ℕ → Laid T → Type 0
-  IsOfRound k q (unlent x) = q < k.size
+  -- a cell is unlent in its first round alone, with the event with which the ring began
+  abbrev pub IsOfRound : Shape T → ℕ → Laid T → Type 0
+  IsOfRound k q (unlent x) = (q < k.size) × (get_elem? k.begun q ≡ some x)
   IsOfRound k q (lent l) = k.size ≤ q
 
   -- what lay in the cells of n sequences from c on
-  pub record LayIn (k : Shape) (c n : ℕ) (laid : List (Laid T)) : Type 0 where
+  pub record LayIn (k : Shape T) (c n : ℕ) (laid : List (Laid T)) : Type 0 where
     pub count : length laid ≡ n
     pub rounds : (i : ℕ) (a : Laid T) → get_elem? laid i ≡ some a → IsOfRound k (c + i) a
+
+  -- of a cell whose last sequence a sender published itself, there lay what it lent
+  abbrev pub LayAsLent : Shape T → SenderRecord T → ℕ → List (Laid T) → Type 0
+  LayAsLent k r c laid = (i s : ℕ) (a : Laid T) (t : Stage T) (l : Lent T) → get_elem? laid i ≡ some a → c + i ≡ k.size + s → Owns r s t → t.lent ≡ Some l → a ≡ lent l
 
   -- something is lent for each
   abbrev pub lent_all : List (Lent T) → List (Laid T)
   lent_all lents = map (λ (l : Lent T). lent l) lents
 
   -- the tokens that a claim from c on takes: of what lay in each cell what was kept, and each handler's part
-  abbrev pub taken_by_claim : Shape → ℕ → List (Laid T) → Hand T
+  abbrev pub taken_by_claim : Shape T → ℕ → List (Laid T) → Hand T
   taken_by_claim k c laid = rows (placed k) (lanes_of k) c laid
 
   -- those that a publication gives
-  abbrev pub given_by_publication : Shape → ℕ → List (Lent T) → Hand T
+  abbrev pub given_by_publication : Shape T → ℕ → List (Lent T) → Hand T
   given_by_publication k s lents = rows (placed k) (lanes_of k) s (lent_all lents)
 
   -- the parts that a receiver takes with these events, and those that it gives once it completes all below n
-  abbrev pub taken_by_poll : Shape → ReceiverRecord T → List (Lent T) → Hand T
+  abbrev pub taken_by_poll : Shape T → ReceiverRecord T → List (Lent T) → Hand T
   taken_by_poll k r lents = stretch (placed k (lane_of r.number)) (length r.received) (lent_all lents)
 
-  abbrev pub given_by_completion : Shape → ReceiverRecord T → ℕ → Hand T
+  abbrev pub given_by_completion : Shape T → ReceiverRecord T → ℕ → Hand T
   given_by_completion k r n = stretch (placed k (lane_of r.number)) r.completed (lent_all (take (n - r.completed) (drop r.completed r.received)))
 
   -- What each kind of step tells: of the seat before and the word found or stored, the seat after.
   abbrev pub SenderLooked : Tells T
   SenderLooked s me n me' = let r : SenderRecord T = sender_of me.0 in (me' ≡ as_sender (sender_looked r s.word n) me.1) × FindsMore r.looks s.word n
 
-  abbrev pub SenderClaimed : Shape → Tells T
+  -- one look tells how many sequences are claimed, and what a sender has is among these
+  abbrev pub SenderLookedAtClaims : Tells T
+  SenderLookedAtClaims s me n me' = let r : SenderRecord T = sender_of me.0 in (me' ≡ as_sender (sender_looked r s.word n) me.1) × FindsMore r.looks s.word n × FindsOwn r n
+
+  abbrev pub SenderClaimed : Shape T → Tells T
   SenderClaimed k s me n me' = let r : SenderRecord T = sender_of me.0 in let more : ℕ = s.second - s.first in
       (laid : List (Laid T)) × LayIn k s.first (exchanged s.first more n) laid
       × (me' ≡ as_sender (after_exchange r s.first more n) (taken_by_claim k s.first laid ++ me.1))
       × FindsMore r.looks claim_word n × (n ≡ s.first → (z : ℕ) (t : Stage T) → Owns r z t → IsEarlier k s.first s.second z t)
+      × LayAsLent k r s.first laid
 
-  abbrev pub SenderPublished : Shape → ℕ → List (Lent T) → Tells T
+  abbrev pub SenderPublished : Shape T → ℕ → List (Lent T) → Tells T
   SenderPublished k sequence lents s me n me' =
       me' ≡ as_sender (has_published (sender_of me.0) sequence lents) (drop (length (given_by_publication k sequence lents)) me.1)
 
-  abbrev pub SenderLookedAtMark : Shape → ℕ → Tells T
-  SenderLookedAtMark k sequence s me n me' = let r : SenderRecord T = sender_of me.0 in
-      (me' ≡ as_sender (mark_found r (mark_word k sequence) n) me.1) × FindsMark k r sequence n
+  abbrev pub SenderLookedAtMark : ℕ → Tells T
+  SenderLookedAtMark sequence s me n me' = me' ≡ as_sender (mark_found (sender_of me.0) sequence n) me.1
 
   abbrev pub SenderHalted : Tells T
   SenderHalted s me n me' = me' ≡ as_sender (sender_looked (sender_of me.0) claim_word (halted_from n)) me.1
@@ -198,17 +206,17 @@ module _ {T : Type 0} where
   abbrev pub ReceiverLookedAtClaims : Tells T
   ReceiverLookedAtClaims s me n me' = let r : ReceiverRecord T = receiver_of me.0 in (me' ≡ as_receiver (claims_looked r n) me.1) × FindsClaims r n
 
-  abbrev pub ReceiverLookedAtMark : Shape → ℕ → Tells T
+  abbrev pub ReceiverLookedAtMark : Shape T → ℕ → Tells T
   ReceiverLookedAtMark k room s me n me' = let r : ReceiverRecord T = receiver_of me.0 in
       (lents : List (Lent T)) × (length lents ≡ taken_at_mark k r n room)
-      × (me' ≡ as_receiver (mark_looked k r n lents) (taken_by_poll k r lents ++ me.1)) × FindsNext k r n
+      × (me' ≡ as_receiver (mark_looked r n lents) (taken_by_poll k r lents ++ me.1)) × FindsNext k r n
 
-  abbrev pub ReceiverLookedAtCount : Shape → ℕ → Tells T
+  abbrev pub ReceiverLookedAtCount : Shape T → ℕ → Tells T
   ReceiverLookedAtCount k room s me n me' = let r : ReceiverRecord T = receiver_of me.0 in
       (lents : List (Lent T)) × (length lents ≡ taken_at_count k r s.word n room)
       × (me' ≡ as_receiver (receiver_looked r s.word n lents) (taken_by_poll k r lents ++ me.1)) × FindsEvents k r s.word n
 
-  abbrev pub ReceiverCompleted : Shape → Tells T
+  abbrev pub ReceiverCompleted : Shape T → Tells T
   ReceiverCompleted k s me n me' = let r : ReceiverRecord T = receiver_of me.0 in
       me' ≡ as_receiver (completed_to r n) (drop (length (given_by_completion k r n)) me.1)
 

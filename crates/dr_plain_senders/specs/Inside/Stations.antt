@@ -12,23 +12,23 @@ use Rattle.dr_plain_senders.specs.Inside.Gathered.{HasPlaces}
 use Rattle.dr_plain_senders.specs.Inside.Seats.{End, Sitting, IsAtTable, stored_of, sender_of, receiver_of, halter_of, IsSender, IsReceiver, IsHalter}
 
 -- the table's rule is the ring's, for its plan
-pub record IsKeyed (table_key k : Shape) : Type 0 where
+pub record IsKeyed {T : Type 0} (table_key k : Shape T) : Type 0 where
   pub key : table_key ≡ k
   pub made : IsPlan k
 
 module _ {T : Type 0} where
   -- the end that a seat at a table stands for
-  abbrev pub sender_stand : TableId → Shape → Sitting T → SenderStand T
+  abbrev pub sender_stand : TableId → Shape T → Sitting T → SenderStand T
   sender_stand ring k me = record { ring = ring; plan = k; knows = sender_of me.0.ends; hand = me.1; past = past_of me.0; stored = stored_of me.0 }
 
-  abbrev pub receiver_stand : TableId → Shape → Sitting T → ReceiverStand T
+  abbrev pub receiver_stand : TableId → Shape T → Sitting T → ReceiverStand T
   receiver_stand ring k me = record { ring = ring; plan = k; knows = receiver_of me.0.ends; hand = me.1; past = past_of me.0; stored = stored_of me.0 }
 
-  abbrev pub halter_stand : TableId → Shape → Sitting T → HalterStand T
+  abbrev pub halter_stand : TableId → Shape T → Sitting T → HalterStand T
   halter_stand ring k me = record { ring = ring; plan = k; knows = halter_of me.0.ends; hand = me.1; past = past_of me.0; stored = stored_of me.0 }
 
   -- an end's seat is at the table of its ring and stands for that end alone, and its looks are counted
-  pub record SenderSits (at seat : TableId) (key k : Shape) (me : End T) (number looked : ℕ) : Type 0 where
+  pub record SenderSits (at seat : TableId) (key k : Shape T) (me : End T) (number looked : ℕ) : Type 0 where
     pub table : IsAtTable seat at k
     pub keyed : IsKeyed key k
     pub end : IsSender me
@@ -36,7 +36,7 @@ module _ {T : Type 0} where
     pub sender : number < k.senders
     pub looks : looked ≡ looks_counted (sender_of me.0).looks
 
-  pub record ReceiverSits (at seat : TableId) (key k : Shape) (me : End T) (number looked : ℕ) : Type 0 where
+  pub record ReceiverSits (at seat : TableId) (key k : Shape T) (me : End T) (number looked : ℕ) : Type 0 where
     pub table : IsAtTable seat at k
     pub keyed : IsKeyed key k
     pub end : IsReceiver me
@@ -45,7 +45,7 @@ module _ {T : Type 0} where
     pub looks : looked ≡ looks_counted (receiver_of me.0).looks
 
   -- the halter has the strip's memory too, and places for what the ends bring once they come together
-  pub record HalterSits (at seat : TableId) (key k : Shape) (me : End T) (start : Ptr) (len : ℕ) (gathered : Gathered T) : Type 0 where
+  pub record HalterSits (at seat : TableId) (key k : Shape T) (me : End T) (start : Ptr) (len : ℕ) (gathered : Gathered T) : Type 0 where
     pub table : IsAtTable seat at k
     pub keyed : IsKeyed key k
     pub end : IsHalter me

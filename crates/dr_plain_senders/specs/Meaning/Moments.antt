@@ -1,10 +1,9 @@
 -- What each list of steps comes to, from a ring's opening.
-use Rattle.std.specs.Prelude.{◌≡◌, ℕ, zero, suc, ◌+◌, ◌-◌, ◌<◌, ◌≤◌, ◌==◌, if◌then◌else◌, true, false, List, [], ◌∷◌, ◌++◌, map, length, replicate}
-use Rattle.std.specs.Prelude.{slice_index, slice_index_or, Option, Some, None, nat_le, take, drop, Contains}
+use Rattle.std.specs.Prelude.{◌≡◌, ◌⊎◌, Bool, ℕ, zero, suc, ◌+◌, ◌-◌, ◌<◌, ◌≤◌, ◌==◌, if◌then◌else◌, true, false, List, [], ◌∷◌, ◌++◌, map, length, replicate}
+use Rattle.std.specs.Prelude.{slice_index, slice_index_or, Option, Some, None, take, drop, Contains}
 use Rattle.std.specs.List.{range_with_len, filter_map}
 use mathlib.Core.Option.{some}
 use lib.ListN.{get_elem?}
-use Rattle.dr_seq.specs.Rounds.{entry_of}
 use Rattle.dr_meaning.specs.declared.command.Command.TheVariants.{Claim, Write, Publish, Poll, Complete, Halt}
 use Rattle.dr_meaning.specs.declared.refusal.Refusal.TheVariants.{NotClaimed, AlreadyPublished}
 use Rattle.dr_meaning.specs.declared.command.Reply.TheVariants.{Refused, Claimed, Written, Published, Batch, Completed, Halting}
@@ -14,7 +13,7 @@ use Rattle.dr_meaning.specs.Meaning.Transcript.{Transcript}
 use Rattle.dr_runs.specs.Runs as runs
 use Rattle.dr_runs.specs.Entries.{entry, told_drained}
 use Rattle.dr_plain_senders.specs.Meaning.Shape.{Shape, handlers_of, ring_setup}
-use Rattle.dr_plain_senders.specs.Meaning.Words.{claim_word, is_halted, count_word, mark_word, words_of}
+use Rattle.dr_plain_senders.specs.Meaning.Words.{claim_word, is_halted, count_word, mark_word, is_out_by, words_of}
 use Rattle.dr_plain_senders.specs.declared.record.Lent.{Lent}
 use Rattle.dr_plain_senders.specs.declared.record.Stage.{Stage}
 use Rattle.dr_plain_senders.specs.declared.record.SenderRecord.{SenderRecord}
@@ -23,7 +22,7 @@ use Rattle.dr_plain_senders.specs.declared.record.Step.{Step}
 use Rattle.dr_plain_senders.specs.declared.record.Step.TheVariants.{SenderLooksAtClaims, SenderLooksAtCount, SenderClaims, SenderPublishes, SenderLooksAtMark, SenderHalts}
 use Rattle.dr_plain_senders.specs.declared.record.Step.TheVariants.{ReceiverLooksAtClaims, ReceiverLooksAtMark, ReceiverLooksAtCount, ReceiverCompletes, HalterHalts}
 use Rattle.dr_plain_senders.specs.Meaning.Records.{fresh_stage, is_published, tells_drained, taken_at_mark, taken_at_count}
-use Rattle.dr_plain_senders.specs.Meaning.Rule.{World}
+use Rattle.dr_plain_senders.specs.Meaning.Rule.{World, is_out_now}
 use Rattle.dr_plain_senders.specs.Meaning.Steps.{Happens}
 
 module _ {T : Type 0} where
@@ -44,7 +43,7 @@ module _ {T : Type 0} where
   fresh_receivers h (suc n) = fresh_receiver h ∷ fresh_receivers (suc h) n
 
   -- a new ring: each word is 0
-  abbrev pub new_world : Shape → World T
+  abbrev pub new_world : Shape T → World T
   new_world k = record {
     words = replicate (words_of k) 0;
     stages = [];
@@ -68,7 +67,7 @@ module _ {T : Type 0} where
   event_of t = event_in t.lent
 
   -- what the machine is, where the ring is so
-  abbrev pub picture_of : Shape → World T → State T
+  abbrev pub picture_of : Shape T → World T → State T
   picture_of k w = record (machine.opening (ring_setup k)) {
     owners = map (λ t. t.owner) w.stages;
     written = λ s. event_of (stage_at w.stages s);
@@ -92,7 +91,7 @@ module _ {T : Type 0} where
       entry (Poll h (length (event ∷ events))) (Batch taken (length (event ∷ events)) (taken + length (event ∷ events) == available)) (event ∷ events)
 
   -- what a receiver takes at a look, so many
-  abbrev pub batch_of : Shape → World T → ℕ → ReceiverRecord T → ℕ → Transcript T
+  abbrev pub batch_of : Shape T → World T → ℕ → ReceiverRecord T → ℕ → Transcript T
   batch_of k w h r n = poll_of h (length r.received) (events_from w.stages (length r.received) n) (available (ring_setup k) (picture_of k w) h)
 
   -- the writes of events by the sender p to its sequences from s on, each with the publication
@@ -100,9 +99,9 @@ module _ {T : Type 0} where
   published_by p s [] = []
   published_by p s (event ∷ events) = entry (Write p s event) Written [] ++ entry (Publish p s s) Published [] ++ published_by p (s + 1) events
 
-  -- The events of a step: a claim is decided by the exchange, a write and the publication of its sequence by the store of the mark,
+  -- The events of a step: a claim is decided by the exchange, writes and the publications of their sequences by the flip of the marks,
   -- a poll by the look at which it takes events, and `Drained` is told by a look at the claim word.
-  abbrev pub entries_of : Shape → Step T → World T → Transcript T
+  abbrev pub entries_of : Shape T → Step T → World T → Transcript T
   entries_of k (SenderLooksAtClaims p) w = []
   entries_of k (SenderLooksAtCount p f) w = []
   entries_of k (SenderClaims p c n) w = if slice_index w.words claim_word == c then entry (Claim p n) (Claimed c (c + n - 1)) [] else []
@@ -118,7 +117,7 @@ module _ {T : Type 0} where
   entries_of k HalterHalts w = entry Halt Halting []
 
   -- a list of steps, with the entries of their events
-  abbrev pub Runs : Shape → List (Step T) → Transcript T → World T → World T → Type 0
+  abbrev pub Runs : Shape T → List (Step T) → Transcript T → World T → World T → Type 0
   Runs k steps entries w w' = runs.Runs (Happens k) (entries_of k) steps entries w w'
 
   -- who was told that the ring drained, was told so by a poll of the run
@@ -129,13 +128,18 @@ module _ {T : Type 0} where
   abbrev pub IsShut : World T → ℕ → ℕ → Type 0
   IsShut w p s = (t : Stage T) → get_elem? w.stages s ≡ some t → t.owner ≡ p → (l : Lent T) × (t.lent ≡ Some l)
 
-  -- the machine refuses a write as the mark in the sequence's cell says
-  abbrev pub RefusesByMark : Shape → World T → ℕ → ℕ → T → Type 0
-  RefusesByMark k w p s event =
-      machine.step (ring_setup k) (picture_of k w) (Write p s event)
-      ≡ machine.unchanged (Refused (if nat_le (entry_of k.size s) (slice_index w.words (mark_word k s)) then AlreadyPublished else NotClaimed)) (picture_of k w)
+  -- the machine refuses a write as the claim word and the mark in the sequence's cell say
+  abbrev pub RefusesByWords : Shape T → World T → ℕ → ℕ → T → Type 0
+  RefusesByWords k w p s event =
+      machine.step (ring_setup k) (picture_of k w) (Write p s event) ≡ machine.unchanged (Refused (if is_out_now k w s then AlreadyPublished else NotClaimed)) (picture_of k w)
+
+  -- Looks at the claim word, at a mark and at the claim word again, one after the other, say that a sequence is published or not as it was at one of them.
+  abbrev pub ToldByLooks : Shape T → World T → World T → World T → Type 0
+  ToldByLooks k w u v = (s : ℕ) →
+      let said : Bool = is_out_by k s (slice_index w.words claim_word) (slice_index u.words (mark_word k s)) (slice_index v.words claim_word) in
+      ((picture_of k w).published s ≡ said) ⊎ ((picture_of k u).published s ≡ said) ⊎ ((picture_of k v).published s ≡ said)
 
   -- No handler's count falls, and no claim is taken back: so what the last look of a claim without room finds was so already at its first, and what is claimed stays so.
-  abbrev pub NothingFalls : Shape → World T → World T → Type 0
+  abbrev pub NothingFalls : Shape T → World T → World T → Type 0
   NothingFalls k w u =
       ((f : ℕ) → f < handlers_of k → slice_index w.words (count_word f) ≤ slice_index u.words (count_word f)) × (length w.stages ≤ length u.stages)

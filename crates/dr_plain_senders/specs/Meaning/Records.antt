@@ -2,13 +2,13 @@
 use Rattle.std.specs.Prelude.{◌≡◌, ℕ, zero, suc, ◌+◌, ◌-◌, ◌≤◌, ◌==◌, ◌&&◌, ◌||◌, if◌then◌else◌, Bool, min, List, [], ◌∷◌, ◌++◌, map, length, Some, None, is_some, Contains}
 use mathlib.Core.Option.{some}
 use lib.ListN.{get_elem?}
-use Rattle.dr_seq.specs.Rounds.{entry_of}
 use Rattle.dr_graph.specs.Meaning.Graph.{upstreams_of, finals}
 use Rattle.dr_runs.specs.declared.look.Look.{Look}
 use Rattle.dr_runs.specs.Looks.{look, last_look, offered_by}
 use Rattle.dr_plain_senders.specs.Meaning.Shape.{Shape}
-use Rattle.dr_plain_senders.specs.Meaning.Words.{claim_word, claimed_in, is_halted, halted_from, count_word, mark_word}
+use Rattle.dr_plain_senders.specs.Meaning.Words.{claim_word, claimed_in, is_halted, halted_from, count_word, marked_from}
 use Rattle.dr_plain_senders.specs.declared.record.Lent.{Lent}
+use Rattle.dr_plain_senders.specs.declared.record.MarkLook.{MarkLook}
 use Rattle.dr_plain_senders.specs.declared.record.Stage.{Stage}
 use Rattle.dr_plain_senders.specs.declared.record.Own.{Own}
 use Rattle.dr_plain_senders.specs.declared.record.SenderRecord.{SenderRecord}
@@ -16,11 +16,15 @@ use Rattle.dr_plain_senders.specs.declared.record.ReceiverRecord.{ReceiverRecord
 use Rattle.dr_plain_senders.specs.declared.record.HalterRecord.{HalterRecord}
 
 -- up to where the upstreams of a handler let events through, as far as it saw
-abbrev pub barrier_seen : Shape → ℕ → List Look → ℕ
+abbrev pub barrier_seen : {T : Type 0} → Shape T → ℕ → List Look → ℕ
 barrier_seen k h looks = offered_by 0 (map (λ u. last_look 0 looks (count_word u)) (upstreams_of k.upstreams h))
 
 abbrev pub halter_halted : HalterRecord → ℕ → HalterRecord
 halter_halted r found = record r { looks = r.looks ++ look claim_word (halted_from found) ∷ [] }
+
+-- a look at the mark of a sequence, which found this in its word
+abbrev pub mark_look : ℕ → ℕ → MarkLook
+mark_look s found = record { sequence = s; found = found }
 
 module _ {T : Type 0} where
   -- the events that were lent
@@ -66,9 +70,9 @@ module _ {T : Type 0} where
   abbrev pub sender_looked : SenderRecord T → ℕ → ℕ → SenderRecord T
   sender_looked r word found = record r { looks = r.looks ++ look word found ∷ [] }
 
-  -- it has looked at a mark
+  -- it has looked at the mark of a sequence
   abbrev pub mark_found : SenderRecord T → ℕ → ℕ → SenderRecord T
-  mark_found r word found = record r { marks = r.marks ++ look word found ∷ [] }
+  mark_found r s found = record r { marks = r.marks ++ mark_look s found ∷ [] }
 
   -- it has claimed n sequences from c on
   abbrev pub claimed_from : SenderRecord T → ℕ → ℕ → SenderRecord T
@@ -81,20 +85,20 @@ module _ {T : Type 0} where
   abbrev pub claims_looked : ReceiverRecord T → ℕ → ReceiverRecord T
   claims_looked r found = record r { told = r.told || tells_drained r found; looks = r.looks ++ look claim_word found ∷ [] }
 
-  -- whether the mark of its next event is there
-  abbrev pub is_marked_next : Shape → ReceiverRecord T → ℕ → Bool
-  is_marked_next k r found = found == entry_of k.size (length r.received)
+  -- how many of its next events have their marks there, one after the other, where it finds this in the word of the next one's
+  abbrev pub marked_next : Shape T → ReceiverRecord T → ℕ → ℕ
+  marked_next k r found = marked_from k (length r.received) found
 
-  -- how many events a receiver without upstreams takes where it finds this at the mark of the next one, and has room for so many
-  abbrev pub taken_at_mark : Shape → ReceiverRecord T → ℕ → ℕ → ℕ
-  taken_at_mark k r found room = if is_marked_next k r found then min room 1 else 0
+  -- how many events a receiver without upstreams takes there, where it has room for so many
+  abbrev pub taken_at_mark : Shape T → ReceiverRecord T → ℕ → ℕ → ℕ
+  taken_at_mark k r found room = min room (marked_next k r found)
 
   -- it has looked at that mark, and taken these
-  abbrev pub mark_looked : Shape → ReceiverRecord T → ℕ → List (Lent T) → ReceiverRecord T
-  mark_looked k r found lents = record r { received = r.received ++ lents; marks = r.marks ++ look (mark_word k (length r.received)) found ∷ [] }
+  abbrev pub mark_looked : ReceiverRecord T → ℕ → List (Lent T) → ReceiverRecord T
+  mark_looked r found lents = record r { received = r.received ++ lents; marks = r.marks ++ mark_look (length r.received) found ∷ [] }
 
   -- how many events it takes at a look at an upstream's count, where it has room for so many: what its upstreams then let through, as far as it saw
-  abbrev pub taken_at_count : Shape → ReceiverRecord T → ℕ → ℕ → ℕ → ℕ
+  abbrev pub taken_at_count : Shape T → ReceiverRecord T → ℕ → ℕ → ℕ → ℕ
   taken_at_count k r word found room = min room (barrier_seen k r.number (r.looks ++ look word found ∷ []) - length r.received)
 
   -- a receiver has looked at a word, and taken these
@@ -106,6 +110,6 @@ module _ {T : Type 0} where
   completed_to r n = record r { completed = n }
 
   -- a sender has room for n from c on, as far as it saw: within the limit, and no slot is used again that some final handler has not completed
-  pub record SeesRoom (k : Shape) (r : SenderRecord T) (c n : ℕ) : Type 0 where
+  pub record SeesRoom (k : Shape T) (r : SenderRecord T) (c n : ℕ) : Type 0 where
     pub limit : c + n ≤ k.limit
     pub completed : (f : ℕ) → Contains (finals k.upstreams) f → c + n ≤ k.size + last_look 0 r.looks (count_word f)

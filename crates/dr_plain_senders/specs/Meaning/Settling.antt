@@ -20,7 +20,7 @@ module _ {T : Type 0} where
   published_events w = filter_map (λ t. t.lent) (take_while is_published w.stages)
 
   -- a receiver has the beginning of what is published, and a final handler leaves room for all that is claimed
-  pub record HasBeginning (k : Shape) (w : World T) (r : ReceiverRecord T) : Type 0 where
+  pub record HasBeginning (k : Shape T) (w : World T) (r : ReceiverRecord T) : Type 0 where
     pub beginning : r.received ≡ take (length r.received) (published_events w)
     pub taken : length r.received ≤ length (published_events w)
     -- who was told that the ring drained has all of it, and all that is claimed
@@ -29,7 +29,7 @@ module _ {T : Type 0} where
     pub room : Contains (finals k.upstreams) r.number → length w.stages ≤ k.size + r.completed
 
   -- what a receiver took, each of its upstreams completed
-  abbrev pub FollowsUpstream : Shape → ReceiverRecord T → ReceiverRecord T → Type 0
+  abbrev pub FollowsUpstream : Shape T → ReceiverRecord T → ReceiverRecord T → Type 0
   FollowsUpstream k r u = Contains (upstreams_of k.upstreams r.number) u.number → length r.received ≤ u.completed
 
   -- a sequence that a sender has is claimed by it, and has come as far as it knows
@@ -41,7 +41,7 @@ module _ {T : Type 0} where
   IsSent w s l = (r : SenderRecord T) × (t : Stage T) × (get_elem? w.senders t.owner ≡ some r) × Owns r s t × (t.lent ≡ Some l)
 
   -- senders and receivers agree, and each claimed sequence is its sender's own, as far as it has come
-  pub record Settles (k : Shape) (w : World T) : Type 0 where
+  pub record Settles (k : Shape T) (w : World T) : Type 0 where
     pub claimed : (s : ℕ) (t : Stage T) → get_elem? w.stages s ≡ some t → (r : SenderRecord T) × (get_elem? w.senders t.owner ≡ some r) × Owns r s t
     pub owned : (p i : ℕ) (r : SenderRecord T) (o : Own T) → get_elem? w.senders p ≡ some r → get_elem? r.own i ≡ some o → IsOwnOf w r o
     pub each : (h : ℕ) (r : ReceiverRecord T) → get_elem? w.receivers h ≡ some r → HasBeginning k w r

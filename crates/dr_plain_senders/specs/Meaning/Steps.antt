@@ -2,10 +2,9 @@
 use Rattle.std.specs.Prelude.{◌≡◌, ℕ, ◌+◌, ◌<◌, ◌≤◌, ◌==◌, if◌then◌else◌, List, [], ◌∷◌, ◌++◌, length, replicate, slice_index, slice_set, None, Contains}
 use mathlib.Core.Option.{some}
 use lib.ListN.{get_elem?}
-use Rattle.dr_seq.specs.Rounds.{entry_of}
 use Rattle.dr_graph.specs.Meaning.Graph.{upstreams_of, finals}
 use Rattle.dr_plain_senders.specs.Meaning.Shape.{Shape}
-use Rattle.dr_plain_senders.specs.Meaning.Words.{claim_word, halted_from, count_word, mark_word}
+use Rattle.dr_plain_senders.specs.Meaning.Words.{claim_word, halted_from, count_word, mark_word, mark_bit, in_word, flipped}
 use Rattle.dr_plain_senders.specs.declared.record.Lent.{Lent}
 use Rattle.dr_plain_senders.specs.declared.record.Stage.{Stage}
 use Rattle.dr_plain_senders.specs.declared.record.Step.{Step}
@@ -27,10 +26,10 @@ module _ {T : Type 0} where
   sender_claims w p r c n =
       record w { words = slice_set w.words claim_word (c + n); stages = w.stages ++ replicate n (fresh_stage p); senders = slice_set w.senders p (claimed_from r c n) }
 
-  -- a sender stores the mark of the sequence s, which is at the stage t, and so publishes what it lent
-  abbrev pub sender_publishes : Shape → World T → ℕ → SenderRecord T → ℕ → Stage T → Lent T → World T
+  -- a sender flips the mark of the sequence s, which is at the stage t, and so publishes what it lent
+  abbrev pub sender_publishes : Shape T → World T → ℕ → SenderRecord T → ℕ → Stage T → Lent T → World T
   sender_publishes k w p r s t l = record w {
-    words = slice_set w.words (mark_word k s) (entry_of k.size s);
+    words = slice_set w.words (mark_word k s) (flipped (slice_index w.words (mark_word k s)) (mark_bit k s) 1);
     stages = slice_set w.stages s (published l t);
     senders = slice_set w.senders p (brought r s (published l));
   }
@@ -50,6 +49,15 @@ module _ {T : Type 0} where
   abbrev pub ByOwner : World T → ℕ → ℕ → (SenderRecord T → Stage T → Type 0) → Type 0
   ByOwner w p s Does = BySender w p (λ r. (t : Stage T) × Owns r s t × (t.lent ≡ None) × Does r t)
 
+  -- it publishes an event with one of its sequences
+  abbrev pub PublishesOne : Shape T → ℕ → ℕ → T → World T → World T → Type 0
+  PublishesOne k p s event w w' = ByOwner w p s (λ r t. (l : Lent T) × (event ≡ l.event) × (w' ≡ sender_publishes k w p r s t l))
+
+  -- and these with its sequences from s on: their marks are flipped together, which leads where one flip after the other would
+  abbrev pub PublishesAll : Shape T → ℕ → ℕ → List T → World T → World T → Type 0
+  PublishesAll k p s [] w w' = w' ≡ w
+  PublishesAll k p s (event ∷ events) w w' = (between : World T) × PublishesOne k p s event w between × PublishesAll k p (s + 1) events between w'
+
   -- a step of the receiver h, whose record is r
   abbrev pub ByReceiver : World T → ℕ → (ReceiverRecord T → Type 0) → Type 0
   ByReceiver w h Does = (r : ReceiverRecord T) × (get_elem? w.receivers h ≡ some r) × Does r
@@ -60,7 +68,7 @@ module _ {T : Type 0} where
     pub each : (i : ℕ) (l : Lent T) → get_elem? lents i ≡ some l → IsOutWith w.stages (length r.received + i) l
 
   -- a step leads from one world to another
-  abbrev pub Happens : Shape → Step T → World T → World T → Type 0
+  abbrev pub Happens : Shape T → Step T → World T → World T → Type 0
   Happens k (SenderLooksAtClaims p) w w' =
       BySender w p (λ r. w' ≡ sender_knows w p (sender_looked r claim_word (slice_index w.words claim_word)))
   Happens k (SenderLooksAtCount p f) w w' =
@@ -69,19 +77,19 @@ module _ {T : Type 0} where
   Happens k (SenderClaims p c n) w w' =
       BySender w p (λ r. (0 < n) × SeesRoom k r c n
       × (w' ≡ (if slice_index w.words claim_word == c then sender_claims w p r c n else sender_knows w p (sender_looked r claim_word (slice_index w.words claim_word)))))
-  Happens k (SenderPublishes p s events) w w' =
-      ByOwner w p s (λ r t. (l : Lent T) × (events ≡ l.event ∷ []) × (w' ≡ sender_publishes k w p r s t l))
+  -- the marks of all these sequences are in one word
+  Happens k (SenderPublishes p s events) w w' = (length events ≤ in_word k s) × PublishesAll k p s events w w'
   Happens k (SenderLooksAtMark p s) w w' =
-      BySender w p (λ r. w' ≡ sender_knows w p (mark_found r (mark_word k s) (slice_index w.words (mark_word k s))))
+      BySender w p (λ r. w' ≡ sender_knows w p (mark_found r s (slice_index w.words (mark_word k s))))
   Happens k (SenderHalts p) w w' =
       BySender w p (λ r. w' ≡ record w { words = halted_words w; senders = slice_set w.senders p (sender_looked r claim_word (halted_from (slice_index w.words claim_word))) })
   Happens k (ReceiverLooksAtClaims h) w w' =
       ByReceiver w h (λ r. w' ≡ receiver_knows w h (claims_looked r (slice_index w.words claim_word)))
-  -- a receiver without upstreams takes what the mark lets through, as far as it has room
+  -- a receiver without upstreams takes what the marks in the word let through, as far as it has room
   Happens k (ReceiverLooksAtMark h room) w w' =
       ByReceiver w h (λ r. let found : ℕ = slice_index w.words (mark_word k (length r.received)) in
       (upstreams_of k.upstreams h ≡ []) × (lents : List (Lent T)) × AreNext w r (taken_at_mark k r found room) lents
-      × (w' ≡ receiver_knows w h (mark_looked k r found lents)))
+      × (w' ≡ receiver_knows w h (mark_looked r found lents)))
   -- and another what its upstreams let through
   Happens k (ReceiverLooksAtCount h u room) w w' =
       ByReceiver w h (λ r. let found : ℕ = slice_index w.words (count_word u) in

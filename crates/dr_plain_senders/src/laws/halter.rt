@@ -1,21 +1,25 @@
 //! An end that halts a ring from any thread. Its one call is its one step.
 
-ghost use Rattle.std.specs.Prelude.{ℕ};
+ghost use Rattle.std.specs.Arc.{arc_value};
+ghost use Rattle.std.specs.Prelude.{◌≡◌, ℕ};
 ghost use Rattle.dr_plain_senders.specs.Meaning.Records.{halter_halted};
 ghost use Rattle.dr_plain_senders.specs.declared.record.Step.TheVariants.{HalterHalts};
 ghost use Rattle.dr_plain_senders.specs.Calls.Ends.{HasStored};
+ghost use Rattle.dr_plain_senders.specs.Inside.Leaving.{BelongsHalter};
 
+use super::RingSeat;
 use super::plays::Halt;
-use super::{RingBody, RingSeat};
+use crate::body::RingBody;
 use crate::gathered::Gathered;
+use crate::left::HalterLeft;
 use crate::plan::{CLAIM_WORD, HALT_BIT};
 use dr_cells::Strip;
 use std::alloc::Global;
 use std::marker::Model;
+use std::snapshot::Snapshot;
 use std::sync::Arc;
 
 /// An end that halts the ring: no sender claims more from then on.
-#[derive(Drop)]
 pub struct Halter<T> {
     pub(crate) ring: Arc<RingBody<T>, Global>,
     pub(crate) seat: RingSeat<T>,
@@ -45,5 +49,35 @@ impl<T> Halter<T> {
     {
         let words = &self.ring.table.shared;
         let _found = words.fetch_or::<Halt>(&mut self.seat, CLAIM_WORD, HALT_BIT);
+    }
+
+    // All that it has, and the ring.
+    pub(crate) fn into_left(self) -> (Arc<RingBody<T>, Global>, HalterLeft<T>)
+        ensures ring { BelongsHalter (arc_value result.0).table.shared.table_id (arc_value result.0).plan self }
+        ensures left { result.1 ≡ self }
+    {
+        let Halter {
+            ring,
+            seat,
+            strip,
+            gathered,
+        } = self;
+        let plan = Snapshot::of(&ring.plan);
+        let left = HalterLeft {
+            seat,
+            plan,
+            strip,
+            gathered,
+        };
+        (ring, left)
+    }
+}
+
+/// It leaves what it holds in the ring, without waiting or taking memory. With the last end the events
+/// are dropped, and all memory of the ring is free.
+impl<T: Drop> Drop for Halter<T> {
+    fn drop(self) {
+        let (ring, left) = self.into_left();
+        drop(ring.halters.leave(0, left));
     }
 }

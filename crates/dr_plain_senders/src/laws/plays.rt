@@ -1,7 +1,7 @@
 //! What each kind of step tells. These types are for the proofs alone.
 
 ghost use Rattle.std.specs.Prelude.{◌-◌};
-ghost use Rattle.dr_plain_senders.specs.Inside.Seats.{Loads, Stores, SenderLooked, SenderClaimed, SenderPublished, SenderLookedAtMark, SenderHalted, ReceiverLookedAtClaims, ReceiverLookedAtMark, ReceiverLookedAtCount, ReceiverCompleted, HalterHalted, sender_of, receiver_of};
+ghost use Rattle.dr_plain_senders.specs.Inside.Seats.{Loads, Stores, SenderLooked, SenderLookedAtClaims, SenderClaimed, SenderPublished, SenderLookedAtMark, SenderHalted, ReceiverLookedAtClaims, ReceiverLookedAtMark, ReceiverLookedAtCount, ReceiverCompleted, HalterHalted, sender_of, receiver_of};
 ghost use Rattle.dr_plain_senders.specs.Meaning.Records.{events_of};
 ghost use Rattle.dr_plain_senders.specs.declared.record.Step.TheVariants.{SenderClaims, SenderPublishes, SenderHalts, ReceiverCompletes, HalterHalts};
 
@@ -17,11 +17,17 @@ impl<T> Play<Token<T>, View<T>> for Look {
     ghost then = { Loads SenderLooked };
 }
 
+pub struct SeeClaims;
+
+impl<T> Play<Token<T>, View<T>> for SeeClaims {
+    ghost then = { Loads SenderLookedAtClaims };
+}
+
 pub struct Claim<J> {
     named: PhantomData<J>,
 }
 
-impl<T, J: Names> Play<Token<T>, View<T>> for Claim<J> {
+impl<T, J: Names<T>> Play<Token<T>, View<T>> for Claim<J> {
     ghost then = { Stores (λ s me n. SenderClaims (sender_of me.0).number s.first (s.second - s.first)) (SenderClaimed J.plan) };
 }
 
@@ -30,7 +36,7 @@ pub struct Publish<J, L> {
     lent: PhantomData<L>,
 }
 
-impl<T, J: Names, L: Lends<T>> Play<Token<T>, View<T>> for Publish<J, L> {
+impl<T, J: Names<T>, L: Lends<T>> Play<Token<T>, View<T>> for Publish<J, L> {
     ghost then = { Stores (λ s me n. SenderPublishes (sender_of me.0).number J.number (events_of L.lents)) (SenderPublished J.plan J.number L.lents) };
 }
 
@@ -38,8 +44,8 @@ pub struct LookAtMark<J> {
     named: PhantomData<J>,
 }
 
-impl<T, J: Names> Play<Token<T>, View<T>> for LookAtMark<J> {
-    ghost then = { Loads (SenderLookedAtMark J.plan J.number) };
+impl<T, J: Names<T>> Play<Token<T>, View<T>> for LookAtMark<J> {
+    ghost then = { Loads (SenderLookedAtMark J.number) };
 }
 
 pub struct SenderHalt;
@@ -58,7 +64,7 @@ pub struct LookAtNext<J> {
     named: PhantomData<J>,
 }
 
-impl<T, J: Names> Play<Token<T>, View<T>> for LookAtNext<J> {
+impl<T, J: Names<T>> Play<Token<T>, View<T>> for LookAtNext<J> {
     ghost then = { Loads (ReceiverLookedAtMark J.plan J.number) };
 }
 
@@ -66,7 +72,7 @@ pub struct LookAtUpstream<J> {
     named: PhantomData<J>,
 }
 
-impl<T, J: Names> Play<Token<T>, View<T>> for LookAtUpstream<J> {
+impl<T, J: Names<T>> Play<Token<T>, View<T>> for LookAtUpstream<J> {
     ghost then = { Loads (ReceiverLookedAtCount J.plan J.number) };
 }
 
@@ -74,7 +80,7 @@ pub struct Complete<J> {
     named: PhantomData<J>,
 }
 
-impl<T, J: Names> Play<Token<T>, View<T>> for Complete<J> {
+impl<T, J: Names<T>> Play<Token<T>, View<T>> for Complete<J> {
     ghost then = { Stores (λ s me n. ReceiverCompletes (receiver_of me.0).number n) (ReceiverCompleted J.plan) };
 }
 

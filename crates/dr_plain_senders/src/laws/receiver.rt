@@ -12,7 +12,8 @@ ghost use Rattle.dr_plain_senders.specs.Calls.Ends.{HasLoaded, HasStored};
 ghost use Rattle.dr_plain_senders.specs.Inside.Seats.{taken_by_poll, given_by_completion};
 
 use super::plays::{Complete, LookAtClaims, LookAtNext, LookAtUpstream};
-use super::{Names, RingBody, RingSeat};
+use super::{Names, RingSeat};
+use crate::body::RingBody;
 use crate::plan::{CLAIM_WORD, Plan, count_word};
 use std::alloc::Global;
 use std::marker::Model;
@@ -66,13 +67,13 @@ impl<T> ReceiverStation<T> {
         words.load::<LookAtClaims>(&mut self.seat, CLAIM_WORD)
     }
 
-    /// A receiver without upstreams looks at the mark of its next event, and takes that event where
-    /// the mark is there, if `room` is not 0.
-    pub fn look_at_mark<J: Names>(&mut self, sequence: u64, room: u64) -> u64
+    /// A receiver without upstreams looks at the word with the mark of its next event, and takes the
+    /// next events, as many as have their marks there one after the other, at most `room`.
+    pub fn look_at_mark<J: Names<T>>(&mut self, sequence: u64, room: u64) -> u64
         requires named { (self.old.plan ≡ J.plan) × (room ≡ J.number) }
         requires first { upstreams_of self.old.plan.upstreams self.old.knows.number ≡ [] }
         requires next { sequence ≡ length self.old.knows.received }
-        ensures step { (lents : List (Lent T)) × (length lents ≡ taken_at_mark self.old.plan self.old.knows result room) × HasLoaded self.old (mark_looked self.old.plan self.old.knows result lents) (taken_by_poll self.old.plan self.old.knows lents ++ self.old.hand) self.new }
+        ensures step { (lents : List (Lent T)) × (length lents ≡ taken_at_mark self.old.plan self.old.knows result room) × HasLoaded self.old (mark_looked self.old.knows result lents) (taken_by_poll self.old.plan self.old.knows lents ++ self.old.hand) self.new }
         ensures finds { FindsNext self.old.plan self.old.knows result }
     {
         let plan = &self.ring.plan;
@@ -82,7 +83,7 @@ impl<T> ReceiverStation<T> {
 
     /// A receiver looks at the count of one of its upstreams, and takes what its upstreams then let
     /// through, as far as it saw, at most `room` events.
-    pub fn look_at_count<J: Names>(&mut self, upstream: usize, room: u64) -> u64
+    pub fn look_at_count<J: Names<T>>(&mut self, upstream: usize, room: u64) -> u64
         requires named { (self.old.plan ≡ J.plan) × (room ≡ J.number) }
         requires upstream { Contains (upstreams_of self.old.plan.upstreams self.old.knows.number) upstream }
         ensures step { (lents : List (Lent T)) × (length lents ≡ taken_at_count self.old.plan self.old.knows (count_word_of upstream) result room) × HasLoaded self.old (receiver_looked self.old.knows (count_word_of upstream) result lents) (taken_by_poll self.old.plan self.old.knows lents ++ self.old.hand) self.new }
@@ -95,7 +96,7 @@ impl<T> ReceiverStation<T> {
 
     /// A receiver stores its count, and gives back its parts of the events that it has completed
     /// with it, which it has in hand in front of all else.
-    pub fn complete<J: Names>(&mut self, upto: u64)
+    pub fn complete<J: Names<T>>(&mut self, upto: u64)
         requires named { self.old.plan ≡ J.plan }
         requires rises { self.old.knows.completed ≤ upto }
         requires taken { upto ≤ length self.old.knows.received }

@@ -1,21 +1,22 @@
 //! A sender's steps.
 
-ghost use Rattle.std.specs.Prelude.{◌≡◌, ◌+◌, ◌^◌, ◌<◌, ◌++◌, None, List, ℕ, length, drop, Contains};
+ghost use Rattle.std.specs.Prelude.{◌≡◌, ◌+◌, ◌^◌, ◌<◌, ◌≤◌, ◌++◌, None, List, ℕ, length, drop, Contains};
 ghost use Rattle.dr_graph.specs.Meaning.Graph.{finals};
 ghost use Rattle.dr_cells.specs.declared.token.Token.{Token};
 ghost use Rattle.dr_plain_senders.specs.Calls.Plans.{IsPlan};
 ghost use Rattle.dr_plain_senders.specs.declared.record.Lent.{Lent};
 ghost use Rattle.dr_plain_senders.specs.declared.record.Stage.{Stage};
-ghost use Rattle.dr_plain_senders.specs.Meaning.Words.{claim_word, halted_from, count_word as count_word_of, mark_word};
+ghost use Rattle.dr_plain_senders.specs.Meaning.Words.{claim_word, halted_from, count_word as count_word_of, in_word};
 ghost use Rattle.dr_plain_senders.specs.Meaning.Records.{events_of, Owns, has_published, sender_looked, mark_found, SeesRoom};
 ghost use Rattle.dr_plain_senders.specs.Meaning.Lying.{Laid};
 ghost use Rattle.dr_plain_senders.specs.declared.record.Step.TheVariants.{SenderClaims, SenderPublishes, SenderHalts};
-ghost use Rattle.dr_plain_senders.specs.Calls.Finds.{FindsMore, FindsMark, IsEarlier, exchanged, after_exchange};
+ghost use Rattle.dr_plain_senders.specs.Calls.Finds.{FindsMore, FindsOwn, IsEarlier, exchanged, after_exchange};
 ghost use Rattle.dr_plain_senders.specs.Calls.Ends.{HasLoaded, HasStored};
-ghost use Rattle.dr_plain_senders.specs.Inside.Seats.{LayIn, taken_by_claim, given_by_publication};
+ghost use Rattle.dr_plain_senders.specs.Inside.Seats.{LayIn, LayAsLent, taken_by_claim, given_by_publication};
 
-use super::plays::{Claim, Look, LookAtMark, Publish, SenderHalt};
-use super::{Lends, Names, RingBody, RingSeat};
+use super::plays::{Claim, Look, LookAtMark, Publish, SeeClaims, SenderHalt};
+use super::{Lends, Names, RingSeat};
+use crate::body::RingBody;
 use crate::plan::{CLAIM_WORD, HALT_BIT, Plan, count_word};
 use std::alloc::Global;
 use std::marker::Model;
@@ -56,10 +57,11 @@ impl<T> SenderStation<T> {
     pub fn look_at_claims(&mut self) -> u64
         ensures step { HasLoaded self.old (sender_looked self.old.knows claim_word result) self.old.hand self.new }
         ensures finds { FindsMore self.old.knows.looks claim_word result }
+        ensures own { FindsOwn self.old.knows result }
     {
         self.looks = self.looks.saturating_add(1);
         let words = &self.ring.table.shared;
-        words.load::<Look>(&mut self.seat, CLAIM_WORD)
+        words.load::<SeeClaims>(&mut self.seat, CLAIM_WORD)
     }
 
     /// A sender looks at a final handler's count.
@@ -76,11 +78,11 @@ impl<T> SenderStation<T> {
     /// A sender claims `count` sequences from `found` on, for which it has seen that there is room,
     /// where so many are claimed now, and then has in hand what was kept of each of their cells and
     /// every handler's part of it; else it learns what the claim word is.
-    pub fn claim<J: Names>(&mut self, found: u64, count: u64) -> u64
+    pub fn claim<J: Names<T>>(&mut self, found: u64, count: u64) -> u64
         requires named { self.old.plan ≡ J.plan }
         requires some { 0 < count }
         requires room { SeesRoom self.old.plan self.old.knows found count }
-        ensures step { (laid : List (Laid T)) × LayIn self.old.plan found (exchanged found count result) laid × HasStored self.old (SenderClaims self.old.knows.number found count) (after_exchange self.old.knows found count result) (taken_by_claim self.old.plan found laid ++ self.old.hand) self.new }
+        ensures step { (laid : List (Laid T)) × LayIn self.old.plan found (exchanged found count result) laid × HasStored self.old (SenderClaims self.old.knows.number found count) (after_exchange self.old.knows found count result) (taken_by_claim self.old.plan found laid ++ self.old.hand) self.new × LayAsLent self.old.plan self.old.knows found laid }
         ensures finds { FindsMore self.old.knows.looks claim_word result }
         ensures own { result ≡ found → (s : ℕ) (t : Stage T) → Owns self.old.knows s t → IsEarlier self.old.plan found (found + count) s t }
     {
@@ -89,31 +91,31 @@ impl<T> SenderStation<T> {
         words.compare_exchange::<Claim<J>>(&mut self.seat, CLAIM_WORD, found, found + count)
     }
 
-    /// A sender publishes one of its sequences, which is not yet published: it stores the
-    /// sequence's mark, and gives what it keeps of the cell and each handler its part, which it has
-    /// in hand in front of all else.
-    pub fn publish<J: Names, L: Lends<T>>(&mut self, sequence: u64)
+    /// A sender publishes some of its sequences, from one on, which are not yet published: it flips
+    /// their marks, which are in one word, and gives what it keeps of the cells and each handler its
+    /// parts, which it has in hand in front of all else.
+    pub fn publish<J: Names<T>, L: Lends<T>>(&mut self, sequence: u64, count: u64)
         requires named { (self.old.plan ≡ J.plan) × (sequence ≡ J.number) }
-        requires one { length L.lents ≡ 1 }
-        requires small { sequence < 2 ^ 62 }
-        requires own { (t : Stage T) × Owns self.old.knows sequence t × (t.lent ≡ None) }
+        requires some { 0 < count }
+        requires many { length L.lents ≡ count }
+        requires word { count ≤ in_word self.old.plan sequence }
+        requires own { (i : ℕ) → i < count → (t : Stage T) × Owns self.old.knows (sequence + i) t × (t.lent ≡ None) }
         requires hand { (rest : List (ℕ × Token T)) × (self.old.hand ≡ given_by_publication self.old.plan sequence L.lents ++ rest) }
         ensures { HasStored self.old (SenderPublishes self.old.knows.number sequence (events_of L.lents)) (has_published self.old.knows sequence L.lents) (drop (length (given_by_publication self.old.plan sequence L.lents)) self.old.hand) self.new }
     {
         let plan = &self.ring.plan;
         let words = &self.ring.table.shared;
-        words.store::<Publish<J, L>>(
+        let _found = words.fetch_xor::<Publish<J, L>>(
             &mut self.seat,
             plan.mark_word(sequence),
-            plan.mark(sequence),
+            plan.mark_bits(sequence, count),
         );
     }
 
     /// A sender looks at the mark in a sequence's cell.
-    pub fn look_at_mark<J: Names>(&mut self, sequence: u64) -> u64
+    pub fn look_at_mark<J: Names<T>>(&mut self, sequence: u64) -> u64
         requires named { (self.old.plan ≡ J.plan) × (sequence ≡ J.number) }
-        ensures step { HasLoaded self.old (mark_found self.old.knows (mark_word self.old.plan sequence) result) self.old.hand self.new }
-        ensures finds { FindsMark self.old.plan self.old.knows sequence result }
+        ensures { HasLoaded self.old (mark_found self.old.knows sequence result) self.old.hand self.new }
     {
         let plan = &self.ring.plan;
         let words = &self.ring.table.shared;

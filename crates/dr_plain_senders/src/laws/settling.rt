@@ -40,7 +40,7 @@ pub struct TakesAll<J> {
     named: PhantomData<J>,
 }
 
-impl<T, J: Names> Play<Token<T>, View<T>> for TakesAll<J> {
+impl<T, J: Names<T>> Play<Token<T>, View<T>> for TakesAll<J> {
     ghost then = { λ s me n me'. TookAll J.plan me n me' };
 }
 
@@ -57,7 +57,7 @@ pub fn take_in<T>(words: &Words<T>, seat: &mut RingSeat<T>, mut other: RingSeat<
 /// The seat that stands for all ends ends the ring: it takes what lies in the slots of each cell
 /// that no sender has, and stands for no end any more. One run came to what the ends knew, and to
 /// the claim word. It costs one load.
-pub fn take_all<T, J: Names>(words: &Words<T>, seat: &mut RingSeat<T>) -> u64
+pub fn take_all<T, J: Names<T>>(words: &Words<T>, seat: &mut RingSeat<T>) -> u64
     requires table { (seat.old.table_id ≡ words.now.table_id) × (0 < words.now.table_id.words) }
     requires plan { words.now.key ≡ J.plan }
     requires ends { (ss : List (SenderEnd T)) × (rs : List (ReceiverEnd T)) × (t : HalterStand T) × HasAllEnds seat.old.me.0 ss rs t × (J.plan ≡ t.plan) }

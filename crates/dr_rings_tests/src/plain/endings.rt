@@ -24,7 +24,7 @@ struct Moment {
     published: u64,
     handlers: [(u64, u64); 2],
     halted: bool,
-    // The numbers of the events in the cells: that of a sequence is its own and one more.
+    // The numbers of the events in the cells: that of a sequence is its own and one more, and at first it is 100 and more.
     lying: [u64; 4],
 }
 
@@ -36,7 +36,7 @@ const MOMENTS: [Moment; 6] = [
         published: 0,
         handlers: [(0, 0), (0, 0)],
         halted: false,
-        lying: [0, 0, 0, 0],
+        lying: [100, 101, 102, 103],
     },
     Moment {
         name: "a claim was half written at a halt",
@@ -45,7 +45,7 @@ const MOMENTS: [Moment; 6] = [
         published: 0,
         handlers: [(0, 0), (0, 0)],
         halted: true,
-        lying: [1, 2, 0, 0],
+        lying: [1, 2, 102, 103],
     },
     Moment {
         name: "one handler never took anything",
@@ -72,7 +72,7 @@ const MOMENTS: [Moment; 6] = [
         published: 3,
         handlers: [(3, 3), (1, 1)],
         halted: false,
-        lying: [1, 2, 3, 0],
+        lying: [1, 2, 3, 103],
     },
     Moment {
         name: "all was completed",

@@ -14,8 +14,9 @@ use std::alloc::Global;
 use std::process::Abort;
 use std::sync::Arc;
 
-// How many sequences a sender claims at once, and how many of them, from the first on, it writes and publishes.
-type Sent = (u64, u64, u64);
+// How many sequences a sender claims at once, how many of them, from the first on, it writes, how many after these it changes
+// where they lie, and how many, from the first on, it publishes.
+type Sent = (u64, u64, u64, u64);
 
 // How far the ends came in a ring of four cells with two senders and two handlers.
 struct Moment {
@@ -27,39 +28,40 @@ struct Moment {
     // How many events each handler took and completed since.
     handlers: [(u64, u64); 2],
     halted: bool,
-    // The numbers of the events in the cells: that of a sequence is its own and one more.
+    // The numbers of the events in the cells: that of a sequence is its own and one more, and at first it is 100 and more. Where
+    // an event is changed it has a thousand more than lay there.
     lying: [u64; 4],
 }
 
-const MOMENTS: [Moment; 7] = [
+const MOMENTS: [Moment; 10] = [
     Moment {
         name: "nothing was claimed",
         rounds: 0,
-        sent: [(0, 0, 0), (0, 0, 0)],
+        sent: [(0, 0, 0, 0), (0, 0, 0, 0)],
         handlers: [(0, 0), (0, 0)],
         halted: false,
-        lying: [0, 0, 0, 0],
+        lying: [100, 101, 102, 103],
     },
     Moment {
         name: "two claims were half written at a halt",
         rounds: 0,
-        sent: [(2, 1, 0), (2, 1, 0)],
+        sent: [(2, 1, 0, 0), (2, 1, 0, 0)],
         handlers: [(0, 0), (0, 0)],
         halted: true,
-        lying: [1, 0, 3, 0],
+        lying: [1, 101, 3, 103],
     },
     Moment {
         name: "the later claim is published, and the earlier one is open",
         rounds: 0,
-        sent: [(2, 1, 0), (1, 1, 1)],
+        sent: [(2, 1, 0, 0), (1, 1, 0, 1)],
         handlers: [(0, 0), (0, 0)],
         halted: false,
-        lying: [1, 0, 3, 0],
+        lying: [1, 101, 3, 103],
     },
     Moment {
         name: "both handlers are in the middle of a batch",
         rounds: 0,
-        sent: [(3, 3, 3), (1, 1, 0)],
+        sent: [(3, 3, 0, 3), (1, 1, 0, 0)],
         handlers: [(3, 1), (2, 0)],
         halted: false,
         lying: [1, 2, 3, 4],
@@ -67,7 +69,7 @@ const MOMENTS: [Moment; 7] = [
     Moment {
         name: "one handler never took anything",
         rounds: 0,
-        sent: [(2, 2, 2), (2, 2, 2)],
+        sent: [(2, 2, 0, 2), (2, 2, 0, 2)],
         handlers: [(4, 4), (0, 0)],
         halted: true,
         lying: [1, 2, 3, 4],
@@ -75,7 +77,7 @@ const MOMENTS: [Moment; 7] = [
     Moment {
         name: "a cell of an earlier round is open, another published, and two are not claimed again",
         rounds: 2,
-        sent: [(1, 1, 1), (1, 1, 0)],
+        sent: [(1, 1, 0, 1), (1, 1, 0, 0)],
         handlers: [(1, 0), (1, 1)],
         halted: true,
         lying: [9, 10, 7, 8],
@@ -83,10 +85,34 @@ const MOMENTS: [Moment; 7] = [
     Moment {
         name: "all was completed",
         rounds: 1,
-        sent: [(2, 2, 2), (2, 2, 2)],
+        sent: [(2, 2, 0, 2), (2, 2, 0, 2)],
         handlers: [(4, 4), (4, 4)],
         halted: true,
         lying: [5, 6, 7, 8],
+    },
+    Moment {
+        name: "of a new ring two events are claimed alone, one is changed, and one is not claimed",
+        rounds: 0,
+        sent: [(2, 0, 0, 0), (1, 0, 1, 0)],
+        handlers: [(0, 0), (0, 0)],
+        halted: false,
+        lying: [100, 101, 1102, 103],
+    },
+    Moment {
+        name: "and so in a later round",
+        rounds: 2,
+        sent: [(2, 0, 0, 0), (1, 0, 1, 0)],
+        handlers: [(0, 0), (0, 0)],
+        halted: true,
+        lying: [5, 6, 1007, 8],
+    },
+    Moment {
+        name: "what is changed is published too",
+        rounds: 1,
+        sent: [(2, 0, 2, 2), (2, 1, 1, 2)],
+        handlers: [(4, 2), (3, 0)],
+        halted: false,
+        lying: [1001, 1002, 7, 1004],
     },
 ];
 
@@ -107,6 +133,24 @@ fn write(rt: &impl Abort, alive: &Arc<u64>, sender: &mut Sender<Counted>, lo: u6
     }
 }
 
+// So many events are changed where they lie, from one sequence on: each has a thousand more then.
+fn change(rt: &impl Abort, sender: &mut Sender<Counted>, lo: u64, count: u64)
+    ensures { sender_place sender.new ≡ sender_place sender.old }
+{
+    for s in lo..lo.wrapping_add(count) {
+        change_one(rt, sender, s);
+    }
+}
+
+fn change_one(rt: &impl Abort, sender: &mut Sender<Counted>, s: u64)
+    ensures { sender_place sender.new ≡ sender_place sender.old }
+{
+    match sender.update(s, |event| event.number = event.number.wrapping_add(1000)) {
+        Ok(()) => (),
+        Err(_) => panic!(rt; "{s} is not open"),
+    }
+}
+
 // The last of so many sequences.
 fn last_of(lo: u64, count: u64) -> u64 {
     lo.wrapping_add(count).wrapping_sub(1)
@@ -116,12 +160,13 @@ fn last_of(lo: u64, count: u64) -> u64 {
 fn send(rt: &impl Abort, alive: &Arc<u64>, sender: &mut Sender<Counted>, lo: u64, sent: Sent)
     ensures { sender_place sender.new ≡ sender_place sender.old }
 {
-    let (claimed, written, published) = sent;
+    let (claimed, written, changed, published) = sent;
     if claimed > 0 {
         let hi = last_of(lo, claimed);
         check(rt, sender.try_claim(claimed), Ok(Claimed { lo, hi }));
     }
     write(rt, alive, sender, lo, written);
+    change(rt, sender, lo.wrapping_add(written), changed);
     if published > 0 {
         let hi = last_of(lo, published);
         check(rt, sender.publish(lo, hi), Ok(()));
@@ -190,7 +235,7 @@ fn come_to(rt: &impl Abort, alive: &Arc<u64>, ends: &mut Ends<Counted>, moment: 
     requires { AreAllEnds ends.old.senders.items ends.old.receivers.items ends.old.halter }
     ensures { AreAllEnds ends.new.senders.items ends.new.receivers.items ends.new.halter }
 {
-    let whole = [(1, 1, 1), (3, 3, 3)];
+    let whole = [(1, 1, 0, 1), (3, 3, 0, 3)];
     let mut lo = 0;
     for _ in 0..moment.rounds {
         go(rt, alive, ends, lo, &whole, &[(4, 4), (4, 4)]);
@@ -205,7 +250,7 @@ fn come_to(rt: &impl Abort, alive: &Arc<u64>, ends: &mut Ends<Counted>, moment: 
 fn check_settled(rt: &impl Abort, settled: &Settled<Counted>, moment: &Moment) {
     let name = moment.name;
     let before = moment.rounds.wrapping_mul(4);
-    let [(first, _, _), (second, _, _)] = moment.sent;
+    let [(first, _, _, _), (second, _, _, _)] = moment.sent;
     let claimed = before.wrapping_add(first).wrapping_add(second);
     check_at(rt, settled.claimed(), claimed, name);
     check_at(rt, settled.is_halted(), moment.halted, name);

@@ -1,9 +1,9 @@
 //! Which rings are refused, and that their events are dropped.
 
+use super::rows::LIMIT;
 use crate::checks::check;
 use crate::counted::four;
 use crate::graphs::{Shape, graph};
-use crate::rows_of_several::LIMIT;
 use dr_meaning::OpenFault;
 use dr_plain_senders::senders_ring;
 use dr_seq::Size;

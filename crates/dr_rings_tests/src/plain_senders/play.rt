@@ -4,27 +4,16 @@ ghost use Rattle.std.specs.Prelude.{◌≡◌};
 ghost use Rattle.dr_plain_senders.specs.Calls.Ends.{sender_place, receiver_place};
 ghost use Rattle.dr_plain_senders.specs.Calls.Settling.{AreAllEnds};
 
+use super::rows::{Call, LIMIT, RUNS, Run};
 use super::{Ends, open};
 use crate::calls::{done, polled};
 use crate::checks::{check, check_at};
 use crate::counted::{Counted, event, four, use_some};
-use crate::rows_of_several::{Call, LIMIT, RUNS, Run};
 use dr_meaning::{Claimed, Refusal, Reply};
 use dr_plain_senders::{ClaimFault, Receiver, Sender, Settled, finish};
 use std::alloc::Global;
 use std::process::Abort;
 use std::sync::Arc;
-
-// The numbers of the events in the cells at the end of each run: that of a sequence is its own and one more.
-const LYING: [[u64; 4]; 7] = [
-    [0, 0, 0, 0],
-    [0, 0, 0, 0],
-    [1, 2, 3, 4],
-    [5, 6, 3, 4],
-    [0, 0, 0, 0],
-    [0, 0, 0, 0],
-    [1, 2, 3, 0],
-];
 
 // A claim from one thread is never contended.
 fn claim(sender: &mut Sender<Counted>, n: u64) -> Reply
@@ -139,20 +128,20 @@ fn check_settled(rt: &impl Abort, settled: &Settled<Counted>, run: &Run) {
     }
 }
 
-fn check_run(rt: &impl Abort, alloc: Global, alive: &Arc<u64>, run: &Run, lying: &[u64; 4]) {
+fn check_run(rt: &impl Abort, alloc: Global, alive: &Arc<u64>, run: &Run) {
     let events = four(rt, alloc, alive);
     let mut ends = open(rt, alloc, run.shape, LIMIT, run.senders, events);
     play(rt, alive, &mut ends, run);
     let (settled, events) = finish(ends.senders, ends.receivers, ends.halter);
     check_settled(rt, &settled, run);
-    use_some(rt, alive, events, lying, 4, run.name);
+    use_some(rt, alive, events, &run.lying, 4, run.name);
 }
 
 #[test]
 fn worked_rows(rt: HostRuntime) {
     let alive = Arc::new(rt.alloc(), 0u64).expect(&rt, "memory");
-    for (run, lying) in RUNS.iter().zip(LYING.iter()) {
-        check_run(&rt, rt.alloc(), &alive, run, lying);
+    for run in &RUNS {
+        check_run(&rt, rt.alloc(), &alive, run);
     }
     check(&rt, Arc::strong_count(&alive) as u64, 1);
 }

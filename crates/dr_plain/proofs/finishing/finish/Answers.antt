@@ -1,85 +1,90 @@
-use Rattle.std.proofs.Common.{◌≡◌, ◌+◌, ◌-◌, ◌≤◌, ℕ, Vec, Global, List, length, map, ap, sym, subst, arith, ◌∙◌}
-use Rattle.std.proofs.lemmas.List.{length-map}
+use Rattle.std.proofs.Common.{◌<◌, List, Vec, Global, Some, map, ap, sym, subst, arith, ◌∙◌}
 use Rattle.dr_cells.specs.declared.token.Token.{Token}
-use Rattle.dr_cells.specs.Hold.{held}
-use Rattle.dr_plain.specs.Meaning.Shape.{Shape}
-use Rattle.dr_plain.specs.Meaning.Records.{claimed}
-use Rattle.dr_plain.specs.declared.record.SenderRecord.{SenderRecord}
+use Rattle.dr_plain.specs.Meaning.Shape.{handlers_of}
 use Rattle.dr_plain.specs.Inside.Seats.{Sitting}
 use Rattle.dr_plain.specs.Inside.Gathering.{halter_known}
-use Rattle.dr_plain.specs.Inside.Views.{sender_end}
-use Rattle.dr_plain.specs.Inside.Fits.{TokensFit, cells_of}
-use Rattle.dr_plain.specs.Inside.Finishing.{first_lent, AreLanes}
-use Rattle.dr_plain.specs.Calls.Ends.{SenderEnd, SenderStand, HalterStand}
-use Rattle.dr_plain.proofs.Gathering.{all_stand, all_settle, has_run}
-use Rattle.dr_plain.proofs.Ending.{AllTogether, takes_in, own_sender, own_halter, has_all, together}
-use Rattle.dr_plain.proofs.Handed.{lanes_of}
+use Rattle.dr_plain.specs.Inside.Stations.{sender_stand}
+use Rattle.dr_plain.specs.Calls.Ends.{SenderEnd, HalterStand}
+use Rattle.dr_plain.proofs.Gathering.{all_settle, has_run}
+use Rattle.dr_plain.proofs.Ending.{AllTogether, takes_in, has_all}
+use Rattle.dr_plain.proofs.Departed.{sender_in, halter_in, kept_of, together_of}
 use Rattle.dr_plain.proofs.finishing.finish.Goals as goal
 use Rattle.dr_plain.proofs.finishing.finish.Given.{Over}
 use Rattle.dr_plain.proofs.finishing.finish.Goals.{After-gather}
 
 -- all ends come together in the sender's seat
 come : (g : Over) (c : After-gather g)
-    → AllTogether c.station.inside.seat.me.0 c.take_in.new.seat.me.0 c.gather.new.seat.me.0 c.args.sender c.args.receivers.items c.args.halter
-come g c =
-    let s = c.args.sender in let t = c.args.halter in let me = c.station.inside.seat.me in
-    let is = ap (λ (e : SenderStand g.row.T.Denot). sender_end e c.sender.inside.written (cells_of c.sender.inside.tokens.items)) c.station.view_is ∙ c.sender.view_is in
-    record {
-      mine = own_sender me s c.station.invariant.end (ap (λ (e : SenderEnd g.row.T.Denot). e.knows) is) (ap (λ (e : SenderEnd g.row.T.Denot). e.past) is)
-          (ap (λ (e : SenderEnd g.row.T.Denot). e.stored) is);
-      halter = takes_in _ _ _ (halter_known t) (own_halter c.halter.inside.seat.me t c.halter.invariant.end (ap (λ (e : HalterStand g.row.T.Denot). e.knows) c.halter.view_is)
-          (ap (λ (e : HalterStand g.row.T.Denot). e.past) c.halter.view_is) (ap (λ (e : HalterStand g.row.T.Denot). e.stored) c.halter.view_is))
-          (ap (λ (m : Sitting g.row.T.Denot). m.0) c.take_in.ensures.view);
-      receivers = c.gather.ensures.view;
-      all = c.requires.ends;
+    → AllTogether c.sends.inside.seat.me.0 c.take_in.new.seat.me.0 c.gather.new.seat.me.0 c.args.sender c.args.receivers.items c.args.halter
+come g c = record {
+  mine = sender_in _ c.sends.inside.seat.me _ _ c.args.sender c.sends.invariant.0 (c.sends.view_is ∙ c.into_left-ring.ensures.left);
+  halter = takes_in _ _ _ (halter_known c.args.halter)
+      (halter_in _ c.halts.inside.seat.me c.args.halter c.halts.invariant (c.halts.view_is ∙ c.into_left-halts.ensures.left))
+      (ap (λ (m : Sitting g.row.T.Denot). m.0) c.take_in.ensures.view);
+  receivers = c.gather.ensures.view;
+  all = c.requires.ends;
+}
+
+pub take_in-requires : goal.take_in-requires
+take_in-requires g c =
+    let B = c.into_left-ring.ensures.ring in let words = B.0.1 in let at = ap (λ r. r.table.shared.table_id) (sym c.deref.ensures) in record {
+      table = (
+        ap (λ (e : SenderEnd g.row.T.Denot). e.ring) (c.sends.view_is ∙ c.into_left-ring.ensures.left) ∙ B.0.0 ∙ at,
+        ap (λ (e : HalterStand g.row.T.Denot). e.ring) (c.halts.view_is ∙ c.into_left-halts.ensures.left) ∙ c.requires.halter ∙ B.0.0 ∙ at,
+        subst (λ r. 0 < r.table.shared.table_id.words) (sym c.deref.ensures) (omega arith),
+      );
     }
 
-pub take_all-requires-clause-ends : goal.take_all-requires-clause-ends
-take_all-requires-clause-ends g c =
-    let s = c.args.sender in let es = c.args.receivers.items in let t = c.args.halter in
-    let A = come g (goal.at.take_all-requires-clause-ends g c).After-gather in
-    (s, es, t, has_all _ _ _ s es t A)
+pub gather-requires-clause-table : goal.gather-requires-clause-table
+gather-requires-clause-table g c =
+    let B = c.into_left-ring.ensures.ring in
+    (c.take_in.ensures.seat.0 ∙ ap (λ (e : SenderEnd g.row.T.Denot). e.ring) (c.sends.view_is ∙ c.into_left-ring.ensures.left) ∙ B.0.0, B.0.1, B.0.2)
 
-pub reclaim-tokens-requires-clause-lanes : goal.reclaim-tokens-requires-clause-lanes
-reclaim-tokens-requires-clause-lanes g c =
-    let s = c.args.sender in let es = c.args.receivers.items in let t = c.args.halter in let me = c.station.inside.seat.me in
-    let is = ap (λ (e : SenderStand g.row.T.Denot). sender_end e c.sender.inside.written (cells_of c.sender.inside.tokens.items)) c.station.view_is ∙ c.sender.view_is in
-    let A = come g (goal.at.reclaim-tokens-requires-clause-lanes g c).After-gather in
-    let e = c.sender.inside.station in let knows : e.knows ≡ s.knows = ap (λ (x : SenderEnd g.row.T.Denot). x.knows) c.sender.view_is in
-    let next = c.sender.invariant.next in let front = c.sender.invariant.front in let near = c.sender.invariant.near in
-    let close : claimed e.knows ≤ e.knows.plan.size + length e.knows.published = omega arith in
-    let stand = all_stand _ _ _ s es (together _ me.0 _ _ s es t A c.take_all.ensures.ran) in
-    let plan : c.deref-4.result.now.plan ≡ s.knows.plan = ap (λ r. r.plan) c.deref-4.ensures ∙ sym c.station.invariant.plan
-    ∙ ap (λ (x : SenderEnd g.row.T.Denot). x.knows.plan) is in
-    let size = ap (λ (k : Shape). k.size) plan in let all = ap (λ (r : SenderRecord g.row.T.Denot). claimed r) knows in
-    let sent = ap (λ (r : SenderRecord g.row.T.Denot). length r.published) knows in
-    let first : c.sender.inside.claimed - c.deref-4.result.now.plan.size ≡ first_lent s.knows = omega arith in
-    let upto : c.sender.inside.published ≡ length s.knows.published = omega arith in
-    let items : Vec (Token g.row.T.Denot) Global → List (Token g.row.T.Denot) = λ hand. hand.items in (
-      s.knows.published,
-      subst (λ (x : Shape × (ℕ × ℕ)). AreLanes x.0 c.gather.new.counts.items x.1.0 x.1.1 s.knows.published c.take_all.new.seat.me.1 (map items c.gather.new.hands.items) c.sender.inside.tokens.items)
-          (λ i. (sym plan i, (sym first i, sym upto i)))
-          (lanes_of _ _ _ s es c.sender.inside.tokens.items c.gather.new.counts.items (map items c.gather.new.hands.items) _ _ stand c.requires.ends
-          (subst (λ (r : SenderRecord g.row.T.Denot). TokensFit r c.sender.inside.tokens.items) knows c.sender.invariant.tokens)
-          (subst (λ (r : SenderRecord g.row.T.Denot). claimed r ≤ r.plan.size + length r.published) knows close)
-          c.gather.ensures.counts c.gather.ensures.hands (c.take_all.ensures.hand s es t (has_all _ _ _ s es t A))),
+pub gather-requires-clause-receivers : goal.gather-requires-clause-receivers
+gather-requires-clause-receivers g c h e at =
+    let ring = ap (λ (s : SenderEnd g.row.T.Denot). s.ring) (c.sends.view_is ∙ c.into_left-ring.ensures.left) in
+    (c.requires.ends.each h e at).0 ∙ sym ring ∙ sym c.take_in.ensures.seat.0
+
+pub gather-requires-clause-places : goal.gather-requires-clause-places
+gather-requires-clause-places g c =
+    let all = ap (λ (s : SenderEnd g.row.T.Denot). handlers_of s.knows.plan) (c.sends.view_is ∙ c.into_left-ring.ensures.left) in
+    c.sends.invariant.1.places.0 ∙ all ∙ sym c.requires.ends.all
+
+pub gather-requires-clause-rooms : goal.gather-requires-clause-rooms
+gather-requires-clause-rooms g c =
+    let all = ap (λ (s : SenderEnd g.row.T.Denot). handlers_of s.knows.plan) (c.sends.view_is ∙ c.into_left-ring.ensures.left) in
+    c.sends.invariant.1.places.1 ∙ all ∙ sym c.requires.ends.all
+
+pub take_back-row-requires-clause-together : goal.take_back-row-requires-clause-together
+take_back-row-requires-clause-together g c =
+    let s = c.args.sender in let es = c.args.receivers.items in let t = c.args.halter in let me = c.sends.inside.seat in
+    let items : Vec (Token g.row.T.Denot) Global → List (Token g.row.T.Denot) = λ hand. hand.items in
+    let A = come g (goal.at.take_back-row-requires-clause-together g c).After-gather in (
+      s,
+      es,
+      t,
+      ap (λ r. r.plan) c.deref-3.ensures ∙ sym c.into_left-ring.ensures.ring.1,
+      has_all _ _ _ s es t A,
+      kept_of (sender_stand me.table_id me.me) _ s es c.gather.new.counts.items (map items c.gather.new.hands.items) c.sends.invariant.1
+          (ap (λ (e : SenderEnd g.row.T.Denot). e.knows) (c.sends.view_is ∙ c.into_left-ring.ensures.left)) c.gather.ensures.counts c.gather.ensures.hands,
     )
 
 pub close-requires : goal.close-requires
 close-requires g c =
-    let all = c.whole_row-row.ensures.all in let cells = ap length c.reclaim-tokens.ensures.cells in
-    let now = length-map c.reclaim-tokens.result.items (λ (t : Token g.row.T.Denot). held t.hold) in
-    let was = length-map c.sender.inside.tokens.items (λ (t : Token g.row.T.Denot). held t.hold) in
-    let count = c.sender.invariant.tokens.count in let size = c.sender.invariant.cells in (all.0, all.1, all.2 ∙ (omega arith))
+    let all = c.take_back-row.ensures.all in let F = c.sends.invariant.1 in (all.0, all.1, all.2 ∙ F.tokens.count ∙ sym F.cells)
 
 pub returns-clause-lists : goal.returns-clause-lists
 returns-clause-lists g c =
-    let s = c.args.sender in let es = c.args.receivers.items in let t = c.args.halter in let me = c.station.inside.seat.me in
-    let A = come g (goal.at.returns-clause-lists g c).After-gather in
-    all_settle _ _ _ s es (together _ me.0 _ _ s es t A c.take_all.ensures.ran)
+    let s = c.args.sender in let es = c.args.receivers.items in let t = c.args.halter in
+    let H = has_all _ _ _ s es t (come g (goal.at.returns-clause-lists g c).After-gather) in
+    all_settle _ _ _ s es (together_of _ _ s es t H c.take_back-row.ensures.ran)
 
 pub returns-clause-run : goal.returns-clause-run
 returns-clause-run g c =
-    let s = c.args.sender in let es = c.args.receivers.items in let t = c.args.halter in let me = c.station.inside.seat.me in
-    let A = come g (goal.at.returns-clause-run g c).After-gather in
-    has_run _ _ _ s es t (has_all _ _ _ s es t A).halter (together _ me.0 _ _ s es t A c.take_all.ensures.ran) c.moments.ensures.leads c.moments.ensures.laws
+    let s = c.args.sender in let es = c.args.receivers.items in let t = c.args.halter in
+    let H = has_all _ _ _ s es t (come g (goal.at.returns-clause-run g c).After-gather) in
+    has_run _ _ _ s es t H.halter (together_of _ _ s es t H c.take_back-row.ensures.ran) c.moments.ensures.leads c.moments.ensures.laws
+
+pub returns-clause-events : goal.returns-clause-events
+returns-clause-events g c =
+    ap (map (λ (event : g.row.T.Denot). Some event)) c.close.ensures ∙ c.take_back-row.ensures.events
+    ∙ ap (λ (e : SenderEnd g.row.T.Denot). e.cells) (c.sends.view_is ∙ c.into_left-ring.ensures.left)

@@ -1,14 +1,13 @@
-use Rattle.std.proofs.Common.{◌≡◌, ℕ, ◌+◌, ◌<◌, List, [], ◌∷◌, ◌++◌, map, length, set, arith, refl, ap, sym, subst, ◌∙◌}
-use Rattle.std.proofs.lemmas.List.{append-nil, map-set, length-map, length-append}
+use Rattle.std.proofs.Common.{◌≡◌, ℕ, ◌+◌, ◌<◌, List, Vec, Global, [], ◌∷◌, ◌++◌, map, length, set, arith, refl, ap, sym, subst, ◌∙◌}
+use Rattle.std.proofs.lemmas.List.{append-nil, length-map, length-append}
+use Rattle.dr_cells.specs.declared.token.Token.{Token}
 use Rattle.dr_runs.specs.Gathering.{IsInView}
 use Rattle.dr_runs.proofs.Lists.{no_elements}
-use Rattle.dr_runs.proofs.Gathering.{last_of, in_own, gathering_none, gathering_more, gathering_all, filled_none, filled_more, filled_all}
-use Rattle.dr_plain.specs.Inside.Seats.{End, Sitting, ring_ends, as_receiver}
+use Rattle.dr_runs.proofs.Gathering.{last_of, gathering_none, gathering_more, gathering_all, filled_none, filled_more, filled_all}
+use Rattle.dr_plain.specs.Inside.Seats.{ring_ends}
 use Rattle.dr_plain.specs.Inside.Gathering.{receiver_known}
 use Rattle.dr_plain.specs.Inside.Fits.{PartsFit}
-use Rattle.dr_plain.specs.Inside.Views.{receiver_end}
-use Rattle.dr_plain.specs.declared.record.ReceiverRecord.{ReceiverRecord}
-use Rattle.dr_plain.specs.Calls.Ends.{ReceiverEnd, ReceiverStand}
+use Rattle.dr_plain.specs.Calls.Ends.{ReceiverEnd}
 use Rattle.dr_plain.specs.Calls.Settling.{handler_counts}
 use Rattle.dr_plain.proofs.Handed.{handed_none, handed_more, handed_all}
 use Rattle.dr_plain.proofs.finishing.gather.Goals as goal
@@ -25,52 +24,39 @@ loop-receiver-init g c = let all = c.args.receivers.items in (
   ),
 )
 
-pub put_at-requires : goal.put_at-requires
-put_at-requires g c =
-    let H = c.loop-receiver.invariant.2.3 in let all = H.whole in let count = H.count in let len = c.len-place.ensures in let ok = c.pop.new.self.ok in
-    let popped = ap length c.in-Some.ensures.items in let more = length-append c.pop.new.self.items (c.in-Some.receiver ∷ []) in
-    let same = length-map c.loop-receiver.hands.items (λ hand. hand.items) in omega arith
+pub receive-requires-clause-table : goal.receive-requires-clause-table
+receive-requires-clause-table g c =
+    let t = c.requires.table in let inv = c.loop-receiver.invariant in let at = t.0 ∙ ap (λ r. r.table.shared.table_id) (sym c.deref.ensures) in (
+      inv.0 ∙ at,
+      ap (λ (e : ReceiverEnd g.row.T.Denot). e.ring) c.into_left-left.ensures.left
+          ∙ last_of (λ (e : ReceiverEnd g.row.T.Denot). e.ring) _ _ _ _ _ _ c.requires.receivers inv.2.1.split c.in-Some.ensures.items ∙ at,
+      subst (λ r. 0 < r.table.shared.table_id.words) (sym c.deref.ensures) (omega arith),
+    )
 
-pub take_in-requires : goal.take_in-requires
-take_in-requires g c =
-    let t = c.requires.table in let inv = c.loop-receiver.invariant in let at = t.0 ∙ ap (λ r. r.table.shared.table_id) (sym c.deref.ensures) in
-    let is = ap (λ (e : ReceiverStand g.row.T.Denot). receiver_end e) c.station.view_is ∙ c.receiver.view_is in record {
-      table = (
-        inv.0 ∙ at,
-        ap (λ (e : ReceiverEnd g.row.T.Denot). e.ring) is
-            ∙ last_of (λ (e : ReceiverEnd g.row.T.Denot). e.ring) _ _ _ _ _ _ c.requires.receivers inv.2.1.split c.in-Some.ensures.items ∙ at,
-        subst (λ r. 0 < r.table.shared.table_id.words) (sym c.deref.ensures) (omega arith),
-      );
-    }
+pub receive-requires-clause-place : goal.receive-requires-clause-place
+receive-requires-clause-place g c =
+    let inv = c.loop-receiver.invariant in let H = inv.2.3 in let all = H.whole in let count = H.count in let room = inv.2.2.places in
+    let len = c.len-place.ensures in let ok = c.pop.new.self.ok in let popped = ap length c.in-Some.ensures.items in let more = length-append c.pop.new.self.items (c.in-Some.receiver ∷ []) in
+    let same = length-map c.loop-receiver.hands.items (λ hand. hand.items) in (omega arith, omega arith)
 
 pub loop-receiver-preserved : goal.loop-receiver-preserved
 loop-receiver-preserved g c =
-    let inv = c.loop-receiver.invariant in let own = c.station.inside.seat in
-    let knows = ap (λ (e : ReceiverEnd g.row.T.Denot). e.knows) c.receiver.view_is in
-    let is = ap (λ (e : ReceiverStand g.row.T.Denot). receiver_end e) c.station.view_is ∙ c.receiver.view_is in
-    let came : IsInView ring_ends own.me.0 (receiver_known c.in-Some.receiver) =
-    in_own ring_ends (own.me.0, []) (receiver_known c.in-Some.receiver)
-    (ap (λ (m : End g.row.T.Denot). (m.0, [])) c.station.invariant.end ∙ ap (λ (e : ReceiverEnd g.row.T.Denot). as_receiver e.knows []) is)
-    (ap (λ (e : ReceiverEnd g.row.T.Denot). e.past) is) (ap (λ (e : ReceiverEnd g.row.T.Denot). e.stored) is) in
+    let inv = c.loop-receiver.invariant in let same = c.into_left-left.ensures.left in
+    let came = c.receive.ensures.view in let hands = c.receive.ensures.hands in
+    let items : Vec (Token g.row.T.Denot) Global → List (Token g.row.T.Denot) = λ hand. hand.items in
     let place : c.len-place.result ≡ length c.pop.new.self.items = (let ok = c.pop.new.self.ok in let len = c.len-place.ensures in omega arith) in
-    let taken : c.receiver.inside.taken ≡ length c.in-Some.receiver.knows.received =
-    c.receiver.invariant.taken ∙ ap (λ (q : ReceiverRecord g.row.T.Denot). length q.received) knows in
-    let completed : c.receiver.inside.completed ≡ c.in-Some.receiver.knows.completed =
-    c.receiver.invariant.completed ∙ ap (λ (q : ReceiverRecord g.row.T.Denot). q.completed) knows in
-    let parts = c.receiver.inside.parts in
     let next : length c.loop-receiver.receivers.items ≡ length c.pop.new.self.items + 1 =
     ap length c.in-Some.ensures.items ∙ length-append c.pop.new.self.items (c.in-Some.receiver ∷ []) in (
-      c.take_in.ensures.seat.0 ∙ inv.0,
-      ap (λ (m : Sitting g.row.T.Denot). m.1) c.take_in.ensures.view ∙ inv.1,
+      c.receive.ensures.seat.0 ∙ inv.0,
+      c.receive.ensures.seat.1 ∙ inv.1,
       (
         c.in-Some.receiver ∷ inv.2.0,
-        gathering_more own.me.0 inv.2.1 c.in-Some.ensures.items came (ap (λ (m : Sitting g.row.T.Denot). m.0) c.take_in.ensures.view),
+        gathering_more came.0 inv.2.1 c.in-Some.ensures.items
+            (subst (λ (e : ReceiverEnd g.row.T.Denot). IsInView ring_ends came.0 (receiver_known e)) same came.1) came.2,
         filled_more inv.2.2 inv.2.1.split c.in-Some.ensures.items
-            (λ i. set c.loop-receiver.counts.items (place i) record { taken = taken i; completed = completed i }),
-        handed_more _ _ _ _ _ _ c.in-Some.receiver parts.items inv.2.3 next
-            (subst (λ (q : ReceiverRecord g.row.T.Denot). PartsFit q parts.items) knows c.receiver.invariant.parts)
-            (ap (map (λ hand. hand.items)) c.put_at.ensures.row ∙ map-set (λ hand. hand.items) c.loop-receiver.hands.items c.len-place.result parts
-            ∙ ap (λ (n : ℕ). set (map (λ hand. hand.items) c.loop-receiver.hands.items) n parts.items) place),
+            (c.receive.ensures.counts ∙ (λ i. set c.loop-receiver.counts.items (place i) (handler_counts (same i).knows))),
+        handed_more _ _ _ _ _ _ c.in-Some.receiver hands.0 inv.2.3 next (subst (λ (e : ReceiverEnd g.row.T.Denot). PartsFit e.knows hands.0) same hands.1)
+            (hands.2 ∙ ap (λ (n : ℕ). set (map items c.loop-receiver.hands.items) n hands.0) place),
       ),
     )
 
@@ -85,4 +71,5 @@ returns-clause-counts g c = let inv = c.loop-receiver.invariant in
 pub returns-clause-hands : goal.returns-clause-hands
 returns-clause-hands g c = let inv = c.loop-receiver.invariant in
     let none : length c.loop-receiver.receivers.items ≡ 0 = (let ok = c.loop-receiver.receivers.ok in let none = c.in_default.ensures.cases.0 in omega arith) in
-    handed_all _ _ _ _ _ inv.2.3 none (ap (λ (xs : List (ReceiverEnd g.row.T.Denot)). xs ++ inv.2.0) (sym (no_elements c.loop-receiver.receivers.items none)) ∙ inv.2.1.split)
+    let rest = sym (no_elements c.loop-receiver.receivers.items none) in
+    handed_all _ _ _ _ _ inv.2.3 none (ap (λ (xs : List (ReceiverEnd g.row.T.Denot)). xs ++ inv.2.0) rest ∙ inv.2.1.split)

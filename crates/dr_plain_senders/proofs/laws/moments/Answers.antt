@@ -1,14 +1,11 @@
-use Rattle.std.proofs.Common.{◌≡◌, ℕ, true, List, length, refl, ap, ◌∙◌, subst, arith}
-use Rattle.std.specs.Prelude.{is_some}
-use Rattle.dr_runs.proofs.Elements.{value_at}
+use Rattle.std.proofs.Common.{List, length, inl, inr, refl, sym, ◌∙◌, subst, arith}
+use Rattle.std.proofs.lemmas.Bool.{cases_Bool, both_ways}
 use Rattle.dr_meaning.specs.Meaning.Machine.{State}
 use Rattle.dr_meaning.specs.Meaning.Transcript.{Transcript, LeadsFrom, LeadsTo}
 use Rattle.dr_plain_senders.specs.Meaning.Shape.{Shape, IsShape, ring_setup}
-use Rattle.dr_plain_senders.specs.declared.record.Stage.{Stage}
-use Rattle.dr_plain_senders.specs.Meaning.Records.{fresh_stage, is_published}
-use Rattle.dr_plain_senders.specs.Meaning.Rule.{World, IsOut}
+use Rattle.dr_plain_senders.specs.Meaning.Rule.{World, is_out_now}
 use Rattle.dr_plain_senders.specs.declared.record.Step.{Step}
-use Rattle.dr_plain_senders.specs.Meaning.Moments.{Runs, new_world, stage_at, picture_of}
+use Rattle.dr_plain_senders.specs.Meaning.Moments.{Runs, new_world, picture_of}
 use Rattle.dr_plain_senders.proofs.Keeps.{keeps_runs}
 use Rattle.dr_plain_senders.proofs.Pictures.{lead_runs}
 use Rattle.dr_plain_senders.proofs.Beginning.{kept_new_world, opens}
@@ -19,13 +16,14 @@ use Rattle.dr_plain_senders.proofs.ClaimReplies.{refused_replies, claimed_replie
 use Rattle.dr_plain_senders.proofs.PollReplies.{poll_replies, complete_replies}
 use Rattle.dr_plain_senders.proofs.Halting.{halted_runs}
 use Rattle.dr_plain_senders.proofs.Rising.{rose_runs}
-use Rattle.dr_plain_senders.proofs.Later.{out_at, hands_what_was_there}
+use Rattle.dr_plain_senders.proofs.Later.{hands_what_was_there}
+use Rattle.dr_plain_senders.proofs.Marks.{out_now, now_out}
 use Rattle.dr_plain_senders.proofs.Told.{look_tells, were_told}
-use Rattle.dr_plain_senders.proofs.Shutting.{refused_by_mark}
+use Rattle.dr_plain_senders.proofs.Shutting.{refused_by_words, shown_out, hidden_out, told_by_looks}
 use Rattle.dr_plain_senders.specs.Meaning.Words.{count_word}
 use Rattle.dr_plain_senders.proofs.laws.moments.Goals as goal
 
-leads : {T : Type 0} (k : Shape) (steps : List (Step T)) (entries : Transcript T) (w : World T) → IsShape k → Runs k steps entries (new_world k) w
+leads : {T : Type 0} (k : Shape T) (steps : List (Step T)) (entries : Transcript T) (w : World T) → IsShape k → Runs k steps entries (new_world k) w
     → LeadsTo (ring_setup k) entries (picture_of k w)
 leads {T = T} k steps entries w shape runs =
     subst (λ (m : State T). LeadsFrom (ring_setup k) m entries (picture_of k w)) (opens T k)
@@ -50,18 +48,22 @@ pub returns-clause-progress : goal.returns-clause-progress
 returns-clause-progress g c k steps entries w shape runs =
     c.nobody_is_stuck.ensures (ring_setup k) entries (picture_of k w) shape.graph (leads k steps entries w shape runs)
 
--- a published sequence, as the picture has it
-published_at : {T : Type 0} (stages : List (Stage T)) (s : ℕ) → IsOut stages s → is_published (stage_at stages s) ≡ true
-published_at stages s x = ap is_published (value_at stages s x.1.0 (fresh_stage 0) x.1.1) ∙ ap is_some x.1.2
-
 pub returns-clause-marks : goal.returns-clause-marks
 returns-clause-marks g c k steps entries w shape runs s =
     let K = keeps_runs k steps entries (new_world k) w runs (kept_new_world _ k shape) in
-    ((λ shown. K.marked s (out_at w.stages s shown)), (λ le. published_at w.stages s (K.marks s le)))
+    elim (cases_Bool (is_out_now k w s)) [
+      | inl said ↦ shown_out k w s (now_out k w s K said) ∙ sym said
+      | inr silent ↦ hidden_out k w s (λ x. both_ways (is_out_now k w s) silent (out_now k w s K x)) ∙ sym silent
+    ]
+
+pub returns-clause-sees : goal.returns-clause-sees
+returns-clause-sees g c k steps more later entries rest last w u v shape runs on further =
+    let K = keeps_runs k steps entries (new_world k) w runs (kept_new_world _ k shape) in let L = keeps_runs k more rest w u on K in let M = keeps_runs k later last u v further L in
+    told_by_looks k w u v K L M (let rose = rose_runs k more rest w u on K in rose.claimed) (let rose = rose_runs k later last u v further L in rose.claimed)
 
 pub returns-clause-refused : goal.returns-clause-refused
 returns-clause-refused g c k steps entries w shape runs p s event who shut =
-    refused_by_mark k w p s event (keeps_runs k steps entries (new_world k) w runs (kept_new_world _ k shape)) who shut
+    refused_by_words k w p s event (keeps_runs k steps entries (new_world k) w runs (kept_new_world _ k shape)) who shut
 
 pub returns-clause-replies : goal.returns-clause-replies
 returns-clause-replies g c k steps entries w shape runs =

@@ -13,4 +13,5 @@ loop-p-preserved c =
     ∙ sym (lock_more a.journal a.replica a.business a.producers.now c.loop-p.p _ c.loop-p-test.true)
 
 pub returns : goal.returns
-returns c = c.loop-p.invariant ∙ ap (λ l. lock_endings c.args.journal c.args.replica c.args.business l) (take_all c.loop-p.p c.args.producers.now c.loop-p-test.false)
+returns c = c.loop-p.invariant
+    ∙ ap (λ l. lock_endings c.args.journal c.args.replica c.args.business l) (take_all c.loop-p.p c.args.producers.now c.loop-p-test.false)

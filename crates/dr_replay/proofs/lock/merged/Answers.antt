@@ -15,16 +15,17 @@ same all now events are is = ap (λ l. map (λ v. v.items) l) are ∙ is
 pub returns-clause-text : goal.returns-clause-text
 returns-clause-text g c =
     let events = c.args.events.now in
-    reports_more (of_replay c.args.size c.len.result events c.in_ok-recorded.recorded.history _ _ c.as_slice.ensures.value c.in_ok-scripts.ensures c.in_ok-recorded.ensures.setup
-    (c.len.ensures ∙ c.in_ok-scripts.scripts.ok.0) c.in_ok-recorded.ensures.fresh)
+    reports_more (of_replay c.args.size c.len.result events c.in_ok-recorded.recorded.history _ _ c.as_slice.ensures.value c.in_ok-scripts.ensures
+    c.in_ok-recorded.ensures.setup (c.len.ensures ∙ c.in_ok-scripts.scripts.ok.0) c.in_ok-recorded.ensures.fresh)
     events (λ t. string_bytes t) c.report.result (c.report.ensures.text events (same _ _ events c.as_slice.ensures.value c.in_ok-scripts.ensures))
 
 pub returns-clause-first : goal.returns-clause-first
 returns-clause-first g c =
     let events = c.args.events.now in
-    faults_more (of_replay c.args.size c.len.result events c.in_ok-recorded.recorded.history _ _ c.as_slice.ensures.value c.in_ok-scripts.ensures c.in_ok-recorded.ensures.setup
-    (c.len.ensures ∙ c.in_ok-scripts.scripts.ok.0) c.in_ok-recorded.ensures.fresh)
-    (MayStop g.G.Gate.may_stop c.args.gate.now) events c.report.result (c.report.ensures.first events (same _ _ events c.as_slice.ensures.value c.in_ok-scripts.ensures))
+    faults_more (of_replay c.args.size c.len.result events c.in_ok-recorded.recorded.history _ _ c.as_slice.ensures.value c.in_ok-scripts.ensures
+    c.in_ok-recorded.ensures.setup (c.len.ensures ∙ c.in_ok-scripts.scripts.ok.0) c.in_ok-recorded.ensures.fresh)
+    (MayStop g.G.Gate.may_stop c.args.gate.now) events c.report.result
+    (c.report.ensures.first events (same _ _ events c.as_slice.ensures.value c.in_ok-scripts.ensures))
 
 pub returns-clause-stops : goal.returns-clause-stops
 returns-clause-stops g c =
@@ -36,5 +37,6 @@ returns-clause-ran g c =
     let events = c.args.events.now in
     let all = c.in_ok-scripts.scripts.items in
     let whole = sym (length-map all (λ v. v.items)) in
-    let opened = c.in_ok-recorded.ensures.setup ∙ opened_for c.args.size c.len.result events (map (λ v. v.items) all) (c.len.ensures ∙ c.in_ok-scripts.scripts.ok.0 ∙ whole) c.in_ok-scripts.ensures in
+    let opened = c.in_ok-recorded.ensures.setup
+    ∙ opened_for c.args.size c.len.result events (map (λ v. v.items) all) (c.len.ensures ∙ c.in_ok-scripts.scripts.ok.0 ∙ whole) c.in_ok-scripts.ensures in
     c.report.ensures.ran events (same _ _ events c.as_slice.ensures.value c.in_ok-scripts.ensures) opened

@@ -35,8 +35,9 @@ returns-in_err-write_text-clause-bytes g c =
 pub returns-in_err-text-clause-bytes : goal.returns-in_err-text-clause-bytes
 returns-in_err-text-clause-bytes g c =
     let p = err_from_is_err_and c.from_residual-in_err-text.result c.from_residual-in_err-text.ensures.1 in
-    rw (p.1, p.2) (kept_merge (MayStop g.G.Gate.may_stop c.args.gate.now) c.args.size (g.W.Write.contents (inner_of c.args.writer.now)) (g.R.Read.remaining (inner_of c.args.reader.now)) c.as_slice.result.now
-    c.in_ok-events.events.items c.in_err-text.field-0.0 c.as_slice.ensures.value c.in_ok-events.ensures.file c.in_err-text.ensures.first)
+    rw (p.1, p.2) (kept_merge (MayStop g.G.Gate.may_stop c.args.gate.now) c.args.size (g.W.Write.contents (inner_of c.args.writer.now))
+    (g.R.Read.remaining (inner_of c.args.reader.now)) c.as_slice.result.now c.in_ok-events.events.items c.in_err-text.field-0.0
+    c.as_slice.ensures.value c.in_ok-events.ensures.file c.in_err-text.ensures.first)
 
 pub returns-clause-ran : goal.returns-clause-ran
 returns-clause-ran g c =

@@ -15,14 +15,16 @@ use Rattle.dr_workers.specs.Calls.Stops.{MayStop}
 pub returns-in-Ok-clause-text : goal.returns-in-Ok-clause-text
 returns-in-Ok-clause-text g c = λ sent are.
     let had = c.in_ok-ends.ensures.begun ∙ c.new-shared.ensures.begun ∙ ap (λ (h : History Event). length h.entries) c.requires.begun in
-    reports_more (λ h went. subst (λ b. CameTo b (length c.args.scripts.now) h) (sym c.requires.begun) (came _ _ _ _ c.args.scripts.now c.in-Ok.ran c.in-Ok.ensures _ had h went))
+    reports_more (λ h went. subst (λ b. CameTo b (length c.args.scripts.now) h) (sym c.requires.begun)
+    (came _ _ _ _ c.args.scripts.now c.in-Ok.ran c.in-Ok.ensures _ had h went))
     sent (λ t. string_bytes t) c.settled.result (c.settled.ensures.text sent are)
 
 pub returns-in-Ok-clause-first : goal.returns-in-Ok-clause-first
 returns-in-Ok-clause-first g c = λ sent are.
     let ran = c.in-Ok.ran in
     let had = c.in_ok-ends.ensures.begun ∙ c.new-shared.ensures.begun ∙ ap (λ (h : History Event). length h.entries) c.requires.begun in
-    ends_of_merge (λ h went. subst (λ b. CameTo b (length c.args.scripts.now) h) (sym c.requires.begun) (came _ _ _ _ c.args.scripts.now ran c.in-Ok.ensures _ had h went))
+    ends_of_merge (λ h went. subst (λ b. CameTo b (length c.args.scripts.now) h) (sym c.requires.begun)
+    (came _ _ _ _ c.args.scripts.now ran c.in-Ok.ensures _ had h went))
     (MayStop g.G.Gate.may_stop c.args.gate.now) sent _ (error_of ran.journal.part) (error_of ran.replica.part) (error_of ran.business.part)
     (map (λ s. s.fault) ran.producers.items) c.settled.result are
     (length-map ran.producers.items (λ s. s.fault) ∙ c.in-Ok.ensures.producers.many ∙ sym (length-map c.args.scripts.now (λ v. v.items)))
@@ -30,7 +32,9 @@ returns-in-Ok-clause-first g c = λ sent are.
 
 pub returns-in-Ok-clause-stops : goal.returns-in-Ok-clause-stops
 returns-in-Ok-clause-stops g c = λ sent are.
-    where_ok c.settled.result (λ fine. joined_heeds _ _ (g.G.Gate.must_stop c.args.gate.now) _ c.args.scripts.now c.in-Ok.ran sent c.in-Ok.ensures fine are) c.settled.ensures.producers
+    where_ok c.settled.result
+    (λ fine. joined_heeds _ _ (g.G.Gate.must_stop c.args.gate.now) _ c.args.scripts.now c.in-Ok.ran sent c.in-Ok.ensures fine are)
+    c.settled.ensures.producers
 
 pub returns-in-Ok-clause-ran : goal.returns-in-Ok-clause-ran
 returns-in-Ok-clause-ran g c = λ sent are setup.

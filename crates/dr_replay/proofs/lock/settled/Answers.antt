@@ -10,8 +10,9 @@ use Rattle.dr_replay.proofs.lock.settled.Goals as goal
 pub returns-in_err-check-clause-first : goal.returns-in_err-check-clause-first
 returns-in_err-check-clause-first g c =
     let p = err_from_is_err_and c.from_residual-in_err-check.result c.from_residual-in_err-check.ensures.1 in
-    rw (p.1, p.2) (first_of_parts (GoesOnBy g.L.Exchange.begun c.args.shared.begun (ends_of c.args.ran)) _ c.in_ok-recorded.ensures.history _ c.in_err-check.field-0.0 c.fault_in.ensures c.fault_in-2.ensures
-    c.fault_in-3.ensures (c.as_slice.ensures.value ∙ c.in_ok-recorded.ensures.faults) c.in_err-check.ensures.first)
+    rw (p.1, p.2) (first_of_parts (GoesOnBy g.L.Exchange.begun c.args.shared.begun (ends_of c.args.ran)) _ c.in_ok-recorded.ensures.history _
+    c.in_err-check.field-0.0 c.fault_in.ensures c.fault_in-2.ensures c.fault_in-3.ensures
+    (c.as_slice.ensures.value ∙ c.in_ok-recorded.ensures.faults) c.in_err-check.ensures.first)
 
 pub returns-clause-text : goal.returns-clause-text
 returns-clause-text g c = λ sent are.
@@ -21,10 +22,10 @@ returns-clause-text g c = λ sent are.
 pub returns-clause-first : goal.returns-clause-first
 returns-clause-first g c =
     ends_of_audit (λ h same. subst (GoesOnBy g.L.Exchange.begun c.args.shared.begun (ends_of c.args.ran)) (sym same) c.in_ok-recorded.ensures.history)
-    (lock_endings (error_of c.args.ran.journal.part) (error_of c.args.ran.replica.part) (error_of c.args.ran.business.part) (map (λ s. s.fault) c.args.ran.producers.items))
-    (map (λ v. v.items) c.args.scripts.now) c.audited.result
-    (none_of_parts c.fault_in.ensures c.fault_in-2.ensures c.fault_in-3.ensures (c.as_slice.ensures.value ∙ c.in_ok-recorded.ensures.faults) c.in_ok-check.ensures.fine)
-    c.audited.ensures.fault
+    (lock_endings (error_of c.args.ran.journal.part) (error_of c.args.ran.replica.part) (error_of c.args.ran.business.part)
+    (map (λ s. s.fault) c.args.ran.producers.items)) (map (λ v. v.items) c.args.scripts.now) c.audited.result
+    (none_of_parts c.fault_in.ensures c.fault_in-2.ensures c.fault_in-3.ensures (c.as_slice.ensures.value ∙ c.in_ok-recorded.ensures.faults)
+    c.in_ok-check.ensures.fine) c.audited.ensures.fault
 
 pub returns-clause-refused : goal.returns-clause-refused
 returns-clause-refused g c = audit_names_none _ _ c.audited.result c.audited.ensures.fault

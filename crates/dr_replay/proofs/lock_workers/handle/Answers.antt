@@ -40,7 +40,8 @@ returns g c =
     ]
     in
     let number : c.new-outlet.result.h ≡ c.args.who = ap (λ (outlet : LockedOutlet _ _ _). outlet.h) c.new-outlet.ensures ∙ c.new-locked.ensures.number in
-    let begins : c.new-outlet.result.end ≡ no_calls = ap (λ (outlet : LockedOutlet _ _ _). outlet.end) c.new-outlet.ensures ∙ c.new-locked.ensures.end ∙ c.requires.unused in
+    let begins : c.new-outlet.result.end ≡ no_calls = ap (λ (outlet : LockedOutlet _ _ _). outlet.end) c.new-outlet.ensures ∙ c.new-locked.ensures.end
+    ∙ c.requires.unused in
     let ends : c.into_end-end.result ≡ run.new.outlet.end = c.into_end-end.ensures ∙ ap (λ (outlet : LockedOutlet _ _ _). outlet.end) c.into_end-back.ensures in
     record {
       start = c.new-listing.result;
@@ -48,9 +49,11 @@ returns g c =
       fault = run.result;
       new = c.new-listing.ensures.empty;
       well = c.new-listing.ensures.well;
-      calls = asked (λ (old : LockedOutlet _ _ _) call (new : LockedOutlet _ _ _). (new.h ≡ old.h) × OutletAsks begun old.h old.end call new.end) (OutletAsks begun c.args.who) (λ outlet. outlet.end) (λ outlet. outlet.h ≡ c.args.who)
+      calls = asked (λ (old : LockedOutlet _ _ _) call (new : LockedOutlet _ _ _). (new.h ≡ old.h) × OutletAsks begun old.h old.end call new.end)
+          (OutletAsks begun c.args.who) (λ outlet. outlet.end) (λ outlet. outlet.h ≡ c.args.who)
           (λ old new call here is. (is.0 ∙ here, subst (λ n. OutletAsks begun n old.end call new.end) here is.1))
-          {Holds = Serves 256 Lists c.new-listing.result run.new.handler None None (g.G.Gate.may_stop gate c.args.who) (g.G.Gate.must_stop gate c.args.who) run.result}
+          {Holds = Serves 256 Lists c.new-listing.result run.new.handler None None (g.G.Gate.may_stop gate c.args.who)
+          (g.G.Gate.must_stop gate c.args.who) run.result}
           c.new-outlet.result run.new.outlet no_calls c.into_end-end.result number begins ends run.ensures.serves;
       answers = answers;
       stopped = stopped_by run.result (error_of c.match-part.part) answers run.ensures.stopped;

@@ -16,11 +16,13 @@ returns g c =
     let may_stop = g.G.Gate.may_stop c.args.around.now.gate.now (16 + task.p) in
     let must_stop = g.G.Gate.must_stop c.args.around.now.gate.now (16 + task.p) in
     let number : c.new-inlet.result.p ≡ task.p = ap (λ (inlet : LockedInlet _ _ _). inlet.p) c.new-inlet.ensures ∙ c.new-locked.ensures.number in
-    let begins : c.new-inlet.result.end ≡ no_calls = ap (λ (inlet : LockedInlet _ _ _). inlet.end) c.new-inlet.ensures ∙ c.new-locked.ensures.end ∙ c.requires.unused in
+    let begins : c.new-inlet.result.end ≡ no_calls = ap (λ (inlet : LockedInlet _ _ _). inlet.end) c.new-inlet.ensures ∙ c.new-locked.ensures.end
+    ∙ c.requires.unused in
     let ends : c.into_end-end.result ≡ run.new.inlet.end = c.into_end-end.ensures ∙ ap (λ (inlet : LockedInlet _ _ _). inlet.end) c.into_end-back.ensures in
     let sent : HasSent begun task.p c.quarter-cut.result task.script.now may_stop must_stop c.into_end-end.result run.result.fault = record {
       produced = run.result;
-      calls = asked (λ (old : LockedInlet _ _ _) call (new : LockedInlet _ _ _). (new.p ≡ old.p) × InletAsks begun old.p old.end call new.end) (InletAsks begun task.p) (λ inlet. inlet.end) (λ inlet. inlet.p ≡ task.p)
+      calls = asked (λ (old : LockedInlet _ _ _) call (new : LockedInlet _ _ _). (new.p ≡ old.p) × InletAsks begun old.p old.end call new.end)
+          (InletAsks begun task.p) (λ inlet. inlet.end) (λ inlet. inlet.p ≡ task.p)
           (λ old new call here is. (is.0 ∙ here, subst (λ n. InletAsks begun n old.end call new.end) here is.1))
           {Holds = Sends {E = Event} c.quarter-cut.result task.script.now may_stop must_stop run.result}
           c.new-inlet.result run.new.inlet no_calls c.into_end-end.result number begins ends run.ensures.sends;

@@ -13,7 +13,8 @@ pub returns : goal.returns
 returns c =
     let ran = c.args.ran in
     let parts = c.in-Ok-Ok-Ok in
-    let settled : Settles ran.sender.knows (map (λ (e : ReceiverEnd). e.knows) (ends_of ran)) = rw c.in_ok-receivers.ensures at c.settle-settled.ensures.lists in
+    let settled : Settles ran.sender.knows (map (λ (e : ReceiverEnd). e.knows) (ends_of ran)) =
+    rw c.in_ok-receivers.ensures at c.settle-settled.ensures.lists in
     let ended = c.as_slice.ensures ∙ c.endings-endings.ensures in
     let all : All (λ (e : Ended). e.fault ≡ None) (endings_of ran) = rw ended at c.in_default.ensures.none in
     let fine : ran.produced.fault ≡ None = all 3 (record { who = 0; fault = None }) (omega arith) in
@@ -28,7 +29,8 @@ returns c =
           c.in_ok-joined-in-Ok-Ok-Ok.ensures
           ∙ ap (λ l. string_bytes parts.journal ++ l ++ c.as_str-in-Ok-Ok-Ok.result.now) c.as_str.ensures.value
           ∙ ap (λ l. string_bytes parts.journal ++ string_bytes parts.replica ++ l) c.as_str-in-Ok-Ok-Ok.ensures.value
-          ∙ joined_parts events ran _ _ _ (through events says) (rw parts.is-0 at says.journal).1 (rw parts.is-1 at says.replica).1 (rw parts.is-2 at says.business).1;
+          ∙ joined_parts events ran _ _ _ (through events says) (rw parts.is-0 at says.journal).1 (rw parts.is-1 at says.replica).1
+          (rw parts.is-2 at says.business).1;
       received = through;
       fine = sym (c.in_default.ensures.first ∙ ap first_fault ended);
       first = tt;

@@ -26,7 +26,8 @@ pub returns-clause-ran : goal.returns-clause-ran
 returns-clause-ran g c =
     let gate = c.args.gate.now in
     of_file (CameOf {A = Unit {0}} (g.G.Gate.may_stop gate) (g.G.Gate.must_stop gate) c.args.size (Ok tt))
-    (g.R.Read.remaining (inner_of c.args.reader.now)) c.as_slice.result.now c.in_ok-events.events.items c.as_slice.ensures.value c.in_ok-events.ensures.file c.in_ok-text.ensures.ran
+    (g.R.Read.remaining (inner_of c.args.reader.now)) c.as_slice.result.now c.in_ok-events.events.items c.as_slice.ensures.value
+    c.in_ok-events.ensures.file c.in_ok-text.ensures.ran
 
 pub returns-in_err-write_text-clause-ran : goal.returns-in_err-write_text-clause-ran
 returns-in_err-write_text-clause-ran g c =
@@ -38,8 +39,7 @@ returns-in_err-write_text-clause-ran g c =
     (λ r. IfSome input (λ bytes. IfOk (events_of bytes) (CameOf may must c.args.size r)))
     c.from_residual-in_err-write_text.ensures.1
     (of_file (CameOf {A = Unit {0}} may must c.args.size (Err (fault.File file.Write))) input c.as_slice.result.now c.in_ok-events.events.items
-    c.as_slice.ensures.value c.in_ok-events.ensures.file
-    c.in_ok-text.ensures.ran)
+    c.as_slice.ensures.value c.in_ok-events.ensures.file c.in_ok-text.ensures.ran)
 
 pub returns-in_err-text-clause-unwritten : goal.returns-in_err-text-clause-unwritten
 returns-in_err-text-clause-unwritten g c =

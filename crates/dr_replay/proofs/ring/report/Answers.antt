@@ -22,10 +22,11 @@ returns-in-Ok-ran g c =
     let says : Says events ran = run_says events _ _ _ _ ran is none three.journal three.replica three.business in
     record {
       text = c.finish.ensures.text events says;
-      stops = where_ok c.finish.result (run_heeds _ _ _ events _ _ _ _ ran is three.journal three.replica three.business) (c.finish.ensures.received events says);
+      stops = where_ok c.finish.result (run_heeds _ _ _ events _ _ _ _ ran is three.journal three.replica three.business)
+          (c.finish.ensures.received events says);
       first = ends_of_workers (MayStop g.G.Gate.may_stop c.args.gate.now) ran _ (run_stopped (g.G.Gate.may_stop c.args.gate.now) _ _ _ _ _ ran is)
           (run_served _ events _ _ _ _ ran is made.sender refl refl
           (omega arith) three.journal_from three.replica_from three.business_from) c.finish.ensures.unhalted c.finish.ensures.first;
-      ran = came_of events ran _ (run_over _ events _ _ _ ends.0 ends.1 ends.2 ran c.in_ok-graph.ensures.graph made c.three-journal.ensures is) (λ run. refl) c.finish.result
-          c.finish.ensures.came (c.finish.ensures.received events says) c.finish.ensures.first;
+      ran = came_of events ran _ (run_over _ events _ _ _ ends.0 ends.1 ends.2 ran c.in_ok-graph.ensures.graph made c.three-journal.ensures is)
+          (λ run. refl) c.finish.result c.finish.ensures.came (c.finish.ensures.received events says) c.finish.ensures.first;
     }

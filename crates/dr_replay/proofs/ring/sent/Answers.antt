@@ -21,7 +21,9 @@ pub returns-clause-calls : goal.returns-clause-calls
 returns-clause-calls g c =
     let cut = c.max-cut.ensures ∙ ap (λ (n : ℕ). max (n / 4) 1) c.get.ensures.value in
     let gate = c.args.gate.now in
-    subst (λ (n : ℕ). SomeCalls sender_does c.args.sender.now c.produce_with.new.inlet (Sends {E = Event} n c.args.events.now (g.G.Gate.may_stop gate 16) (g.G.Gate.must_stop gate 16) c.produce_with.result)) cut c.produce_with.ensures.sends
+    subst (λ (n : ℕ). SomeCalls sender_does c.args.sender.now c.produce_with.new.inlet
+    (Sends {E = Event} n c.args.events.now (g.G.Gate.may_stop gate 16) (g.G.Gate.must_stop gate 16) c.produce_with.result)) cut
+    c.produce_with.ensures.sends
 
 pub returns-clause-all : goal.returns-clause-all
 returns-clause-all g c = λ none. rw none at c.produce_with.ensures.all

@@ -33,7 +33,8 @@ use Rattle.dr_ring.proofs.laws.moments.Goals as goal
 leads : (k : Shape) (steps : List Step) (entries : Transcript Event) (w : World) → IsGraph k.upstreams → 0 < k.size → Runs k steps entries (new_world k) w
     → LeadsTo (ring_setup k) entries (picture_of k w)
 leads k steps entries w graph some_slot runs =
-    subst (λ (m : State Event). LeadsFrom (ring_setup k) m entries (picture_of k w)) (opens k) (lead_runs k steps entries (new_world k) w runs (kept_opening k graph some_slot))
+    subst (λ (m : State Event). LeadsFrom (ring_setup k) m entries (picture_of k w)) (opens k)
+    (lead_runs k steps entries (new_world k) w runs (kept_opening k graph some_slot))
 
 pub returns-clause-rule : goal.returns-clause-rule
 returns-clause-rule c k steps entries w graph some_slot runs = keeps_runs k steps entries (new_world k) w runs (kept_opening k graph some_slot)

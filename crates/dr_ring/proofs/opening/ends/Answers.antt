@@ -14,7 +14,8 @@ split_seat-second-requires c =
     let same = c.in_ok-ring.ensures.ok in (
       c.in_ok-table.ensures.2 ∙ ap (λ r. r.table.shared.table_id) (sym (c.deref.ensures ∙ same)),
       subst (λ r. 0 < r.table.shared.table_id.words) (sym (c.deref.ensures ∙ same))
-          (some_words c.args.plan _ _ c.in_ok-table.ensures.0 (c.as_slice.ensures.value ∙ c.in_ok-words.ensures.items_if_clones_equal (λ y same. same) ∙ ap (λ (n : ℕ). replicate n 0) c.words.ensures)),
+          (some_words c.args.plan _ _ c.in_ok-table.ensures.0 (c.as_slice.ensures.value ∙ c.in_ok-words.ensures.items_if_clones_equal (λ y same. same)
+          ∙ ap (λ (n : ℕ). replicate n 0) c.words.ensures)),
       cuts _ _ _,
     )
 
@@ -23,6 +24,7 @@ split_seat-others-requires c =
     let same = c.in_ok-ring.ensures.ok in (
       c.split_seat-second.ensures.3 ∙ c.in_ok-table.ensures.2 ∙ ap (λ r. r.table.shared.table_id) (sym (c.deref-2.ensures ∙ same)),
       subst (λ r. 0 < r.table.shared.table_id.words) (sym (c.deref-2.ensures ∙ same))
-          (some_words c.args.plan _ _ c.in_ok-table.ensures.0 (c.as_slice.ensures.value ∙ c.in_ok-words.ensures.items_if_clones_equal (λ y same. same) ∙ ap (λ (n : ℕ). replicate n 0) c.words.ensures)),
+          (some_words c.args.plan _ _ c.in_ok-table.ensures.0 (c.as_slice.ensures.value ∙ c.in_ok-words.ensures.items_if_clones_equal (λ y same. same)
+          ∙ ap (λ (n : ℕ). replicate n 0) c.words.ensures)),
       cuts _ _ _,
     )

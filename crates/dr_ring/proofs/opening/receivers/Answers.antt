@@ -19,7 +19,8 @@ pub invariant_of-station : goal.invariant_of-station
 invariant_of-station c =
     let t = c.requires.table in let count = c.handlers-handlers.ensures.count ∙ ap (λ r. handlers_of r.plan) c.deref.ensures in
     let test = c.loop-number-test.true in
-    subst (λ r. ReceiverSits r.table.shared.table_id c.split_seat-next.new.seat.table_id r.plan (end_of c.split_seat-next.new.seat.me) c.loop-number.number 0) (sym c.in_ok-own.ensures)
+    subst (λ r. ReceiverSits r.table.shared.table_id c.split_seat-next.new.seat.table_id r.plan (end_of c.split_seat-next.new.seat.me) c.loop-number.number 0)
+    (sym c.in_ok-own.ensures)
     (sits_fresh _ _ _ _ c.loop-number.number (c.split_seat-next.ensures.0 ∙ c.loop-number.invariant.0 ∙ t.0, t.1) c.requires.made (omega arith)
     (ap (λ (m : Sitting). end_of m) (cut_own _ c.loop-number.number _ _ _ (omega arith) c.loop-number.invariant.1 c.split_seat-next.ensures.2)))
 

@@ -10,4 +10,6 @@ use Rattle.dr_ring.proofs.opening.receivers.Given as goal
 abbrev pub invariant-loop-number : goal.invariant-loop-number
 invariant-loop-number l = (l.rest.table_id ≡ l.fn.rest.table_id)
     × (l.rest.me ≡ fresh_seat (known_receivers (arc_value l.ring).plan l.number (handlers_of (arc_value l.ring).plan - l.number)))
-    × (l.receivers.items ++ map (at_ring l.fn.rest.table_id) (fresh_receivers (arc_value l.ring).plan l.number (handlers_of (arc_value l.ring).plan - l.number)) ≡ map (at_ring l.fn.rest.table_id) (fresh_receivers (arc_value l.ring).plan 0 (handlers_of (arc_value l.ring).plan)))
+    × (l.receivers.items
+    ++ map (at_ring l.fn.rest.table_id) (fresh_receivers (arc_value l.ring).plan l.number (handlers_of (arc_value l.ring).plan - l.number))
+    ≡ map (at_ring l.fn.rest.table_id) (fresh_receivers (arc_value l.ring).plan 0 (handlers_of (arc_value l.ring).plan)))

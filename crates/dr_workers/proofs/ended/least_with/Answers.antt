@@ -9,7 +9,8 @@ pub loop-worker-preserved : goal.loop-worker-preserved
 loop-worker-preserved c =
     c.lesser_of-first.ensures
     ∙ ap (λ o. least (option_to_list o ++ option_to_list c.fault_of.result)) c.loop-worker.invariant
-    ∙ ap (λ o. least (option_to_list (least (faults_with c.args.number (take c.loop-worker.worker-index c.args.ended.now))) ++ option_to_list o)) c.fault_of.ensures
+    ∙ ap (λ o. least (option_to_list (least (faults_with c.args.number (take c.loop-worker.worker-index c.args.ended.now))) ++ option_to_list o))
+    c.fault_of.ensures
     ∙ sym (least_with_next c.args.number c.loop-worker.worker-index c.args.ended.now _ c.loop-worker-test.true)
 
 pub returns : goal.returns

@@ -29,7 +29,9 @@ where_ok shown lo hi (Err trouble) h = tt
 
 pub returns-clause-sent : goal.returns-clause-sent
 returns-clause-sent g c =
-    sent c.publish.result c.args.events.now c.in_ok-lo.field-0 c.in_ok-lo.ensures.stretch.1 _ _ _ _ c.in_ok-lo.ensures.claimed (writes_as c.in_ok-lo.field-0.lo c.args.events.now _ _ c.in_ok-write_all.ensures.written) (where_ok _ _ _ c.publish.result c.publish.ensures.answer) c.publish.ensures.published
+    sent c.publish.result c.args.events.now c.in_ok-lo.field-0 c.in_ok-lo.ensures.stretch.1 _ _ _ _ c.in_ok-lo.ensures.claimed
+    (writes_as c.in_ok-lo.field-0.lo c.args.events.now _ _ c.in_ok-write_all.ensures.written)
+    (where_ok _ _ _ c.publish.result c.publish.ensures.answer) c.publish.ensures.published
 
 -- where it fails
 unsent : {E : Type 0} (r : Result (Unit {0}) Trouble) (events : List E) (c : Claimed) → (o p q s : Option (Sent E)) → WhereShown (Opens (length events) c) o p
@@ -46,8 +48,8 @@ returns-clause-fault g c =
 pub returns-clause-open : goal.returns-clause-open
 returns-clause-open g c =
     let claim = c.in_ok-lo in
-    leaves_nothing_open c.args.events.now claim.field-0 claim.ensures.stretch.0 claim.ensures.stretch.1 c.publish.result c.publish.ensures.waits _ _ _ _ claim.ensures.claimed
-    (writes_as claim.field-0.lo c.args.events.now _ _ c.in_ok-write_all.ensures.written) c.publish.ensures.answer
+    leaves_nothing_open c.args.events.now claim.field-0 claim.ensures.stretch.0 claim.ensures.stretch.1 c.publish.result c.publish.ensures.waits
+    _ _ _ _ claim.ensures.claimed (writes_as claim.field-0.lo c.args.events.now _ _ c.in_ok-write_all.ensures.written) c.publish.ensures.answer
     (publishing claim.field-0 c.publish.result _ _ c.publish.ensures.published c.publish.ensures.fault)
 
 -- what was called
@@ -69,7 +71,8 @@ returns-in_err-lo-clause-sends g c =
     let p = err_from_is_err_and c.from_residual.result c.from_residual.ensures.1 in
     let same : Err why ≡ c.from_residual.result = (let e = p.1 in let f = p.2 in cc) in
     subst (λ r. SomeCalls does a b (SendsPart events may must c.args.passages.now c.args.passages.now r)) same
-    (part_unclaimed does events a b may must _ why (λ full. c.claim.ensures.waits (failed ∙ ap (λ t. Err t) full)) (subst (λ r. SomeCalls does a b (IsClaimed (length events) r)) c.in_err-lo.was c.claim.ensures.called))
+    (part_unclaimed does events a b may must _ why (λ full. c.claim.ensures.waits (failed ∙ ap (λ t. Err t) full))
+    (subst (λ r. SomeCalls does a b (IsClaimed (length events) r)) failed c.claim.ensures.called))
 
 pub returns-in_err-write_all-clause-sends : goal.returns-in_err-write_all-clause-sends
 returns-in_err-write_all-clause-sends g c =
@@ -84,12 +87,13 @@ returns-in_err-write_all-clause-sends g c =
     let failed : c.write_all.result ≡ Err why = c.in_err-write_all.was in
     let same : Err why ≡ c.from_residual-in_err-write_all.result = (let e = p.1 in let f = p.2 in cc) in
     let part : Part _ = record { stretch = claim.field-0; events = events } in
-    part_claimed does events claim.field-0 a b d (g.G.Gate.may_stop c.args.gate.now) (g.G.Gate.must_stop c.args.gate.now) _ _ c.from_residual-in_err-write_all.result
-    (some_claimed events claim.field-0 claim.ensures.stretch.0 claim.ensures.stretch.1)
+    let writes = with_patience g.I.Inlet.does g.P.Patience.waits g.P.Patience.finds c.claim.new.patience c.claim.new.room c.claim.new.inlet
+    c.write_all.new.inlet (WriteCalls claim.field-0.lo events c.write_all.result) c.write_all.ensures.called c.write_all.ensures.called.holds.tries in
+    part_claimed does events claim.field-0 a b d (g.G.Gate.may_stop c.args.gate.now) (g.G.Gate.must_stop c.args.gate.now) _ _
+    c.from_residual-in_err-write_all.result (some_claimed events claim.field-0 claim.ensures.stretch.0 claim.ensures.stretch.1)
     (subst (λ r. SomeCalls does a b (IsClaimed (length events) r)) claim.was c.claim.ensures.called)
     (subst (λ r. SomeCalls does b d (AfterClaim part r)) same
-    (written_in_part does part b d why (subst (λ r. SomeCalls does b d (WriteCalls claim.field-0.lo events r)) failed
-    (with_patience g.I.Inlet.does g.P.Patience.waits g.P.Patience.finds c.claim.new.patience c.claim.new.room c.claim.new.inlet c.write_all.new.inlet (WriteCalls claim.field-0.lo events c.write_all.result) c.write_all.ensures.called c.write_all.ensures.called.holds.tries)))) c.pass.ensures
+    (written_in_part does part b d why (subst (λ r. SomeCalls does b d (WriteCalls claim.field-0.lo events r)) failed writes))) c.pass.ensures
 
 pub returns-clause-sends : goal.returns-clause-sends
 returns-clause-sends g c =
@@ -101,12 +105,17 @@ returns-clause-sends g c =
     let events = c.args.events.now in
     let claim = c.in_ok-lo in
     let part : Part _ = record { stretch = claim.field-0; events = events } in
+    let writes = with_patience g.I.Inlet.does g.P.Patience.waits g.P.Patience.finds c.claim.new.patience c.claim.new.room c.claim.new.inlet
+    c.write_all.new.inlet (WriteCalls claim.field-0.lo events c.write_all.result) c.write_all.ensures.called c.write_all.ensures.called.holds.tries in
+    let lo = claim.field-0.lo in
+    let hi = claim.field-0.hi in
+    let none = picked tried_of (PublishesStretch lo hi (Err Memory)) (PublishesStretch lo hi c.publish.result) c.publish.ensures.called.calls
+    c.publish.ensures.called.holds refl in
     part_claimed does events claim.field-0 a b e (g.G.Gate.may_stop c.args.gate.now) (g.G.Gate.must_stop c.args.gate.now) _ _ c.publish.result
     (some_claimed events claim.field-0 claim.ensures.stretch.0 claim.ensures.stretch.1)
     (subst (λ r. SomeCalls does a b (IsClaimed (length events) r)) claim.was c.claim.ensures.called)
     (written_and_published does part b d e c.publish.result c.publish.ensures.waits
-    (subst (λ r. SomeCalls does b d (WriteCalls claim.field-0.lo events r)) c.in_ok-write_all.was
-    (with_patience g.I.Inlet.does g.P.Patience.waits g.P.Patience.finds c.claim.new.patience c.claim.new.room c.claim.new.inlet c.write_all.new.inlet (WriteCalls claim.field-0.lo events c.write_all.result) c.write_all.ensures.called c.write_all.ensures.called.holds.tries))
-    (with_patience g.I.Inlet.does g.P.Patience.waits g.P.Patience.finds c.claim.new.patience c.claim.new.room c.write_all.new.inlet c.publish.new.inlet _ c.publish.ensures.called
-    (picked tried_of (PublishesStretch claim.field-0.lo claim.field-0.hi (Err Memory)) (PublishesStretch claim.field-0.lo claim.field-0.hi c.publish.result) c.publish.ensures.called.calls c.publish.ensures.called.holds refl)))
+    (subst (λ r. SomeCalls does b d (WriteCalls claim.field-0.lo events r)) c.in_ok-write_all.was writes)
+    (with_patience g.I.Inlet.does g.P.Patience.waits g.P.Patience.finds c.claim.new.patience c.claim.new.room c.write_all.new.inlet c.publish.new.inlet _
+    c.publish.ensures.called none))
     c.pass.ensures

@@ -10,4 +10,5 @@ abbrev pub invariant-loop : goal.invariant-loop
 invariant-loop g l =
     (goal.iterator-loop g).can_next l.iterator' × (goal.iterator-loop g).is_finite l.iterator'
     × (g.I.Inlet.kept l.inlet ≡ g.I.Inlet.kept l.fn.inlet) × (g.I.Inlet.sent l.inlet ≡ g.I.Inlet.sent l.fn.inlet)
-    × ((times : ℕ) × CallsLead (Provides g.I.Inlet.does g.P.Patience.waits g.P.Patience.finds) (with_room l.fn.inlet l.fn.patience l.fn.room) (replicate times (TriesClaim l.n (Err (Refused NoRoom)))) (with_room l.inlet l.patience l.room))
+    × ((times : ℕ) × CallsLead (Provides g.I.Inlet.does g.P.Patience.waits g.P.Patience.finds) (with_room l.fn.inlet l.fn.patience l.fn.room)
+    (replicate times (TriesClaim l.n (Err (Refused NoRoom)))) (with_room l.inlet l.patience l.room))

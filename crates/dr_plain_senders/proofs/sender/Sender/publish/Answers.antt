@@ -18,12 +18,12 @@ use Rattle.dr_plain_senders.proofs.sender.Sender.publish.Given.{Over}
 -- what the sender found of the last sequence
 found : (g : Over) (c : After-reaches g) → Reached c.self.inside.station c.args.hi c.reaches.new.self c.reaches.result
 found g c =
-    let limit = c.limit.ensures.limit ∙ ap (λ (k : Shape). k.limit) c.plan.ensures.plan in let below = c.if-hi-limit.false in
+    let limit = c.limit.ensures.limit ∙ ap (λ (k : Shape g.row.T.Denot). k.limit) c.plan.ensures.plan in let below = c.if-hi-limit.false in
     reached c.self.inside.station c.reaches.new.self c.self.inside.owned _ c.args.hi c.self.inside.tokens.items c.has-is_own.result _ c.self.invariant c.has-is_own.ensures
     (omega arith) c.reaches.ensures
 
 some_cell : (g : Over) (c : After-reaches g) → 0 < c.self.inside.station.plan.size
-some_cell g c = subst (λ (k : Shape). 0 < k.size) c.plan.ensures.plan (size_positive _ c.plan.ensures.made.size)
+some_cell g c = subst (λ (k : Shape g.row.T.Denot). 0 < k.size) c.plan.ensures.plan (size_positive _ c.plan.ensures.made.size)
 
 still_fits : {T : Type 0} {e a : SenderStand T} {o : Owned} {end hi : ℕ} {tokens : List (Token T)} {is : Bool} → Reached e hi a is → SenderFits e o end tokens → SenderFits a o end tokens
 still_fits {T} R F = fits_same _ _ _ _ _ R.stays.1 (ap (λ (r : SenderRecord T). r.own) R.knows) R.hand F
@@ -33,7 +33,7 @@ returns-then-lo-hi-clause-call g c = publish_bad c.args.self.now c.args.lo c.arg
 
 pub returns-then-hi-limit-clause-call : goal.returns-then-hi-limit-clause-call
 returns-then-hi-limit-clause-call g c =
-    let limit = c.limit.ensures.limit ∙ ap (λ (k : Shape). k.limit) c.plan.ensures.plan in let above = c.if-hi-limit.true in
+    let limit = c.limit.ensures.limit ∙ ap (λ (k : Shape g.row.T.Denot). k.limit) c.plan.ensures.plan in let above = c.if-hi-limit.true in
     let me = sender_end c.self.inside.station c.self.inside.owned c.self.inside.tokens.items in
     subst (λ (e : SenderEnd g.row.T.Denot). PublishCall e c.args.lo c.args.hi e (Err NotClaimed)) c.self.view_is
     (publish_never me c.args.lo c.args.hi c.if-lo-hi.false (omega arith))
@@ -66,14 +66,14 @@ returns-then-stop-hi-clause-call g c =
 
 pub invariant_of-self-then-not-has : goal.invariant_of-self-then-not-has
 invariant_of-self-then-not-has g c =
-    let F = still_fits (found g (goal.at.invariant_of-self-then-not-has g c).After-reaches) c.self.invariant in let looked = c.refusal.ensures.1 in
+    let F = still_fits (found g (goal.at.invariant_of-self-then-not-has g c).After-reaches) c.self.invariant in let looked = c.refusal.ensures.loaded in
     fits_same c.reaches.new.self c.refusal.new.self _ _ _ looked.0.1 (ap (λ (r : SenderRecord g.row.T.Denot). r.own) looked.1) looked.2 F
 
 pub returns-then-not-has-clause-call : goal.returns-then-not-has-clause-call
 returns-then-not-has-clause-call g c =
     let A = (goal.at.returns-then-not-has-clause-call g c).After-reaches in let o = c.self.inside.owned in let tokens = c.self.inside.tokens.items in
     let R = subst (Reached c.self.inside.station c.args.hi c.reaches.new.self) c.if-not-reaches.false (found g A) in
-    let limit = c.limit.ensures.limit ∙ ap (λ (k : Shape). k.limit) c.plan.ensures.plan in let below = c.if-hi-limit.false in
+    let limit = c.limit.ensures.limit ∙ ap (λ (k : Shape g.row.T.Denot). k.limit) c.plan.ensures.plan in let below = c.if-hi-limit.false in
     subst (λ (x : SenderEnd g.row.T.Denot). PublishCall x c.args.lo c.args.hi (sender_end c.refusal.new.self o tokens) (Err c.refusal.result)) c.self.view_is
     (publish_foreign c.self.inside.station o _ tokens (some_cell g A) c.self.invariant c.reaches.new.self c.args.lo c.args.hi c.first_unready-stop.result R c.first_unready-stop.ensures c.if-stop-hi.false
     c.refusal.new.self _ (omega arith) (sym c.if-not-has.ensures) c.refusal.ensures)

@@ -9,19 +9,20 @@ use Rattle.dr_plain_senders.specs.declared.record.SenderRecord.{SenderRecord}
 use Rattle.dr_plain_senders.specs.Calls.Ends.{SenderStand, SenderEnd}
 use Rattle.dr_plain_senders.specs.Calls.Sending.{SenderClaimCall}
 use Rattle.dr_plain_senders.specs.Inside.Fits.{writes_of}
-use Rattle.dr_plain_senders.specs.Inside.Rows.{blank_rows, AreCollected}
+use Rattle.dr_plain_senders.specs.Inside.Rows.{blank_rows, AreCollected, HaveThoseOf}
 use Rattle.dr_plain_senders.specs.Inside.Seats.{LayIn, taken_by_claim}
 use Rattle.dr_plain_senders.specs.Inside.Views.{sender_end}
 use Rattle.dr_plain_senders.proofs.Fitting.{fits_same}
+use Rattle.dr_plain_senders.proofs.Collecting.{laid_back}
 use Rattle.dr_plain_senders.proofs.Granting.{hand_after, fits_claim, writes_stay, gains_cells, bare_call}
 use Rattle.dr_plain_senders.proofs.sender.Sender.try_claim.Goals as goal
 
 pub collect-requires-clause-order : goal.collect-requires-clause-order
 collect-requires-clause-order g c =
-    let few = c.in-Ok.ensures.fits.1.1 in let size = ap (λ (k : Shape). k.size) c.in-Ok.ensures.call.stays.1 in (omega arith, omega arith)
+    let few = c.in-Ok.ensures.fits.1.1 in let size = ap (λ (k : Shape g.row.T.Denot). k.size) c.in-Ok.ensures.call.stays.1 in (omega arith, omega arith)
 
 pub collect-requires-clause-room : goal.collect-requires-clause-room
-collect-requires-clause-room g c = c.self.invariant.count ∙ ap (λ (k : Shape). k.size) (sym c.in-Ok.ensures.call.stays.1)
+collect-requires-clause-room g c = c.self.invariant.count ∙ ap (λ (k : Shape g.row.T.Denot). k.size) (sym c.in-Ok.ensures.call.stays.1)
 
 pub collect-requires-clause-hand : goal.collect-requires-clause-hand
 collect-requires-clause-hand g c =
@@ -29,8 +30,8 @@ collect-requires-clause-hand g c =
     let back : n ≡ lo + n - lo = omega arith in (
       H.0,
       e.hand,
-      subst (λ (k : Shape). LayIn k lo (lo + n - lo) H.0) plan (subst (λ (m : ℕ). LayIn e.plan lo m H.0) back H.1),
-      H.2 ∙ ap (λ (k : Shape). taken_by_claim k lo H.0 ++ e.hand) plan,
+      subst (λ (k : Shape g.row.T.Denot). LayIn k lo (lo + n - lo) H.0) plan (subst (λ (m : ℕ). LayIn e.plan lo m H.0) back H.1),
+      H.2 ∙ ap (λ (k : Shape g.row.T.Denot). taken_by_claim k lo H.0 ++ e.hand) plan,
     )
 
 pub invariant_of-self : goal.invariant_of-self
@@ -38,10 +39,10 @@ invariant_of-self g c =
     let F = c.self.invariant in let e = c.self.inside.station in let e1 = c.try_claim.new.self in let e2 = c.collect.new.self in let o : Owned = c.self.inside.owned in
     let lo = c.in-Ok.claimed.lo in let n = c.args.n in let E = c.in-Ok.ensures in let C = E.call in let H = E.hand in let step = c.collect.ensures.hand in
     let back : lo + n - lo ≡ n = omega arith in let m = lo + n - lo in
-    fits_claim e o _ lo n _ _ F (subst (λ (k : Shape). AreCollected k lo (lo + n) c.self.inside.tokens.items c.collect.new.tokens.items) C.stays.1 c.collect.ensures.collected) E.fits.1.0 E.fits.1.1 E.own e1.knows
+    fits_claim e o _ lo n _ _ F (subst (λ (k : Shape g.row.T.Denot). AreCollected k lo (lo + n) c.self.inside.tokens.items c.collect.new.tokens.items) C.stays.1 c.collect.ensures.collected) E.fits.1.0 E.fits.1.1 E.own e1.knows
     (ap (λ (r : SenderRecord g.row.T.Denot). r.own) C.knows) e2 _ _ (ap (λ (x : SenderStand g.row.T.Denot). x.plan) step ∙ C.stays.1)
     (ap (λ (x : SenderStand g.row.T.Denot). x.knows) step)
-    (ap (λ (x : SenderStand g.row.T.Denot). x.hand) step ∙ ap (λ (k : Shape). drop (lanes_of k * m) e1.hand ++ blank_rows k lo m) C.stays.1
+    (ap (λ (x : SenderStand g.row.T.Denot). x.hand) step ∙ ap (λ (k : Shape g.row.T.Denot). drop (lanes_of k * m) e1.hand ++ blank_rows k lo m) C.stays.1
     ∙ hand_after e.plan lo m n H.0 e.hand e1.hand H.1 H.2 back)
     E.fits.0 (c.claim.ensures ∙ ap (λ (z : ℕ). record o { claimed = stamped (entry_of (length o.claimed)) o.claimed lo z }) back) refl
 
@@ -50,7 +51,10 @@ returns-in-Ok g c =
     let F = c.self.invariant in let e = c.self.inside.station in let e1 = c.try_claim.new.self in let e2 = c.collect.new.self in let o : Owned = c.self.inside.owned in
     let lo = c.in-Ok.claimed.lo in let n = c.args.n in let E = c.in-Ok.ensures in let C = E.call in let step = c.collect.ensures.hand in
     let back : lo + n - lo ≡ n = omega arith in
-    let collected = subst (λ (k : Shape). AreCollected k lo (lo + n) c.self.inside.tokens.items c.collect.new.tokens.items) C.stays.1 c.collect.ensures.collected in
+    let collected = subst (λ (k : Shape g.row.T.Denot). AreCollected k lo (lo + n) c.self.inside.tokens.items c.collect.new.tokens.items) C.stays.1 c.collect.ensures.collected in
+    let H = E.hand in
+    let events = subst (λ (k : Shape g.row.T.Denot). HaveThoseOf k e1.hand lo (lo + n) c.collect.new.tokens.items) C.stays.1 c.collect.ensures.events in
+    let laid = laid_back e.plan lo (lo + n) H.0 e.hand e1.hand c.collect.new.tokens.items (H.1.count ∙ sym back) H.2 events in
     let grown = ap (λ (r : SenderRecord g.row.T.Denot). r.own) C.knows in
     let marks = c.claim.ensures ∙ ap (λ (z : ℕ). record o { claimed = stamped (entry_of (length o.claimed)) o.claimed lo z }) back in
     subst (λ (x : SenderEnd g.row.T.Denot). SenderClaimCall x n (sender_end e2 c.claim.new.self c.collect.new.tokens.items) (Ok c.in-Ok.claimed)) c.self.view_is (
@@ -58,7 +62,7 @@ returns-in-Ok g c =
       (
         writes_stay e o _ lo n _ _ F collected E.fits.1.0 E.fits.1.1 E.own e1.knows grown _ _ _ (ap (λ (x : SenderStand g.row.T.Denot). x.plan) step ∙ C.stays.1)
             marks (ap (λ (x : SenderStand g.row.T.Denot). x.knows.own) step ∙ grown),
-        gains_cells e o _ lo n _ _ F collected E.fits.1.0 E.fits.1.1 E.own e1.knows grown,
+        gains_cells e o _ lo n _ _ F collected E.fits.1.0 E.fits.1.1 E.own e1.knows grown H.0 H.1 H.3 laid,
       ),
     )
 

@@ -1,7 +1,6 @@
 use Rattle.std.proofs.Common.{List, length, rules, arith, refl, ap, sym, subst, ◌∙◌}
 use Rattle.std.proofs.lemmas.List.{take_at, drop_at}
 use Rattle.dr_seq.specs.declared.event.Event.{Event}
-use Rattle.dr_meaning.specs.declared.command.Polled.{Polled}
 use Rattle.dr_ring.specs.declared.record.ReceiverRecord.{ReceiverRecord}
 use Rattle.dr_runs.specs.Words.{closed_word}
 use Rattle.dr_ring.specs.Meaning.Records.{receiver_looked}
@@ -16,8 +15,8 @@ use Rattle.dr_ring.proofs.receiver.Receiver.poll_into.Goals as goal
 pub returns-then-available-first-clause-call : goal.returns-then-available-first-clause-call
 returns-then-available-first-clause-call c =
     let same = ap (λ (e : ReceiverEnd). e.knows) c.self.view_is in let closed = c.look_at_closed-closed.result in let cursor = c.look_at_cursor-cursor.result in
-    let seen = seen_round c.args.self.now.knows _ _ _ closed cursor _ (c.look_at_closed-closed.ensures.step.1 ∙ ap (λ (q : ReceiverRecord). receiver_looked q closed_word closed) same)
-    c.look_at_cursor-cursor.ensures.step.1 c.barrier-available.ensures.answer in
+    let first = c.look_at_closed-closed.ensures.step.1 ∙ ap (λ (q : ReceiverRecord). receiver_looked q closed_word closed) same in
+    let seen = seen_round c.args.self.now.knows _ _ _ closed cursor _ first c.look_at_cursor-cursor.ensures.step.1 c.barrier-available.ensures.answer in
     let next = c.self.invariant.taken ∙ ap (λ (q : ReceiverRecord). length q.received) same in (
       search rules,
       (
@@ -25,12 +24,15 @@ returns-then-available-first-clause-call c =
         (
           saw closed cursor seen.counts,
           seen.each,
-          subst (λ (p : Polled). Answers c.args.self.now.knows c.args.out.now c.barrier-available.new.self.knows c.args.out.now (saw closed cursor seen.counts) p) (sym c.nothing_offered.ensures)
-              (poll_nothing _ _ c.args.out.now closed cursor c.barrier-available.result c.self.inside.taken next seen c.look_at_closed-closed.ensures.finds.1 (search rules) c.if-available-first.true),
+          subst (Answers c.args.self.now.knows c.args.out.now c.barrier-available.new.self.knows c.args.out.now (saw closed cursor seen.counts))
+              (sym c.nothing_offered.ensures)
+              (poll_nothing _ _ c.args.out.now closed cursor c.barrier-available.result c.self.inside.taken next seen
+              c.look_at_closed-closed.ensures.finds.1 (search rules) c.if-available-first.true),
         ),
       ),
       search rules,
-      begins_on _ _ _ (subst (λ (e : ReceiverEnd). IsBeginning e.past c.look_at_closed-closed.new.self.past) c.self.view_is c.look_at_closed-closed.ensures.step.2)
+      begins_on _ _ _
+          (subst (λ (e : ReceiverEnd). IsBeginning e.past c.look_at_closed-closed.new.self.past) c.self.view_is c.look_at_closed-closed.ensures.step.2)
           (begins_on _ _ _ c.look_at_cursor-cursor.ensures.step.2 c.barrier-available.ensures.only.2),
     )
 
@@ -45,8 +47,8 @@ take_all-requires-clause-below c =
 pub returns-clause-call : goal.returns-clause-call
 returns-clause-call c =
     let same = ap (λ (e : ReceiverEnd). e.knows) c.self.view_is in let closed = c.look_at_closed-closed.result in let cursor = c.look_at_cursor-cursor.result in
-    let seen = seen_round c.args.self.now.knows _ _ _ closed cursor _ (c.look_at_closed-closed.ensures.step.1 ∙ ap (λ (q : ReceiverRecord). receiver_looked q closed_word closed) same)
-    c.look_at_cursor-cursor.ensures.step.1 c.barrier-available.ensures.answer in
+    let first = c.look_at_closed-closed.ensures.step.1 ∙ ap (λ (q : ReceiverRecord). receiver_looked q closed_word closed) same in
+    let seen = seen_round c.args.self.now.knows _ _ _ closed cursor _ first c.look_at_cursor-cursor.ensures.step.1 c.barrier-available.ensures.answer in
     let next = c.self.invariant.taken ∙ ap (λ (q : ReceiverRecord). length q.received) same in
     let many = c.take_all.ensures.length ∙ c.split_at_mut-front.ensures.front_len in (
       search rules,
@@ -56,12 +58,14 @@ returns-clause-call c =
           saw closed cursor seen.counts,
           seen.each,
           poll_batch _ _ _ c.args.out.now _ closed cursor c.barrier-available.result c.self.inside.taken c.min-count.result _ next seen (search rules)
-              (c.take_all.ensures.only.1 ∙ ap (λ (xs : List Event). received_all c.barrier-available.new.self.knows xs) (sym (take_at c.take_all.new.out c.split_at_mut-front.result.1.now c.min-count.result many)))
+              (c.take_all.ensures.only.1 ∙ ap (λ (xs : List Event). received_all c.barrier-available.new.self.knows xs)
+              (sym (take_at c.take_all.new.out c.split_at_mut-front.result.1.now c.min-count.result many)))
               (drop_at c.take_all.new.out c.split_at_mut-front.result.1.now c.min-count.result many ∙ c.split_at_mut-front.ensures.back)
               (let more = c.if-available-first.false in omega arith) c.min-count.ensures (of_count _ _ _ refl),
         ),
       ),
       search rules,
-      begins_on _ _ _ (subst (λ (e : ReceiverEnd). IsBeginning e.past c.look_at_closed-closed.new.self.past) c.self.view_is c.look_at_closed-closed.ensures.step.2)
+      begins_on _ _ _
+          (subst (λ (e : ReceiverEnd). IsBeginning e.past c.look_at_closed-closed.new.self.past) c.self.view_is c.look_at_closed-closed.ensures.step.2)
           (begins_on _ _ _ c.look_at_cursor-cursor.ensures.step.2 (begins_on _ _ _ c.barrier-available.ensures.only.2 c.take_all.ensures.only.2)),
     )

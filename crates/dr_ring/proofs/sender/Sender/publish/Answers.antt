@@ -13,16 +13,19 @@ returns-then-not-has_all c =
 pub returns-then-lo-self-2 : goal.returns-then-lo-self-2
 returns-then-lo-self-2 c =
     let same = ap (λ (e : SenderEnd). e.knows) c.self.view_is in
-    (refl, publish_late same c.self.invariant c.if-lo-hi.false c.if-hi-self.false c.if-lo-self.false c.if-not-has_all.ensures c.if-lo-self-2.true, refl, begins_same _)
+    let late = publish_late same c.self.invariant c.if-lo-hi.false c.if-hi-self.false c.if-lo-self.false c.if-not-has_all.ensures c.if-lo-self-2.true in
+    (refl, late, refl, begins_same _)
 
 pub publish-requires-clause-written : goal.publish-requires-clause-written
-publish-requires-clause-written c = publish_ready refl c.self.invariant c.if-lo-hi.false c.if-hi-self.false c.if-lo-self.false c.if-not-has_all.ensures c.if-lo-self-2.false
+publish-requires-clause-written c =
+    publish_ready refl c.self.invariant c.if-lo-hi.false c.if-hi-self.false c.if-lo-self.false c.if-not-has_all.ensures c.if-lo-self-2.false
 
 pub returns : goal.returns
 returns c =
     let same = ap (λ (e : SenderEnd). e.knows) c.self.view_is in (
       search rules,
-      publish_done same c.self.invariant c.if-lo-hi.false c.if-hi-self.false c.if-lo-self.false _ c.if-not-has_all.ensures c.if-lo-self-2.false c.publish.ensures.1,
+      publish_done same c.self.invariant c.if-lo-hi.false c.if-hi-self.false c.if-lo-self.false _ c.if-not-has_all.ensures
+          c.if-lo-self-2.false c.publish.ensures.1,
       search rules,
       search (rules, begins_same, begins_on),
     )
@@ -33,4 +36,5 @@ invariant_of-self c =
     let r = c.self.inside.station.knows in
     let ready = publish_ready refl F c.if-lo-hi.false c.if-hi-self.false c.if-lo-self.false c.if-not-has_all.ensures c.if-lo-self-2.false in
     let step = c.publish.ensures.1 in
-    fits_publish r (c.args.hi + 1) (let a = c.if-lo-hi.false in let b = c.if-lo-self.false in omega arith) (let a = c.if-hi-self.false in omega arith) ready _ _ _ F step (raises _ _ _ c.max-self-inside.ensures)
+    fits_publish r (c.args.hi + 1) (let a = c.if-lo-hi.false in let b = c.if-lo-self.false in omega arith)
+    (let a = c.if-hi-self.false in omega arith) ready _ _ _ F step (raises _ _ _ c.max-self-inside.ensures)

@@ -61,7 +61,8 @@ invariant_of-self-then-not-claims c =
 pub returns-then-not-claims : goal.returns-then-not-claims
 returns-then-not-claims c = (
   search rules,
-  claim_halted_late (tried (goal.at.returns-then-not-claims c).After-saturating_sub-need c.in-Some.ensures.answer.1) _ _ c.in-Some.ensures.answer.2 c.if-not-claims.ensures.1,
+  claim_halted_late (tried (goal.at.returns-then-not-claims c).After-saturating_sub-need c.in-Some.ensures.answer.1) _ _
+      c.in-Some.ensures.answer.2 c.if-not-claims.ensures.1,
   search rules,
   begins_on _ _ _ (subst (λ (e : SenderEnd). IsBeginning e.past c.finds_halt.new.self.past) c.self.view_is c.finds_halt.ensures.2)
       (begins_on _ _ _ c.in-Some.ensures.only.2 c.if-not-claims.ensures.2),
@@ -80,7 +81,8 @@ invariant_of-self-2 c =
 pub returns : goal.returns
 returns c = (
   search rules,
-  claim_accepted (tried (goal.at.returns c).After-saturating_sub-need c.in-Some.ensures.answer.1) _ _ _ c.in-Some.ensures.answer.2 c.if-not-claims.ensures.1 refl,
+  claim_accepted (tried (goal.at.returns c).After-saturating_sub-need c.in-Some.ensures.answer.1) _ _ _
+      c.in-Some.ensures.answer.2 c.if-not-claims.ensures.1 refl,
   search rules,
   begins_on _ _ _ (subst (λ (e : SenderEnd). IsBeginning e.past c.finds_halt.new.self.past) c.self.view_is c.finds_halt.ensures.2)
       (begins_on _ _ _ c.in-Some.ensures.only.2 c.if-not-claims.ensures.2),

@@ -11,7 +11,8 @@ loop-k-preserved c = wrote_more _ _ _ c.args.lo c.loop-k.k _ c.args.events.now _
 pub returns-in-Err-clause-own : goal.returns-in-Err-clause-own
 returns-in-Err-clause-own c =
     let call = c.in-Err.ensures in
-    wrote_refused _ c.loop-k.self _ c.args.lo c.loop-k.k c.args.events.now c.in-Err.refusal c.loop-k-test.true c.loop-k.invariant call.0 call.1.0 call.1.1 call.1.2 call.2 call.3
+    wrote_refused _ c.loop-k.self _ c.args.lo c.loop-k.k c.args.events.now c.in-Err.refusal c.loop-k-test.true c.loop-k.invariant
+    call.0 call.1.0 call.1.1 call.1.2 call.2 call.3
 
 pub returns-in-Err-clause-answer : goal.returns-in-Err-clause-answer
 returns-in-Err-clause-answer c = (returns-in-Err-clause-own c).answers

@@ -20,5 +20,5 @@ load-requires g c =
       search rules,
       search rules,
       receiver_looks_at_count _ _ _ _ _ _ c.args.room _ (ap (λ r. r.table.shared.key) c.deref.ensures
-          ∙ c.self.invariant.keyed.key ∙ plan) c.requires.named.1 c.count_word.ensures c.self.invariant.end (subst (λ (p : Shape). Contains (upstreams_of p.upstreams (receiver_of c.self.inside.seat.me.0.ends).number) c.args.upstream) plan has),
+          ∙ c.self.invariant.keyed.key ∙ plan) c.requires.named.1 c.count_word.ensures c.self.invariant.end (subst (λ (p : Shape g.row.T.Denot). Contains (upstreams_of p.upstreams (receiver_of c.self.inside.seat.me.0.ends).number) c.args.upstream) plan has),
     )

@@ -14,5 +14,5 @@ load-requires g c =
       search rules,
       search rules,
       receiver_looks_at_mark _ _ _ _ _ c.args.sequence c.args.room _ (ap (λ r. r.table.shared.key) c.deref-2.ensures ∙ c.self.invariant.keyed.key ∙ plan) c.requires.named.1 next
-          (search rules) c.self.invariant.end (subst (λ (p : Shape). upstreams_of p.upstreams (receiver_of c.self.inside.seat.me.0.ends).number ≡ []) plan first),
+          (search rules) c.self.invariant.end (subst (λ (p : Shape g.row.T.Denot). upstreams_of p.upstreams (receiver_of c.self.inside.seat.me.0.ends).number ≡ []) plan first),
     )

@@ -1,10 +1,10 @@
-use Rattle.std.proofs.Common.{rules, refl, sym, subst, ap, ◌∙◌, ◌≡◌, ◌+◌, ℕ}
+use Rattle.std.proofs.Common.{rules, refl, sym, subst, ap, ◌∙◌, ◌≡◌, ◌+◌, ◌-◌, ℕ, arith}
 use Rattle.dr_plain_senders.specs.Meaning.Shape.{Shape}
 use Rattle.dr_plain_senders.specs.Meaning.Records.{Owns, SeesRoom}
 use Rattle.dr_plain_senders.specs.declared.record.Stage.{Stage}
-use Rattle.dr_plain_senders.specs.Calls.Finds.{IsEarlier}
+use Rattle.dr_plain_senders.specs.Calls.Finds.{IsEarlier, exchanged}
 use Rattle.dr_plain_senders.specs.Calls.Ends.{SenderStand}
-use Rattle.dr_plain_senders.specs.Inside.Seats.{sender_of}
+use Rattle.dr_plain_senders.specs.Inside.Seats.{LayIn, LayAsLent, sender_of}
 use Rattle.dr_plain_senders.proofs.Allowed.{sender_claims_more}
 use Rattle.dr_plain_senders.proofs.laws.sender.SenderStation.claim.Goals as goal
 
@@ -16,11 +16,24 @@ compare_exchange-requires g c =
       search rules,
       search rules,
       sender_claims_more _ J _ _ c.args.found c.args.count _ (ap (λ r. r.table.shared.key) c.deref.ensures ∙ c.self.invariant.keyed.key ∙ plan) refl c.self.invariant.end c.requires.some
-          (subst (λ (p : Shape). SeesRoom p (sender_of c.self.inside.seat.me.0.ends) c.args.found c.args.count) plan room),
+          (subst (λ (p : Shape g.row.T.Denot). SeesRoom p (sender_of c.self.inside.seat.me.0.ends) c.args.found c.args.count) plan room),
     )
 
 pub returns-clause-own : goal.returns-clause-own
 returns-clause-own g c =
     let plan = ap (λ (e : SenderStand g.row.T.Denot). e.plan) c.self.view_is ∙ c.requires.named in let found = c.args.found in let upto = c.args.found + c.args.count in
     subst (λ (e : SenderStand g.row.T.Denot). c.compare_exchange.result ≡ found → (s : ℕ) (t : Stage g.row.T.Denot) → Owns e.knows s t → IsEarlier e.plan found upto s t) c.self.view_is
-    (subst (λ (k : Shape). c.compare_exchange.result ≡ found → (s : ℕ) (t : Stage g.row.T.Denot) → Owns (sender_of c.self.inside.seat.me.0.ends) s t → IsEarlier k found upto s t) (sym plan) c.compare_exchange.ensures.2.0.4)
+    (subst (λ (k : Shape g.row.T.Denot). c.compare_exchange.result ≡ found → (s : ℕ) (t : Stage g.row.T.Denot) → Owns (sender_of c.self.inside.seat.me.0.ends) s t → IsEarlier k found upto s t) (sym plan) c.compare_exchange.ensures.2.0.4)
+
+pub returns-clause-step : goal.returns-clause-step
+returns-clause-step g c =
+    let E = c.compare_exchange.ensures.2.0 in let found : ℕ = c.args.found in let count : ℕ = c.args.count in let result : ℕ = c.compare_exchange.result in
+    let plan = ap (λ (e : SenderStand g.row.T.Denot). e.plan) c.self.view_is ∙ c.requires.named in let many : found + count - found ≡ count = omega arith in (
+      E.0,
+      subst (λ (e : SenderStand g.row.T.Denot). LayIn e.plan found (exchanged found count result) E.0) c.self.view_is
+          (subst (λ (k : Shape g.row.T.Denot). LayIn k found (exchanged found count result) E.0) (sym plan)
+          (subst (λ (m : ℕ). LayIn g.J.Names.plan found (exchanged found m result) E.0) many E.1)),
+      search rules,
+      subst (λ (e : SenderStand g.row.T.Denot). LayAsLent e.plan e.knows found E.0) c.self.view_is
+          (subst (λ (k : Shape g.row.T.Denot). LayAsLent k (sender_of c.self.inside.seat.me.0.ends) found E.0) (sym plan) E.5),
+    )

@@ -1,4 +1,6 @@
-use Rattle.std.proofs.Common.{◌≡◌, ◌+◌, suc, ℕ, arith, ap, ◌∙◌}
+use Rattle.std.proofs.Common.{◌≡◌, ◌+◌, suc, ℕ, arith, ap, sym, ◌∙◌}
+use Rattle.dr_cells.specs.declared.token.Token.{Token}
+use Rattle.dr_cells.specs.Hold.{held}
 use Rattle.dr_plain_senders.specs.Meaning.Shape.{handlers_of}
 use Rattle.dr_plain_senders.specs.Meaning.Words.{slot_of}
 use Rattle.dr_plain_senders.specs.Meaning.Lying.{lent, placed}
@@ -16,6 +18,7 @@ loop-handler-init g c =
       m,
       trade_begins c.args.self.now 0 (handlers_of k) (parts_row k s (lent m)) (blank_parts k s) c.requires.1 c.requires.3 (parts_count k s (lent m)),
       out_is k s _ _ _ m c.requires.2 (omega arith),
+      ap (λ (t : Token g.row.T.Denot). held t.hold) c.requires.2,
     )
 
 pub exchange-part-requires : goal.exchange-part-requires
@@ -42,6 +45,7 @@ loop-handler-preserved g c =
       trade_next c.args.self.now 0 (handlers_of k) (parts_row k s (lent m)) (blank_parts k s) h _ _ _ _ (placed k (suc h) s (lent m)) (blank_slot k (suc h) s) (omega arith) inv.1
           (part_at k s (lent m) h (omega arith)) (blank_at k s h (omega arith)) slot c.blank.ensures c.exchange-part.ensures.hand,
       joined_is k s _ _ _ _ m inv.2 c.join.ensures (omega arith),
+      inv.3,
     )
 
 pub regain-requires : goal.regain-requires
@@ -56,3 +60,8 @@ returns-clause-hand g c =
 pub returns-clause-whole : goal.returns-clause-whole
 returns-clause-whole g c =
     let inv = c.loop-handler.invariant in (inv.0.event, regained_is c.args.self.now.plan c.args.sequence _ _ _ inv.0 inv.2 c.regain.ensures)
+
+pub returns-clause-event : goal.returns-clause-event
+returns-clause-event g c =
+    let inv = c.loop-handler.invariant in
+    ap (λ (t : Token g.row.T.Denot). held t.hold) (regained_is c.args.self.now.plan c.args.sequence _ _ _ inv.0 inv.2 c.regain.ensures) ∙ sym inv.3

@@ -1,4 +1,5 @@
-use Rattle.std.proofs.Common.{◌≡◌, ◌-◌, drop}
+use Rattle.std.proofs.Common.{◌≡◌, ◌-◌, drop, Some}
+use Rattle.dr_cells.specs.Hold.{held}
 use Rattle.dr_plain_senders.specs.Meaning.Shape.{handlers_of}
 use Rattle.dr_plain_senders.specs.Meaning.Lying.{lent}
 use Rattle.dr_plain_senders.specs.declared.record.Lent.{Lent}
@@ -13,3 +14,4 @@ invariant-loop-handler g l = let k = l.fn.self.plan in
     (m : Lent g.row.T.Denot)
     × (l.self ≡ with_hand l.fn.self (traded (parts_row k l.sequence (lent m)) (blank_parts k l.sequence) (drop (handlers_of k) l.fn.self.hand) (l.handler - 0)))
     × (l.kept ≡ out k l.sequence (handlers_of k - l.handler) m)
+    × (held l.fn.kept.hold ≡ Some m.event)

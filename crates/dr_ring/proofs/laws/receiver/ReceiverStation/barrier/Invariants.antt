@@ -5,4 +5,6 @@ use Rattle.dr_ring.proofs.Rounds.{Round}
 use Rattle.dr_ring.proofs.laws.receiver.ReceiverStation.barrier.Given as goal
 
 abbrev pub invariant-loop-place : goal.invariant-loop-place
-invariant-loop-place l = HasLoaded l.fn.self l.self.knows l.self × (ups_of l.self.knows ≡ ups_of l.fn.self.knows) × Round (ups_of l.fn.self.knows) l.fn.self.knows l.cursor l.available l.place l.self.knows
+invariant-loop-place l = HasLoaded l.fn.self l.self.knows l.self
+    × (ups_of l.self.knows ≡ ups_of l.fn.self.knows)
+    × Round (ups_of l.fn.self.knows) l.fn.self.knows l.cursor l.available l.place l.self.knows

@@ -13,4 +13,6 @@ load-second-requires c =
     (search rules, search rules, receiver_loads_second _ _ _ _ _ _ c.args.first place c.self.invariant.end refl refl refl half below)
 
 pub invariant_of-self : goal.invariant_of-self
-invariant_of-self c = let is = c.load-second.ensures.2.0 c.args.first (subst (λ (e : ReceiverEnd). e.knows.half ≡ Some c.args.first) (sym c.self.view_is) c.requires.half) in search rules
+invariant_of-self c =
+    let half = subst (λ (e : ReceiverEnd). e.knows.half ≡ Some c.args.first) (sym c.self.view_is) c.requires.half in
+    let is = c.load-second.ensures.2.0 c.args.first half in search rules

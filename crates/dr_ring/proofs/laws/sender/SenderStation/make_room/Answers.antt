@@ -14,8 +14,10 @@ pub returns-then-count-need-clause-answer : goal.returns-then-count-need-clause-
 returns-then-count-need-clause-answer c =
     let inv = c.loop-place.invariant in let all = c.finals-place-end.ensures ∙ ap (λ (k : Shape). finals k.upstreams) c.plan.ensures.plan in
     let here = c.finals.ensures ∙ ap (λ (k : Shape). finals k.upstreams) (c.plan-in-loop-place.ensures.plan ∙ inv.1) in
-    scanned_low _ _ _ c.args.need c.loop-place.least c.loop-place.place _ c.look_at_count-count.result inv.2 (let lt = c.loop-place-test.true in let same = ap length all in omega arith)
-    (ap (λ (xs : List ℕ). get_or xs c.loop-place.place 0) (sym here)) c.look_at_count-count.ensures.step.1 c.look_at_count-count.ensures.finds.0 c.if-count-need.true
+    scanned_low _ _ _ c.args.need c.loop-place.least c.loop-place.place _ c.look_at_count-count.result inv.2
+    (let lt = c.loop-place-test.true in let same = ap length all in omega arith)
+    (ap (λ (xs : List ℕ). get_or xs c.loop-place.place 0) (sym here)) c.look_at_count-count.ensures.step.1
+    c.look_at_count-count.ensures.finds.0 c.if-count-need.true
 
 pub loop-place-preserved : goal.loop-place-preserved
 loop-place-preserved c =
@@ -23,11 +25,14 @@ loop-place-preserved c =
     let here = c.finals.ensures ∙ ap (λ (k : Shape). finals k.upstreams) (c.plan-in-loop-place.ensures.plan ∙ inv.1) in (
       loaded_more c.args.self.now _ _ _ inv.0 c.look_at_count-count.ensures.step,
       search rules,
-      scanned_more _ _ _ c.args.need c.loop-place.least _ c.loop-place.place _ c.look_at_count-count.result inv.2 (let lt = c.loop-place-test.true in let same = ap length all in omega arith)
-          (ap (λ (xs : List ℕ). get_or xs c.loop-place.place 0) (sym here)) c.look_at_count-count.ensures.step.1 c.look_at_count-count.ensures.finds.0 c.if-count-need.false c.look_at_count-count.ensures.finds.1 c.min-least.ensures,
+      scanned_more _ _ _ c.args.need c.loop-place.least _ c.loop-place.place _ c.look_at_count-count.result inv.2
+          (let lt = c.loop-place-test.true in let same = ap length all in omega arith) (ap (λ (xs : List ℕ). get_or xs c.loop-place.place 0) (sym here))
+          c.look_at_count-count.ensures.step.1 c.look_at_count-count.ensures.finds.0 c.if-count-need.false
+          c.look_at_count-count.ensures.finds.1 c.min-least.ensures,
     )
 
 pub returns-clause-answer : goal.returns-clause-answer
 returns-clause-answer c =
     let all = c.finals-place-end.ensures ∙ ap (λ (k : Shape). finals k.upstreams) c.plan.ensures.plan in
-    scanned_all _ _ c.args.need c.loop-place.least c.loop-place.place (subst IsPlan c.plan.ensures.plan c.plan.ensures.made) c.loop-place.invariant.2 (let same = ap length all in search rules)
+    scanned_all _ _ c.args.need c.loop-place.least c.loop-place.place (subst IsPlan c.plan.ensures.plan c.plan.ensures.made)
+    c.loop-place.invariant.2 (let same = ap length all in search rules)

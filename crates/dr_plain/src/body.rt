@@ -1,0 +1,48 @@
+//! What all ends of a ring share.
+
+ghost use Rattle.std.specs.Prelude.{◌≡◌};
+ghost use Rattle.dr_plain.specs.Meaning.Shape.{handlers_of};
+
+use crate::laws::{RingTable, Words};
+use crate::left::{HalterLeft, ReceiverLeft, SenderLeft};
+use crate::over::end;
+use crate::plan::Plan;
+use dr_places::Places;
+
+/// What all ends of a ring share: its table, what it was made for, and places in which ends that are
+/// dropped leave what they hold. Once no end is there any more, it ends the ring with what they left.
+pub(crate) struct RingBody<T> {
+    pub(crate) table: RingTable<T>,
+    pub(crate) plan: Plan<T>,
+    pub(crate) senders: Places<SenderLeft<T>, Words<T>>,
+    pub(crate) receivers: Places<ReceiverLeft<T>, Words<T>>,
+    pub(crate) halters: Places<HalterLeft<T>, Words<T>>,
+    ghost made: { table.shared.key ≡ plan },
+    ghost told: { (senders.key ≡ table.shared) × (receivers.key ≡ table.shared) × (halters.key ≡ table.shared) },
+    ghost many: { (senders.count ≡ 1) × (receivers.count ≡ handlers_of plan) × (halters.count ≡ 1) },
+}
+
+// Where a place is empty its end never was, or is brought together with the others by `finish`.
+impl<T: Drop> Drop for RingBody<T> {
+    fn drop(self) {
+        let RingBody {
+            table,
+            plan,
+            senders,
+            receivers,
+            halters,
+        } = self;
+        let Some(mut senders) = senders.close() else {
+            return;
+        };
+        let Some(mut halters) = halters.close() else {
+            return;
+        };
+        let Some(receivers) = receivers.close() else {
+            return;
+        };
+        let Some(sender) = senders.pop() else { return };
+        let Some(halter) = halters.pop() else { return };
+        drop(end(&table.shared, &plan, sender, receivers, halter));
+    }
+}

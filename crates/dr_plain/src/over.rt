@@ -1,0 +1,82 @@
+//! A ring ends once all its ends have left.
+
+ghost use Rattle.std.specs.Prelude.{◌≡◌, ◌<◌, length, map, Some};
+ghost use mathlib.Core.Option.{some};
+ghost use lib.ListN.{get_elem?};
+ghost use Rattle.dr_runs.specs.Gathering.{Gathers};
+ghost use Rattle.dr_plain.specs.Calls.Settling.{AreAllEnds, IsHalterOf, handler_counts};
+ghost use Rattle.dr_plain.specs.Inside.Seats.{ring_ends};
+ghost use Rattle.dr_plain.specs.Inside.Gathering.{AreOfRing, receiver_known};
+ghost use Rattle.dr_plain.specs.Inside.Finishing.{AreHandsOf};
+ghost use Rattle.dr_plain.specs.Inside.Leaving.{BelongsSender};
+
+use crate::finishing::{receive, take_back};
+use crate::laws::{RingSeat, Words, settling};
+use crate::left::{HalterLeft, ReceiverLeft, SenderLeft};
+use crate::plan::Plan;
+use crate::settled::HandlerCounts;
+use dr_cells::{Token, Values};
+use dr_places::Gathered;
+
+// What a receiver left: its seat comes to the sender's, and its counts and tokens to their places.
+fn gather_left<T>(
+    words: &Words<T>,
+    seat: &mut RingSeat<T>,
+    mut receivers: Gathered<ReceiverLeft<T>>,
+    counts: &mut Vec<HandlerCounts>,
+    hands: &mut Vec<Vec<Token<T>>>,
+)
+    requires table { (seat.old.table_id ≡ words.now.table_id) × (0 < words.now.table_id.words) }
+    requires receivers { AreOfRing seat.old.table_id receivers }
+    requires places { length counts.old.items ≡ length receivers }
+    requires rooms { length hands.old.items ≡ length receivers }
+    ensures seat { (seat.new.table_id ≡ seat.old.table_id) × (seat.new.me.1 ≡ seat.old.me.1) }
+    ensures view { Gathers ring_ends seat.old.me.0 (map receiver_known receivers) seat.new.me.0 }
+    ensures counts { counts.new.items ≡ map (λ e. handler_counts e.knows) receivers }
+    ensures hands { AreHandsOf receivers (map (λ hand. hand.items) hands.new.items) }
+{
+    while let Some(receiver) = receivers.pop() {
+        let place = receivers.len();
+        receive(words, seat, receiver, place, counts, hands);
+    }
+}
+
+/// Ends a ring by what its ends left. Its events come back, as where the ends are brought together.
+pub(crate) fn end<T>(
+    words: &Words<T>,
+    plan: &Plan<T>,
+    sender: SenderLeft<T>,
+    receivers: Gathered<ReceiverLeft<T>>,
+    halter: HalterLeft<T>,
+) -> Values<T>
+    requires sender { BelongsSender words.now.table_id plan.now sender }
+    requires receivers { AreAllEnds sender receivers }
+    requires halter { IsHalterOf sender halter }
+    ensures { map (λ event. Some event) result ≡ sender.cells }
+{
+    let SenderLeft {
+        mut seat,
+        claimed,
+        published,
+        gate: _,
+        written: _,
+        tokens,
+        mut counts,
+        mut hands,
+        strip,
+    } = sender;
+    settling::take_in(words, &mut seat, halter.seat);
+    gather_left(words, &mut seat, receivers, &mut counts, &mut hands);
+    let row = take_back(
+        words,
+        plan,
+        seat,
+        &counts,
+        hands,
+        claimed,
+        published,
+        strip.cells,
+        tokens,
+    );
+    strip.close(row)
+}

@@ -1,0 +1,29 @@
+-- What an end leaves in its ring, and that it belongs there: by the ring's table, and what the ring was made for.
+use Rattle.std.specs.Prelude.{◌≡◌, ℕ}
+use denote.RawPtr.{Ptr}
+use Rattle.atomic_table.specs.Seated.{TableId}
+use Rattle.dr_plain_senders.specs.Meaning.Shape.{Shape, handlers_of}
+use Rattle.dr_plain_senders.specs.Calls.Plans.{IsPlan}
+use Rattle.dr_plain_senders.specs.Calls.Ends.{SenderEnd, ReceiverEnd, HalterStand, sender_place, receiver_place}
+use Rattle.dr_plain_senders.specs.declared.gathered.Gathered.{Gathered}
+use Rattle.dr_plain_senders.specs.Inside.Gathered.{HasPlaces}
+use Rattle.dr_plain_senders.specs.Inside.Seats.{End, IsAtTable, IsHalter}
+
+module _ {T : Type 0} where
+  -- in the place of its number
+  abbrev pub BelongsSender : TableId → Shape T → ℕ → SenderEnd T → Type 0
+  BelongsSender ring k place e = sender_place e ≡ (ring, k, place)
+
+  abbrev pub BelongsReceiver : TableId → Shape T → ℕ → ReceiverEnd T → Type 0
+  BelongsReceiver ring k place e = receiver_place e ≡ (ring, k, place)
+
+  abbrev pub BelongsHalter : TableId → Shape T → HalterStand T → Type 0
+  BelongsHalter ring k e = IsAtTable e.ring ring k × (e.plan ≡ k)
+
+  -- a halter's seat stands for it alone, and it has the strip's memory, and places for what the ends bring
+  pub record HalterKeeps (k : Shape T) (me : End T) (start : Ptr) (len : ℕ) (gathered : Gathered T) : Type 0 where
+    pub made : IsPlan k
+    pub end : IsHalter me
+    pub strip : k.strip ≡ start
+    pub cells : k.size ≡ len
+    pub places : HasPlaces (handlers_of k) k.size gathered

@@ -1,6 +1,0 @@
-use Rattle.std.proofs.Common.{rules}
-use Rattle.dr_senders.proofs.Allowed.{receiver_looks_at_claims}
-use Rattle.dr_senders.proofs.laws.receiver.ReceiverStation.look_at_claims.Goals as goal
-
-pub load-requires : goal.load-requires
-load-requires c = (search rules, search rules, receiver_looks_at_claims _ _ _ _ c.self.invariant.end)

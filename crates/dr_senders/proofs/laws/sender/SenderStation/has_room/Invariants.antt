@@ -1,7 +1,0 @@
-use Rattle.dr_graph.specs.Meaning.Graph.{finals}
-use Rattle.dr_senders.specs.Calls.Ends.{HasLoaded}
-use Rattle.dr_senders.proofs.Scanning.{Scanned}
-use Rattle.dr_senders.proofs.laws.sender.SenderStation.has_room.Given as goal
-
-abbrev pub invariant-loop-place : goal.invariant-loop-place
-invariant-loop-place l = HasLoaded l.fn.self l.self.knows l.self × Scanned (finals l.fn.self.plan.upstreams) l.fn.self.knows l.need l.place l.self.knows

@@ -1,9 +1,0 @@
--- What a ring with several senders does, in its own words: read this first.
-pub mod Shape
-pub mod Words
-pub mod Records
-pub mod Rule
-pub mod Steps
-pub mod Stores
-pub mod Moments
-pub mod Settling
