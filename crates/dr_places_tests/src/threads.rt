@@ -29,10 +29,10 @@ fn each_thread_leaves_its_own(rt: HostRuntime) -> Result<(), Fail> {
     let both = join(
         &rt,
         || -> bool
-            requires { (places.now.key ≡ 7) × (places.now.count ≡ 3) × (first.number ≡ 7) }
+            requires { (places.key ≡ 7) × (places.count ≡ 3) × (first.number ≡ 7) }
         { leave_first(&places, first) },
         || -> bool
-            requires { (places.now.key ≡ 7) × (places.now.count ≡ 3) × (second.number ≡ 8) }
+            requires { (places.key ≡ 7) × (places.count ≡ 3) × (second.number ≡ 8) }
         { leave_second(&places, second) },
     );
     assert!(rt; both == (true, true) && Arc::strong_count(&held) == 3);
