@@ -160,8 +160,8 @@ brings w words p s r t further at there mine still own =
 owns_one : (k : Shape Event) (p s : ℕ) (event : Event) (w u : World Event) → PublishesOne k p s event w u → KeepsRule k w → AreOwn w → AreOwn u
 owns_one k p s event w u H K own =
     let is = (K.sent p H.0 H.1).own H.2.1.0 (own_of s H.2.0) H.2.1.1 in
-    subst AreOwn (sym H.2.3.2)
-    (brings w (set w.words (mark_word k s) (flipped (word_at w.words (mark_word k s)) (mark_bit k s) 1)) p s H.0 H.2.0 (published H.2.3.0) H.1 is.1 is.0 is.0 own)
+    let words = set w.words (mark_word k s) (flipped (word_at w.words (mark_word k s)) (mark_bit k s) 1) in
+    subst AreOwn (sym H.2.3.2) (brings w words p s H.0 H.2.0 (published H.2.3.0) H.1 is.1 is.0 is.0 own)
 
 owns_step : (k : Shape Event) (s : Step Event) (w u : World Event) → Happens k s w u → KeepsRule k w → AreOwn w → AreOwn u
 owns_step k (SenderLooksAtClaims p) w u H K own = subst AreOwn (sym H.2) (knows w p H.0 (sender_looked H.0 claim_word (word_at w.words claim_word)) H.1 refl own)
@@ -177,7 +177,8 @@ owns_step k (ReceiverLooksAtCount h c room) w u H K own = subst AreOwn (sym H.2.
 owns_step k (ReceiverCompletes h n) w u H K own = subst AreOwn (sym H.2.2) own
 owns_step k HalterHalts w u H K own = subst AreOwn (sym H) own
 
-owns_runs : (k : Shape Event) (steps : List (Step Event)) (es : Transcript Event) (w u : World Event) → Runs k steps es w u → KeepsRule k w → AreOwn w → AreOwn u
+owns_runs : (k : Shape Event) (steps : List (Step Event)) (es : Transcript Event) (w u : World Event) → Runs k steps es w u → KeepsRule k w
+    → AreOwn w → AreOwn u
 owns_runs k [] es w u R K own = subst AreOwn R.1 own
 owns_runs k (s ∷ steps) es w u R K own = owns_runs k steps R.1 R.0 u R.4 (keeps_step k s w R.0 R.2 K) (owns_step k s w R.0 R.2 K own)
 

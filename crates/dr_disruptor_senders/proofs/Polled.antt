@@ -127,7 +127,8 @@ looked_on a b (CompletesBelow upto (Err (Refused r))) is = same_record a b is.0 
 
 -- a walk came as far as its last look tells
 walked_last : (k : Shape Event) (end s m : ℕ) (marks : List ℕ) (upto : ℕ) → WalksTo k end s (m ∷ marks) upto
-    → (before after : List MarkLook) × (x : MarkLook) × (mark_looks k s (m ∷ marks) ≡ before ++ x ∷ after) × (upto ≡ x.sequence + marked_from k x.sequence x.found)
+    → (before after : List MarkLook) × (x : MarkLook) × (mark_looks k s (m ∷ marks) ≡ before ++ x ∷ after)
+    × (upto ≡ x.sequence + marked_from k x.sequence x.found)
 walked_last k end s m [] upto W = ([], [], mark_look s m, refl, elim W.1 [ inl here ↦ here.1.1 | inr stop ↦ stop.2 ])
 walked_last k end s m (next ∷ ms) upto W = elim W.1 [
   | inl here ↦

@@ -309,8 +309,8 @@ pub tells_feeds : {F : Type 0} (k : Shape Event) (gives : F → SenderEnd Event 
 tells_feeds k gives feeds = λ ring p back is rises out. is
 
 -- without a fault all scripts are sent
-pub went_whole : {A : Type 0} (goes : Relation Event A) (k : Shape Event) (scripts : List (List Event)) (starts : List A) (ran : Ran A) → k.senders ≡ length scripts
-    → IsRanOver (PublishesScript k.size scripts) goes k starts ran
+pub went_whole : {A : Type 0} (goes : Relation Event A) (k : Shape Event) (scripts : List (List Event)) (starts : List A) (ran : Ran A)
+    → k.senders ≡ length scripts → IsRanOver (PublishesScript k.size scripts) goes k starts ran
     → AreFine ran.endings.items → (events : List Event) × AllWentThroughMerge goes scripts starts ran.handlers.items events
 went_whole goes k scripts starts ran many is fine =
     let handlers = endings_from 0 is.served in

@@ -32,7 +32,14 @@ use Rattle.dr_disruptor_senders.specs.declared.sending.Sent.{Sent}
 
 -- a ring of a graph, so many slots and so many senders, for as many sequences as there may be, whose events lie there, at first of zeros
 abbrev pub shape_of : List (List ℕ) → ℕ → ℕ → Ptr → Shape Event
-shape_of upstreams size senders strip = record { upstreams = upstreams; size = size; limit = 2 ^ 62; senders = senders; strip = strip; begun = replicate size no_event }
+shape_of upstreams size senders strip = record {
+  upstreams = upstreams;
+  size = size;
+  limit = 2 ^ 62;
+  senders = senders;
+  strip = strip;
+  begun = replicate size no_event;
+}
 
 -- of a graph of so many handlers, where so many handlers and scripts were given: that the handlers differ, then that no ring has so many senders, and else a lack of memory or of a thread
 abbrev pub refusal_of : ℕ → ℕ → ℕ → RunFault
