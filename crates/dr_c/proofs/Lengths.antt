@@ -47,7 +47,8 @@ all_have_new n (suc count) bytes same =
 
 pub zeros_fit : (n size : ℕ) (cells : List (Option (List ℕ))) → cells ≡ map (λ (event : List ℕ). Some event) (replicate size (replicate n 0))
     → all_have n cells ≡ true
-zeros_fit n size cells new = subst (λ (cs : List (Option (List ℕ))). all_have n cs ≡ true) (sym new) (all_have_new n size (replicate n 0) (length-replicate n 0))
+zeros_fit n size cells new =
+    subst (λ (cs : List (Option (List ℕ))). all_have n cs ≡ true) (sym new) (all_have_new n size (replicate n 0) (length-replicate n 0))
 
 same_cells : (n : ℕ) (cells cells' : List (Option (List ℕ))) → cells' ≡ cells → all_have n cells ≡ true → all_have n cells' ≡ true
 same_cells n cells cells' same all = subst (λ (cs : List (Option (List ℕ))). all_have n cs ≡ true) (sym same) all

@@ -4,5 +4,6 @@ pub mod Lengths
 pub mod Opened
 pub mod OpenedBytes
 pub mod OpenedSeveral
+pub mod Crossing
 pub mod Placed
 pub mod Troubles

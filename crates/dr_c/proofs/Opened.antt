@@ -72,7 +72,8 @@ few n within many = omega arith
 
 pub bad_order : (senders size limit : ℕ) (masks : List ℕ) → IsSize size → length masks ≢ 0 → length masks ≤ 16 → (AreInOrder masks → ⊥)
     → IsWhy false (length masks) senders size limit masks BadOrder
-bad_order senders size limit masks fits some within bad = (bad, (false≢true, ((λ other. other refl), ((λ no. no fits), (some, (few (length masks) within, tt))))))
+bad_order senders size limit masks fits some within bad =
+    (bad, (false≢true, ((λ other. other refl), ((λ no. no fits), (some, (few (length masks) within, tt))))))
 
 masks_fine : (senders size limit : ℕ) (masks : List ℕ) → IsSize size → length masks ≢ 0 → length masks ≤ 16 → AreInOrder masks
     → NoneIsAmiss false (length masks) senders size limit masks (before BadProducers)

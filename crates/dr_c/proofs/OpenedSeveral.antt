@@ -1,5 +1,5 @@
 -- The ends of a new ring of several senders.
-use Rattle.std.proofs.Common.{◌≡◌, ℕ, List, length, replicate}
+use Rattle.std.proofs.Common.{◌≡◌, ℕ, List, length, replicate, subst}
 use denote.RawPtr.{Ptr}
 use Rattle.dr_seq.specs.declared.event.Event.{Event}
 use Rattle.dr_seq.specs.Event.{no_event}
@@ -8,8 +8,16 @@ use Rattle.dr_plain_senders.specs.Calls.Making.{AreFreshEnds}
 use Rattle.dr_c.specs.Opening.{FollowsMasks}
 use Rattle.dr_c.specs.OpeningSeveral.{AreOpened}
 
-pub opened_by : (size limit : ℕ) (masks : List ℕ) (senders : ℕ) (graph : List (List ℕ)) (strip : Ptr) (ss : List (SenderEnd Event)) (rs : List (ReceiverEnd Event))
-    (h : HalterStand Event) → length graph ≡ length masks → FollowsMasks graph masks
-    → AreFreshEnds (record { upstreams = graph; size = size; limit = limit; senders = senders; strip = strip; begun = replicate size no_event }) ss rs h
-    → AreOpened size limit masks senders ss rs h
-opened_by size limit masks senders graph strip ss rs h all follows fresh = record { graph = graph; all = all; follows = follows; strip = strip; fresh = fresh }
+pub opened_by : (size limit : ℕ) (masks : List ℕ) (senders : ℕ) (graph : List (List ℕ)) (strip : Ptr) (events : List Event) (ss : List (SenderEnd Event))
+    (rs : List (ReceiverEnd Event)) (h : HalterStand Event) → length graph ≡ length masks → FollowsMasks graph masks
+    → AreFreshEnds (record { upstreams = graph; size = size; limit = limit; senders = senders; strip = strip; begun = events }) ss rs h
+    → events ≡ replicate size no_event → AreOpened size limit masks senders ss rs h
+opened_by size limit masks senders graph strip events ss rs h all follows fresh zeros = record {
+  graph = graph;
+  all = all;
+  follows = follows;
+  strip = strip;
+  fresh =
+      subst (λ (es : List Event). AreFreshEnds (record { upstreams = graph; size = size; limit = limit; senders = senders; strip = strip; begun = es }) ss rs h)
+      zeros fresh;
+}

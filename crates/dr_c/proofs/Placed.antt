@@ -18,7 +18,8 @@ at_places Refused Call (x ∷ []) (y ∷ []) x' other y' another one one' call =
 at_places Refused Call (x ∷ []) (y ∷ z ∷ ys) x' other y' another one one' call = let e : ⊥ = omega arith in absurd e
 at_places Refused Call (x ∷ w ∷ xs) ys x' other y' another one one' call = let e : ⊥ = omega arith in absurd e
 
-pub reads_at : {A : Type 0} (Refused : Type 0) (Call : A → Type 0) (xs : List A) (other : A) → length xs ≡ 1 → Call (get_or xs 0 other) → ReadsAt xs Refused Call
+pub reads_at : {A : Type 0} (Refused : Type 0) (Call : A → Type 0) (xs : List A) (other : A) → length xs ≡ 1 → Call (get_or xs 0 other)
+    → ReadsAt xs Refused Call
 reads_at Refused Call [] other one call = let e : ⊥ = omega arith in absurd e
 reads_at Refused Call (x ∷ []) other one call = call
 reads_at Refused Call (x ∷ y ∷ xs) other one call = let e : ⊥ = omega arith in absurd e

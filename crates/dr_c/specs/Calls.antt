@@ -37,7 +37,8 @@ use Rattle.dr_c.specs.Places.{Whether}
 -- A call of a sender, which answers C by the number of its own answer; another end is refused, and stays as it was.
 abbrev pub OfSender : {A F : Type 0} → (Result A F → ℕ) → End → End → ℕ → Type 0 → (SenderEnd → SenderEnd → Result A Refusal → Type 0)
     → (several.SenderEnd Event → several.SenderEnd Event → Result A F → Type 0) → Type 0
-OfSender {A} number_of (Sender s) end' number Same Call OfSeveral = (s' : SenderEnd) × (answer : Result A Refusal) × (end' ≡ Sender s') × (number ≡ told answer) × Call s s' answer
+OfSender {A} number_of (Sender s) end' number Same Call OfSeveral =
+    (s' : SenderEnd) × (answer : Result A Refusal) × (end' ≡ Sender s') × (number ≡ told answer) × Call s s' answer
 OfSender {A} {F} number_of (SenderOfSeveral s) end' number Same Call OfSeveral =
     (s' : several.SenderEnd Event) × (answer : Result A F) × (end' ≡ SenderOfSeveral s') × (number ≡ number_of answer) × OfSeveral s s' answer
 OfSender number_of other end' number Same Call OfSeveral = (end' ≡ other) × (number ≡ wrong_end) × Same
@@ -45,7 +46,8 @@ OfSender number_of other end' number Same Call OfSeveral = (end' ≡ other) × (
 -- the same of a receiver
 abbrev pub OfReceiver : {A : Type 0} → End → End → ℕ → Type 0 → (ReceiverEnd → ReceiverEnd → Result A Refusal → Type 0)
     → (several.ReceiverEnd Event → several.ReceiverEnd Event → Result A Refusal → Type 0) → Type 0
-OfReceiver {A} (Receiver r) end' number Same Call OfSeveral = (r' : ReceiverEnd) × (answer : Result A Refusal) × (end' ≡ Receiver r') × (number ≡ told answer) × Call r r' answer
+OfReceiver {A} (Receiver r) end' number Same Call OfSeveral =
+    (r' : ReceiverEnd) × (answer : Result A Refusal) × (end' ≡ Receiver r') × (number ≡ told answer) × Call r r' answer
 OfReceiver {A} (ReceiverOfSeveral r) end' number Same Call OfSeveral =
     (r' : several.ReceiverEnd Event) × (answer : Result A Refusal) × (end' ≡ ReceiverOfSeveral r') × (number ≡ told answer) × OfSeveral r r' answer
 OfReceiver other end' number Same Call OfSeveral = (end' ≡ other) × (number ≡ wrong_end) × Same
@@ -56,8 +58,10 @@ OfWriter {A} w end' number Call =
     (w' : Writer) × (answer : Result A Refusal) × (end' ≡ SenderOfBytes w') × (number ≡ told answer) × (w'.bytes ≡ w.bytes) × Call w.sender w'.sender answer
 
 -- and of a receiver of bytes
-abbrev pub OfReader : {A : Type 0} → plain.ReceiverEnd (List ℕ) → End → ℕ → (plain.ReceiverEnd (List ℕ) → plain.ReceiverEnd (List ℕ) → Result A Refusal → Type 0) → Type 0
-OfReader {A} r end' number Call = (r' : plain.ReceiverEnd (List ℕ)) × (answer : Result A Refusal) × (end' ≡ ReceiverOfBytes r') × (number ≡ told answer) × Call r r' answer
+abbrev pub OfReader : {A : Type 0} → plain.ReceiverEnd (List ℕ) → End → ℕ
+    → (plain.ReceiverEnd (List ℕ) → plain.ReceiverEnd (List ℕ) → Result A Refusal → Type 0) → Type 0
+OfReader {A} r end' number Call =
+    (r' : plain.ReceiverEnd (List ℕ)) × (answer : Result A Refusal) × (end' ≡ ReceiverOfBytes r') × (number ≡ told answer) × Call r r' answer
 
 -- a call that a sender of bytes has too
 abbrev pub OfEachSender : {A F : Type 0} → (Result A F → ℕ) → End → End → ℕ → Type 0 → (SenderEnd → SenderEnd → Result A Refusal → Type 0)
@@ -79,7 +83,8 @@ HaltsBy (HalterOfSeveral h) end' number =
     (h' : several.HalterStand Event) × (found : ℕ) × (end' ≡ HalterOfSeveral h') × (number ≡ 0)
     × several.HasStored h steps_of_several.HalterHalts (records_of_several.halter_halted h.knows found) h.hand h'
 HaltsBy (HalterOfBytes h) end' number =
-    (h' : plain.HalterStand (List ℕ)) × (end' ≡ HalterOfBytes h') × (number ≡ 0) × plain.HasStored h steps_of_bytes.HalterHalts (records_of_bytes.halter_halted h.knows) h.hand h'
+    (h' : plain.HalterStand (List ℕ)) × (end' ≡ HalterOfBytes h') × (number ≡ 0)
+    × plain.HasStored h steps_of_bytes.HalterHalts (records_of_bytes.halter_halted h.knows) h.hand h'
 HaltsBy other end' number = (end' ≡ other) × (number ≡ wrong_end)
 
 -- the first sequence of a claim; a refused one leaves the place as it was
@@ -101,7 +106,8 @@ WritesBy sequence event number end end' =
 -- A sender of bytes writes as many as each of its events has, in the place of what lay there.
 abbrev pub WritesBytesBy : ℕ → List ℕ → ℕ → End → End → Type 0
 WritesBytesBy sequence bytes number (SenderOfBytes w) end' =
-    Whether (length bytes == w.bytes) (OfWriter {A = Unit {0}} w end' number (λ s s' answer. sends_of_bytes.UpdateCall (λ was now. now ≡ bytes) s sequence s' answer))
+    Whether (length bytes == w.bytes)
+    (OfWriter {A = Unit {0}} w end' number (λ s s' answer. sends_of_bytes.UpdateCall (λ was now. now ≡ bytes) s sequence s' answer))
     ((end' ≡ SenderOfBytes w) × (number ≡ bad_length))
 WritesBytesBy sequence bytes number other end' = (end' ≡ other) × (number ≡ wrong_end)
 
@@ -113,7 +119,9 @@ PublishesBy lo hi number end end' =
 
 -- only a ring of one sender is closed: one of several ends with its halt
 abbrev pub ClosesBy : ℕ → End → End → Type 0
-ClosesBy number (Sender s) end' = (s' : SenderEnd) × (answer : Result (Unit {0}) Refusal) × (end' ≡ Sender s') × (number ≡ told answer) × CloseCall s s' answer × ClosesOnceDone s s'
+ClosesBy number (Sender s) end' =
+    (s' : SenderEnd) × (answer : Result (Unit {0}) Refusal) × (end' ≡ Sender s') × (number ≡ told answer) × CloseCall s s' answer
+    × ClosesOnceDone s s'
 ClosesBy number (SenderOfBytes w) end' = OfWriter {A = Unit {0}} w end' number (λ s s' answer. sends_of_bytes.CloseCall s s' answer)
 ClosesBy number other end' = (end' ≡ other) × (number ≡ wrong_end)
 
@@ -157,7 +165,8 @@ CompletesBy upto number end end' =
     (λ r r' answer. completions_of_several.CompleteCall r upto r' answer)
     (λ r r' answer. polls_of_bytes.CompleteCall r upto r' answer)
 
--- How far an end came: what a sender claimed and published, what a receiver took and completed. One of several senders does not count what it published, and a halter counts nothing.
+-- How far an end came: what a sender claimed and published, what a receiver took and completed. One of several senders does not count
+-- what it published, and a halter counts nothing.
 abbrev pub counts_of : End → Option Counts
 counts_of (Sender s) = Some record { begun = claimed s.knows; done = length s.knows.sent.published }
 counts_of (Receiver r) = Some record { begun = length r.knows.received; done = r.knows.completed }

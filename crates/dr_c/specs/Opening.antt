@@ -52,7 +52,8 @@ are_open sender receivers halter = is_some sender.held.value || list_any (λ h. 
 -- what an opening that is not refused, or is, leaves in the handles
 abbrev pub Opens : ℕ → ℕ → List ℕ → Handle → List Handle → Handle → Handle → List Handle → Handle → Result (Unit {0}) OpenFault → Type 0
 Opens size limit masks sender receivers halter sender' receivers' halter' (Ok _) =
-    IsFine (are_open sender receivers halter) (length receivers) 1 size limit masks × OpensBy size limit masks sender'.held.value (ends_in receivers') halter'.held.value
+    IsFine (are_open sender receivers halter) (length receivers) 1 size limit masks
+    × OpensBy size limit masks sender'.held.value (ends_in receivers') halter'.held.value
 Opens size limit masks sender receivers halter sender' receivers' halter' (Err fault) =
     IsWhy (are_open sender receivers halter) (length receivers) 1 size limit masks fault
     × (sender'.held.value ≡ sender.held.value) × (ends_in receivers' ≡ ends_in receivers) × (halter'.held.value ≡ halter.held.value)
@@ -63,7 +64,8 @@ told_of_opening (Ok _) = 0
 told_of_opening (Err fault) = number_of fault
 
 -- what C is told of an opening
-pub record OpenedBy (size limit : ℕ) (masks : List ℕ) (sender : Handle) (receivers : List Handle) (halter sender' : Handle) (receivers' : List Handle) (halter' : Handle) (number : ℕ) : Type 0 where
+pub record OpenedBy (size limit : ℕ) (masks : List ℕ) (sender : Handle) (receivers : List Handle) (halter sender' : Handle)
+    (receivers' : List Handle) (halter' : Handle) (number : ℕ) : Type 0 where
   pub answer : Result (Unit {0}) OpenFault
   pub opens : Opens size limit masks sender receivers halter sender' receivers' halter' answer
   pub told : number ≡ told_of_opening answer

@@ -33,13 +33,15 @@ pub record OpensBy (size limit bytes : ℕ) (masks : List ℕ) (sender : Option 
 -- what an opening that is not refused, or is, leaves in the handles
 abbrev pub Opens : ℕ → ℕ → ℕ → List ℕ → Handle → List Handle → Handle → Handle → List Handle → Handle → Result (Unit {0}) OpenFault → Type 0
 Opens size limit bytes masks sender receivers halter sender' receivers' halter' (Ok _) =
-    IsFine (are_open sender receivers halter) (length receivers) 1 size limit masks × OpensBy size limit bytes masks sender'.held.value (ends_in receivers') halter'.held.value
+    IsFine (are_open sender receivers halter) (length receivers) 1 size limit masks
+    × OpensBy size limit bytes masks sender'.held.value (ends_in receivers') halter'.held.value
 Opens size limit bytes masks sender receivers halter sender' receivers' halter' (Err fault) =
     IsWhy (are_open sender receivers halter) (length receivers) 1 size limit masks fault
     × (sender'.held.value ≡ sender.held.value) × (ends_in receivers' ≡ ends_in receivers) × (halter'.held.value ≡ halter.held.value)
 
 -- what C is told of an opening
-pub record OpenedBy (size limit bytes : ℕ) (masks : List ℕ) (sender : Handle) (receivers : List Handle) (halter sender' : Handle) (receivers' : List Handle) (halter' : Handle) (number : ℕ) : Type 0 where
+pub record OpenedBy (size limit bytes : ℕ) (masks : List ℕ) (sender : Handle) (receivers : List Handle) (halter sender' : Handle)
+    (receivers' : List Handle) (halter' : Handle) (number : ℕ) : Type 0 where
   pub answer : Result (Unit {0}) OpenFault
   pub opens : Opens size limit bytes masks sender receivers halter sender' receivers' halter' answer
   pub told : number ≡ told_of_opening answer

@@ -34,7 +34,8 @@ pub record OpensBy (size limit : ℕ) (masks : List ℕ) (count : ℕ) (senders 
 
 -- one of the handles is open
 abbrev pub are_all_open : List Handle → List Handle → Handle → Bool
-are_all_open senders receivers halter = list_any (λ h. is_some h.held.value) senders || list_any (λ h. is_some h.held.value) receivers || is_some halter.held.value
+are_all_open senders receivers halter =
+    list_any (λ h. is_some h.held.value) senders || list_any (λ h. is_some h.held.value) receivers || is_some halter.held.value
 
 -- what an opening that is not refused, or is, leaves in the handles
 abbrev pub Opens : ℕ → ℕ → List ℕ → List Handle → List Handle → Handle → List Handle → List Handle → Handle → Result (Unit {0}) OpenFault → Type 0
@@ -46,7 +47,8 @@ Opens size limit masks senders receivers halter senders' receivers' halter' (Err
     × (ends_in senders' ≡ ends_in senders) × (ends_in receivers' ≡ ends_in receivers) × (halter'.held.value ≡ halter.held.value)
 
 -- what C is told of an opening
-pub record OpenedBy (size limit : ℕ) (masks : List ℕ) (senders receivers : List Handle) (halter : Handle) (senders' receivers' : List Handle) (halter' : Handle) (number : ℕ) : Type 0 where
+pub record OpenedBy (size limit : ℕ) (masks : List ℕ) (senders receivers : List Handle) (halter : Handle)
+    (senders' receivers' : List Handle) (halter' : Handle) (number : ℕ) : Type 0 where
   pub answer : Result (Unit {0}) OpenFault
   pub opens : Opens size limit masks senders receivers halter senders' receivers' halter' answer
   pub told : number ≡ told_of_opening answer

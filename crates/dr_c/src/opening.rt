@@ -39,14 +39,21 @@ fn ends(
     }
 }
 
-/// An end that C may move to another thread: it is proved that its type may be sent.
-pub fn boxed<T: Send + Drop>(alloc: Global, end: T) -> Result<Box<T, Global>, OpenFault>
-    ensures { IfOk result (λ boxed. boxed.value ≡ end) }
+// A box of what may be sent to another thread.
+fn in_box<T: Send + Drop>(alloc: Global, it: T) -> Result<Box<T, Global>, OpenFault>
+    ensures { IfOk result (λ boxed. boxed.value ≡ it) }
 {
-    match Box::new(alloc, end) {
-        Ok(end) => Ok(end),
+    match Box::new(alloc, it) {
+        Ok(it) => Ok(it),
         Err(_) => Err(OpenFault::NoMemory),
     }
+}
+
+/// An end that C may move to another thread: it is proved that its type may be sent.
+pub fn boxed(alloc: Global, end: End) -> Result<Box<End, Global>, OpenFault>
+    ensures { IfOk result (λ boxed. boxed.value ≡ end) }
+{
+    in_box(alloc, end)
 }
 
 /// Whether one of the handles is open.

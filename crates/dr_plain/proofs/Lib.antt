@@ -42,3 +42,4 @@ pub mod Noting
 pub mod Publishing
 pub mod Writing
 pub mod ManyWrites
+pub mod Crossing

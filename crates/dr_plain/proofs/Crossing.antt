@@ -1,0 +1,82 @@
+-- What all ends share may be shared, and go to another thread, where the events may: shown part by part, so that the search for an end's `Send` ends there.
+use denote.RattleType.{RattleType}
+use denote.Param.Send.{IsSend, IsSync, sendable}
+use Rattle.std.proofs.Crossing as std
+use Rattle.atomic_table.proofs.shared.Seat.TheSendSync.{the_send as seat_send}
+use Rattle.atomic_table.proofs.shared.Shared.TheSendSync.{the_send as shared_send, the_sync as shared_sync}
+use Rattle.atomic_table.proofs.send_lease.SendLease.TheSendSync.{the_send as lease_send, the_sync as lease_sync}
+use Rattle.dr_cells.proofs.token.Token.TheSendSync.{the_send as token_send, the_sync as token_sync}
+use Rattle.dr_cells.proofs.cells.Cells.TheSendSync.{the_send as cells_send, the_sync as cells_sync}
+use Rattle.dr_cells.proofs.deed.Deed.TheSendSync.{the_send as deed_send, the_sync as deed_sync}
+use Rattle.dr_places.specs.declared.places.Belongs.{Ghosts}
+use Rattle.dr_places.specs.contracts.places.Places as Places
+use Rattle.dr_plain.specs.contracts.plan.Plan as Plan
+use Rattle.dr_plain.specs.contracts.body.RingBody as RingBody
+use Rattle.dr_plain.specs.contracts.left.SenderLeft as SenderLeft
+use Rattle.dr_plain.specs.contracts.left.ReceiverLeft as ReceiverLeft
+use Rattle.dr_plain.specs.contracts.left.HalterLeft as HalterLeft
+use Rattle.dr_plain.specs.contracts.sender.Sender as Sender
+use Rattle.dr_plain.specs.contracts.receiver.Receiver as Receiver
+use Rattle.dr_plain.specs.contracts.laws.halter.Halter as Halter
+
+-- what ends leave
+ruleset left = (sendable, std.crosses, seat_send, token_send, token_sync, cells_send, cells_sync, deed_send, deed_sync)
+
+sender_left_send : (T : RattleType) → IsSend T → IsSync T → IsSend (SenderLeft.the_row T)
+sender_left_send T s y = search left depth 60 fits 20000
+
+receiver_left_send : (T : RattleType) → IsSend T → IsSync T → IsSend (ReceiverLeft.the_row T)
+receiver_left_send T s y = search left depth 60 fits 20000
+
+halter_left_send : (T : RattleType) → IsSend T → IsSync T → IsSend (HalterLeft.the_row T)
+halter_left_send T s y = search left depth 60 fits 20000
+
+-- tables, and what they are for
+ruleset tables = (sendable, std.crosses, shared_send, shared_sync, lease_send, lease_sync)
+
+places_send : (L K : RattleType) (g : Ghosts L.Denot K.Denot) → IsSend L → IsSend (Places.the_row L K g)
+places_send L K g s = search tables depth 60 fits 20000
+
+places_sync : (L K : RattleType) (g : Ghosts L.Denot K.Denot) → IsSend L → IsSync (Places.the_row L K g)
+places_sync L K g s = search tables depth 60 fits 20000
+
+plan_send : (T : RattleType) → IsSend T → IsSync T → IsSend (Plan.the_row T)
+plan_send T s y = search left depth 60 fits 20000
+
+plan_sync : (T : RattleType) → IsSend T → IsSync T → IsSync (Plan.the_row T)
+plan_sync T s y = search left depth 60 fits 20000
+
+ruleset bodies = (
+  sendable,
+  std.crosses,
+  shared_send,
+  shared_sync,
+  lease_send,
+  lease_sync,
+  token_send,
+  places_send,
+  places_sync,
+  sender_left_send,
+  receiver_left_send,
+  halter_left_send,
+  plan_send,
+  plan_sync,
+)
+
+body_send : (T : RattleType) → IsSend T → IsSync T → IsSend (RingBody.the_row T)
+body_send T s y = search bodies depth 60 fits 20000
+
+body_sync : (T : RattleType) → IsSend T → IsSync T → IsSync (RingBody.the_row T)
+body_sync T s y = search bodies depth 60 fits 20000
+
+-- so the ends may go to another thread
+ruleset ends = (sendable, std.crosses, seat_send, token_send, token_sync, cells_send, cells_sync, deed_send, deed_sync, body_send, body_sync)
+
+pub sender_send : (T : RattleType) → IsSend T → IsSync T → IsSend (Sender.the_row T)
+sender_send T s y = search ends depth 60 fits 20000
+
+pub receiver_send : (T : RattleType) → IsSend T → IsSync T → IsSend (Receiver.the_row T)
+receiver_send T s y = search ends depth 60 fits 20000
+
+pub halter_send : (T : RattleType) → IsSend T → IsSync T → IsSend (Halter.the_row T)
+halter_send T s y = search ends depth 60 fits 20000
