@@ -63,7 +63,7 @@ pub enum Case {
 }
 
 impl Case {
-    pub const ALL: [Case; 20] = [
+    pub const ALL: [Case; 21] = [
         Case::Builder,
         Case::Build,
         Case::Open,
