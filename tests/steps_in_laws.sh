@@ -40,4 +40,13 @@ if [ -n "$others" ]; then
     printf 'an ordering that is not sequentially consistent:\n%s\n' "$others"
     exit 1
 fi
-echo 'each load and store of a ring is a step of its laws'
+# No clause sees it if an end that is dropped completes, halts or closes first, since nothing is left of it to tell.
+others=$(find crates/dr_plain/src crates/dr_plain_senders/src -name '*.rt' -exec awk '
+    /^impl.* Drop for (Sender|Receiver|Halter)</ { inside = 1; next }
+    /^}/ { inside = 0 }
+    inside && !/^    (fn drop\(self\) \{|}|    let [(a-z, )]+ = self\.into_left\(\);|    drop\(ring\.[a-z]+\.leave\([a-z0, ]+\)\);)$/ { print FILENAME ":" FNR ":" $0 }' {} +)
+if [ -n "$others" ]; then
+    printf 'an end that is dropped does more than to leave what it holds:\n%s\n' "$others"
+    exit 1
+fi
+echo 'each load and store of a ring is a step of its laws, and a dropped end does no more than leave'
