@@ -38,7 +38,7 @@ RATES_OF_C = os.path.join(TOP, "bench", "c", "rates.c")
 SHAPES = ("unicast", "pipeline", "multicast", "diamond")
 SIZES = (64, 1024, 65536)
 ONE_THREAD = ("ours", "ring", "deque", "lmax")
-THREADS = ("ours", "memory", "c", "words", "channel", "mutex", "lmax", "lmax-try")
+THREADS = ("ours", "memory", "c", "words", "slots", "channel", "mutex", "lmax", "lmax-try")
 
 
 class Programs:
@@ -52,7 +52,7 @@ class Programs:
         self.words = {"ours": [given.program], "memory": [given.program]}
         plain = os.path.join(folder, "exchanges")
         subprocess.run(["rustc", "--edition", "2021", "-O", "-o", plain, PLAIN], check=True)
-        for kind in ("ring", "deque", "words", "channel", "mutex"):
+        for kind in ("ring", "deque", "words", "slots", "channel", "mutex"):
             self.words[kind] = [plain, kind]
         if given.library:
             over_c = os.path.join(folder, "rates")

@@ -4,8 +4,9 @@
 //! On one thread (topologies that begin with `core-`, or with `core1-`, `core8-` or `core16-` for events of
 //! so many words): `ring`, counts and slots that handlers read in place, and `deque`, a `VecDeque` for each
 //! edge of the graph, of events of two words alone. With a thread for each end: `words`, a ring of
-//! sequentially consistent words, with one sender or several (`sendersP-`), `channel`, a bounded channel of
-//! std for each edge of the graph, and `mutex`, a ring behind a `Mutex`.
+//! sequentially consistent words, with one sender or several (`sendersP-`), `slots`, the same with one sender
+//! and events in plain memory, `channel`, a bounded channel of std for each edge of the graph, and `mutex`, a
+//! ring behind a `Mutex`.
 
 mod channel;
 mod deque;
@@ -131,7 +132,8 @@ fn rounds_of(kind: &str, order: &Order, rounds: usize) -> Option<Vec<Round>> {
     match (kind, order.topology.exchange) {
         ("ring", Exchange::OneThread(words)) => Some(ring_rounds(words, order, rounds)),
         ("deque", Exchange::OneThread(2)) => Some(one_thread(deque::Deques::new(shape), order, rounds)),
-        ("words", Exchange::OneSender) => Some((0..rounds).map(|_| words::round(order)).collect()),
+        ("words", Exchange::OneSender) => Some((0..rounds).map(|_| words::round::<words::Atomic>(order)).collect()),
+        ("slots", Exchange::OneSender) => Some((0..rounds).map(|_| words::round::<words::Plain>(order)).collect()),
         ("words", Exchange::Senders) => Some((0..rounds).map(|_| senders::round(order)).collect()),
         ("channel", Exchange::OneSender | Exchange::Senders) => Some((0..rounds).map(|_| channel::round(order)).collect()),
         ("mutex", Exchange::OneSender | Exchange::Lock) => Some((0..rounds).map(|_| mutex::round(order)).collect()),

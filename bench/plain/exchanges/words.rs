@@ -1,45 +1,86 @@
-//! A ring of sequentially consistent words with a thread for each end: two words of payload an event, a
-//! cursor, and a count for each handler, each on a cache line of its own.
+//! A ring of sequentially consistent words with a thread for each end: a cursor, and a count for each handler,
+//! each on a cache line of its own. An event lies in two more words, or in plain memory.
 
 use crate::topology::Shape;
 use crate::waiting::Waiting;
 use crate::{Event, MOST_AT_ONCE, Order, Round, STRETCH, check_sum, event_at};
+use std::cell::UnsafeCell;
 use std::sync::atomic::{AtomicU64, Ordering::SeqCst};
 use std::thread;
 use std::time::Instant;
+
+/// Where an event lies.
+pub trait Slot: Default + Sync {
+    fn write(&self, event: Event);
+    fn read(&self) -> Event;
+}
+
+/// Two words.
+#[derive(Default)]
+pub struct Atomic([AtomicU64; 2]);
+
+impl Slot for Atomic {
+    fn write(&self, event: Event) {
+        self.0[0].store(event.first, SeqCst);
+        self.0[1].store(event.second, SeqCst);
+    }
+
+    fn read(&self) -> Event {
+        Event {
+            first: self.0[0].load(SeqCst),
+            second: self.0[1].load(SeqCst),
+        }
+    }
+}
+
+/// Plain memory, which is written only while no handler may read it.
+#[derive(Default)]
+pub struct Plain(UnsafeCell<Event>);
+
+unsafe impl Sync for Plain {}
+
+impl Slot for Plain {
+    fn write(&self, event: Event) {
+        unsafe { *self.0.get() = event };
+    }
+
+    fn read(&self) -> Event {
+        unsafe { *self.0.get() }
+    }
+}
 
 #[repr(align(128))]
 #[derive(Default)]
 struct Lone(AtomicU64);
 
-struct Words {
+struct Words<S> {
     mask: u64,
-    payload: Vec<[AtomicU64; 2]>,
+    slots: Vec<S>,
     cursor: Lone,
     closed: Lone,
     counts: Vec<Lone>,
 }
 
-struct Sender<'a> {
-    words: &'a Words,
+struct Sender<'a, S> {
+    words: &'a Words<S>,
     finals: Vec<usize>,
     next: u64,
     gate: u64,
 }
 
-impl Words {
-    fn new(shape: &Shape, size: u64) -> Words {
+impl<S: Slot> Words<S> {
+    fn new(shape: &Shape, size: u64) -> Self {
         Words {
             mask: size - 1,
-            payload: (0..size).map(|_| Default::default()).collect(),
+            slots: (0..size).map(|_| S::default()).collect(),
             cursor: Lone::default(),
             closed: Lone::default(),
             counts: shape.upstreams.iter().map(|_| Lone::default()).collect(),
         }
     }
 
-    fn slot(&self, s: u64) -> &[AtomicU64; 2] {
-        &self.payload[(s & self.mask) as usize]
+    fn slot(&self, s: u64) -> &S {
+        &self.slots[(s & self.mask) as usize]
     }
 
     fn least(&self, handlers: &[usize]) -> Option<u64> {
@@ -63,11 +104,7 @@ impl Words {
             }
             let upto = offered.min(taken + MOST_AT_ONCE);
             for s in taken..upto {
-                let [first, second] = self.slot(s);
-                let event = Event {
-                    first: first.load(SeqCst),
-                    second: second.load(SeqCst),
-                };
+                let event = self.slot(s).read();
                 sum = sum.wrapping_add(event.first).wrapping_add(event.second);
             }
             self.counts[h].0.store(upto, SeqCst);
@@ -77,7 +114,7 @@ impl Words {
     }
 }
 
-impl Sender<'_> {
+impl<S: Slot> Sender<'_, S> {
     fn claim(&mut self, n: u64) {
         let mut waiting = Waiting::new(n);
         while self.next + n > self.gate + self.words.mask + 1 {
@@ -91,10 +128,7 @@ impl Sender<'_> {
     fn send(&mut self, n: u64) {
         self.claim(n);
         for s in self.next..self.next + n {
-            let event = event_at(s);
-            let [first, second] = self.words.slot(s);
-            first.store(event.first, SeqCst);
-            second.store(event.second, SeqCst);
+            self.words.slot(s).write(event_at(s));
         }
         self.next += n;
         self.words.cursor.0.store(self.next, SeqCst);
@@ -102,10 +136,10 @@ impl Sender<'_> {
 }
 
 /// One round over a ring of its own, from the first claim until the last handler has taken all.
-pub fn round(order: &Order) -> Round {
+pub fn round<S: Slot>(order: &Order) -> Round {
     let shape = &order.topology.shape;
     let claim = order.topology.claim.min(order.size);
-    let words = Words::new(shape, order.size);
+    let words = Words::<S>::new(shape, order.size);
     let mut sender = Sender {
         words: &words,
         finals: shape.finals(),
