@@ -82,7 +82,11 @@ fn opened_with(alloc: Global, graph: &Graph, numbers: &[Arc<u64>]) -> Result<End
 }
 
 /// The ends of a ring over an event for each number. Where there is none, the events are dropped.
-pub fn opened_over(alloc: Global, graph: &Graph, numbers: &[Arc<u64>]) -> Result<Ends<Counted>, Fault>
+pub fn opened_over(
+    alloc: Global,
+    graph: &Graph,
+    numbers: &[Arc<u64>],
+) -> Result<Ends<Counted>, Fault>
     ensures { IfOk result (λ ends. AreAllEnds ends.senders.items ends.receivers.items ends.halter) }
 {
     match opened_with(alloc, graph, numbers) {

@@ -46,8 +46,22 @@ plan_send T s y = search left depth 60 fits 20000
 plan_sync : (T : RattleType) → IsSend T → IsSync T → IsSync (Plan.the_row T)
 plan_sync T s y = search left depth 60 fits 20000
 
-ruleset bodies = (sendable, std.crosses, shared_send, shared_sync, lease_send, lease_sync, token_send, places_send, places_sync,
-  sender_left_send, receiver_left_send, halter_left_send, plan_send, plan_sync)
+ruleset bodies = (
+  sendable,
+  std.crosses,
+  shared_send,
+  shared_sync,
+  lease_send,
+  lease_sync,
+  token_send,
+  places_send,
+  places_sync,
+  sender_left_send,
+  receiver_left_send,
+  halter_left_send,
+  plan_send,
+  plan_sync,
+)
 
 pub body_send : (T : RattleType) → IsSend T → IsSync T → IsSend (RingBody.the_row T)
 body_send T s y = search bodies depth 60 fits 20000
