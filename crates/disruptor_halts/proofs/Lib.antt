@@ -1,2 +1,2 @@
 mod Crossing
-mod Ends
+mod SeveralSenders

@@ -1,4 +1,4 @@
-use Rattle.disruptor_halts.proofs.Ends.{crosses}
+use Rattle.disruptor_halts.proofs.SeveralSenders.{crosses}
 use Rattle.disruptor_halts.proofs.over_ring.several_senders.Goals as goal
 
 -- the ends may go to other threads
