@@ -8,4 +8,4 @@ returns-in-Poll g c =
 pub returns-in_default : goal.returns-in_default
 returns-in_default g c =
     all_sender _ _ _ c.args.k c.index_mut-in_default.result.now c.answer_of_sender.new.sender c.requires c.index_mut-in_default.ensures.value
-        c.answer_of_sender.ensures
+    c.answer_of_sender.ensures
