@@ -81,7 +81,8 @@ module _ {T : Type 0} (r q : SenderRecord T) (c n : ℕ) (grown : q.own ≡ r.ow
 
   pub whence : (s : ℕ) (t : Stage T) → Owns q s t → Whence s t
   whence s t own =
-      elim (more_cases r.own (fresh_own r.number c n) own.0 (record { sequence = s; stage = t }) (ap (λ (xs : List (Own T)). get_elem? xs own.0) (sym grown) ∙ own.1)) [
+      elim (more_cases r.own (fresh_own r.number c n) own.0 (record { sequence = s; stage = t })
+      (ap (λ (xs : List (Own T)). get_elem? xs own.0) (sym grown) ∙ own.1)) [
         | inl old ↦ inr (own.0, old)
         | inr x ↦ (let d = fresh_at r.number c n x.0 (record { sequence = s; stage = t }) x.2 in
             let at : c + x.0 ≡ s = ap (λ (o : Own T). o.sequence) d.1 in let lt = d.0 in inl (omega arith, omega arith, sym (ap (λ (o : Own T). o.stage) d.1)))
@@ -114,7 +115,8 @@ module _ {T : Type 0} (r q : SenderRecord T) (c n : ℕ) (grown : q.own ≡ r.ow
     ]
 
     -- what has no mark then is published, and its cell is claimed again
-    old_now : (s : ℕ) (t : Stage T) → Owns r s t → is_marked claimed_marks s ≡ false → (is_published t ≡ true) × ((z : ℕ) × (u : Stage T) × Owns q z u × (s + k.size ≤ z))
+    old_now : (s : ℕ) (t : Stage T) → Owns r s t → is_marked claimed_marks s ≡ false
+        → (is_published t ≡ true) × ((z : ℕ) × (u : Stage T) × Owns q z u × (s + k.size ≤ z))
     old_now s t owned m = let len = F.claims in let e = earlier s t owned in let below = e.0 in
         elim (cases_Bool (is_marked o.claimed s)) [
           | inr unmarked ↦ (let x = F.old s t owned unmarked in (x.0, (x.1.0, x.1.1, kept x.1.0 x.1.1 x.1.2, x.1.3)))
@@ -158,7 +160,8 @@ module _ {T : Type 0} (r q : SenderRecord T) (c n : ℕ) (grown : q.own ≡ r.ow
     open_before s lt = elim (cases_Bool (is_marked o.claimed s)) [
       | inl marked ↦ (let own = F.own s marked in elim (cases_Bool (is_published own.0)) [
         | inl shown ↦ (let hides : not (is_marked o.published s) ≡ false = ap not (sym (F.shown s own.0 own.1 marked) ∙ shown) in
-            closed (is_marked o.claimed s) (not (is_marked o.published s)) hides ∙ sym (closed (is_marked claimed_marks s) (not (is_marked o.published s)) hides))
+            closed (is_marked o.claimed s) (not (is_marked o.published s)) hides
+            ∙ sym (closed (is_marked claimed_marks s) (not (is_marked o.published s)) hides))
         | inr hidden ↦ ap (λ (b : Bool). b && not (is_marked o.published s)) (sym (keeps_mark s own.0 own.1 hidden))
       ])
       | inr unmarked ↦ (let still : is_marked claimed_marks s ≡ false = elim (cases_Bool (is_marked claimed_marks s)) [

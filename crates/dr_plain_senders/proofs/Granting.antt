@@ -1,5 +1,6 @@
 -- What a claim leaves of a sender's fields, and what its caller sees.
-use Rattle.std.proofs.Common.{◌≡◌, ℕ, zero, suc, ◌+◌, ◌-◌, ◌*◌, ◌^◌, ◌<◌, ◌≤◌, ◌⊎◌, inl, inr, Bool, true, false, not, ◌&&◌, if◌then◌else◌, List, [], ◌∷◌, ◌++◌, map, drop, get_or, replicate, sym, refl, ap, ◌∙◌, subst, arith}
+use Rattle.std.proofs.Common.{◌≡◌, ℕ, zero, suc, ◌+◌, ◌-◌, ◌*◌, ◌^◌, ◌<◌, ◌≤◌, ◌⊎◌, inl, inr, Bool, true, false, not, ◌&&◌, if◌then◌else◌, List, []}
+use Rattle.std.proofs.Common.{◌∷◌, ◌++◌, map, drop, get_or, replicate, sym, refl, ap, ◌∙◌, subst, arith}
 use Rattle.std.specs.Prelude.{None, Some, Option, Result}
 use Rattle.std.proofs.lemmas.Bool.{cases_Bool, cases_lt}
 use Rattle.std.proofs.Math.Nat.{mod-lt}
@@ -10,6 +11,8 @@ use lib.ListN.{get_elem?}
 use Rattle.dr_cells.specs.declared.token.Token.{Token}
 use Rattle.dr_cells.specs.Hold.{held}
 use Rattle.dr_meaning.specs.declared.command.Claimed.{Claimed}
+use Rattle.dr_lent.specs.Rows.{cells_of}
+use Rattle.dr_lent.proofs.Lists.{drop_seam}
 use Rattle.dr_plain_senders.specs.declared.claiming.ClaimFault.{ClaimFault}
 use Rattle.dr_seq.specs.Rounds.{is_marked}
 use Rattle.dr_seq.proofs.Apart.{slots_differ}
@@ -26,12 +29,11 @@ use Rattle.dr_plain_senders.specs.declared.record.SenderRecord.{SenderRecord}
 use Rattle.dr_plain_senders.specs.Calls.Ends.{SenderStand}
 use Rattle.dr_plain_senders.specs.Calls.Finds.{IsEarlier}
 use Rattle.dr_plain_senders.specs.Calls.Sending.{GainsCells, ClaimCall}
-use Rattle.dr_plain_senders.specs.Inside.Fits.{SenderFits, is_open, cells_of, written_in, writes_of}
+use Rattle.dr_plain_senders.specs.Inside.Fits.{SenderFits, is_open, written_in, writes_of}
 use Rattle.dr_plain_senders.specs.Inside.Hands.{with_hand}
 use Rattle.dr_plain_senders.specs.Inside.Rows.{blank_rows, AreCollected}
 use Rattle.dr_plain_senders.specs.Inside.Seats.{Hand, LayIn, LayAsLent, IsOfRound, taken_by_claim}
 use Rattle.dr_plain_senders.specs.Inside.Finishing.{value_of}
-use Rattle.dr_plain_senders.proofs.Taken.{drop_seam}
 use Rattle.dr_plain_senders.proofs.Collecting.{rows_count, HaveLaid}
 use Rattle.dr_plain_senders.proofs.Owning.{marked_was}
 use Rattle.dr_plain_senders.proofs.Opened.{open_later}
@@ -80,7 +82,8 @@ was_begun k q (unlent x) of first = of.1
 was_begun k q (lent l) of first = absurd (omega arith)
 
 -- once what a claim took is collected, the rows of its sequences are behind all others
-pub hand_after : {T : Type 0} → (k : Shape T) (lo m n : ℕ) (laid : List (Laid T)) (hand hand1 : Hand T) → LayIn k lo n laid → hand1 ≡ taken_by_claim k lo laid ++ hand → m ≡ n
+pub hand_after : {T : Type 0} → (k : Shape T) (lo m n : ℕ) (laid : List (Laid T)) (hand hand1 : Hand T)
+    → LayIn k lo n laid → hand1 ≡ taken_by_claim k lo laid ++ hand → m ≡ n
     → drop (lanes_of k * m) hand1 ++ blank_rows k lo m ≡ hand ++ blank_rows k lo n
 hand_after k lo m n laid hand hand1 L is same =
     ap (λ (x : ℕ). drop (lanes_of k * x) hand1 ++ blank_rows k lo x) same
@@ -102,7 +105,8 @@ module _ {T : Type 0} (e : SenderStand T) (o : Owned) (end lo n : ℕ) (tokens t
   still_near : (s : ℕ) → is_open o s ≡ true → lo + n ≤ s + e.plan.size
   still_near s opened =
       let claimed = first_of (is_marked o.claimed s) (not (is_marked o.published s)) opened in let own = F.marks.own s claimed in
-      let hidden = F.marks.shown s own.0 own.1 claimed ∙ unhidden (is_marked o.published s) (second_of (is_marked o.claimed s) (not (is_marked o.published s)) opened) in
+      let hidden =
+      F.marks.shown s own.0 own.1 claimed ∙ unhidden (is_marked o.published s) (second_of (is_marked o.claimed s) (not (is_marked o.published s)) opened) in
       (earlier s own.0 own.1).1 (no_lent own.0.lent hidden)
 
   open_below : (s : ℕ) → is_open o s ≡ true → (s < end) × (s < lo)
@@ -211,7 +215,10 @@ module _ {T : Type 0} (e : SenderStand T) (o : Owned) (end lo n : ℕ) (tokens t
       → GainsCells e.plan e.knows lo n (cells_of tokens) (cells_of tokens')
   gains_cells laid L O H = let f : Token T → Option T = λ x. held x.hold in record {
     gained = λ s low lt. (let size : 0 < e.plan.size = omega arith in let inside : cell_of e.plan s < e.plan.size = mod-lt s size in
-        let many = collected.count in let count = F.count in let t = there tokens' (cell_of e.plan s) (omega arith) in let W = collected.whole s t.0 low lt t.1 in
+        let many = collected.count in
+        let count = F.count in
+        let t = there tokens' (cell_of e.plan s) (omega arith) in
+        let W = collected.whole s t.0 low lt t.1 in
         let more = L.count in let a = there laid (s - lo) (omega arith) in let at : lo + (s - lo) ≡ s = omega arith in
         let same : value_of a.0 ≡ W.0 = some_of (value_of a.0) W.0 (sym (H s a.0 t.0 low lt a.1 t.1) ∙ ap f W.1) in (
           W.0,
@@ -225,7 +232,8 @@ module _ {T : Type 0} (e : SenderStand T) (o : Owned) (end lo n : ℕ) (tokens t
   }
 
 -- the call as a caller sees it, whatever is in hand
-pub bare_call : {T : Type 0} → (e e1 e2 : SenderStand T) (hand : Hand T) (n : ℕ) (result : Result Claimed ClaimFault) → ClaimCall e n e1 result → e2 ≡ with_hand e1 hand
+pub bare_call : {T : Type 0} → (e e1 e2 : SenderStand T) (hand : Hand T) (n : ℕ) (result : Result Claimed ClaimFault)
+    → ClaimCall e n e1 result → e2 ≡ with_hand e1 hand
     → ClaimCall (record e { hand = [] }) n (record e2 { hand = [] }) result
 bare_call e e1 e2 hand n result C is =
     subst (λ (x : SenderStand _). ClaimCall (record e { hand = [] }) n (record x { hand = [] }) result) (sym is) (record {

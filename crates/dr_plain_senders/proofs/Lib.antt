@@ -13,14 +13,12 @@ pub mod Keeps
 pub mod Beginning
 pub mod Machine
 pub mod Pictures
-pub mod Lanes
-pub mod Leaving
-pub mod Going
 pub mod Moving
 pub mod Moves
 pub mod RunMoves
 pub mod Seats
 pub mod Allowed
+pub mod AllowedReceiving
 pub mod Halting
 pub mod Rising
 pub mod FreshSeats
@@ -61,7 +59,6 @@ pub mod Gathering
 pub mod Ending
 pub mod Bringing
 pub mod Returning
-pub mod Rowed
 pub mod Finished
 pub mod Departed
 pub mod OpenWrites

@@ -21,7 +21,6 @@ ghost use Rattle.dr_plain_senders.specs.Inside.Gathering.{AreSendersOf, AreRecei
 ghost use Rattle.dr_plain_senders.specs.Inside.Bringing.{AreTaken, AreBrought, AreHandsOf, AreTogether};
 
 use crate::answers::claimed_in;
-use crate::dealt::{put_at, whole_row};
 use crate::gathered::Gathered;
 use crate::laws::{Halter, RingSeat, Words, moments, settling};
 use crate::left::{ReceiverLeft, SenderLeft};
@@ -32,6 +31,7 @@ use crate::reclaiming::reclaim;
 use crate::sender::Sender;
 use crate::settled::Settled;
 use dr_cells::{Cells, Row, Token, Values};
+use dr_lent::rows::{put_at, whole_row};
 use dr_runs::HandlerCounts;
 use std::marker::Brand;
 use std::snapshot::Snapshot;

@@ -19,7 +19,6 @@ ghost use Rattle.dr_plain_senders.specs.Calls.Making.{sender_at, receiver_at, Ar
 ghost use Rattle.dr_plain_senders.specs.Calls.Settling.{AreAllEnds};
 
 use crate::body::RingBody;
-use crate::dealt::{blanks, deal, take_last};
 use crate::giving_up::{give_up, take_back};
 use crate::laws::{Halter, ReceiverStation, RingSeat, RingTable, SenderStation};
 use crate::owned::Owned;
@@ -31,6 +30,7 @@ use crate::sender::Sender;
 use atomic_table::Split;
 use dr_cells::{Cells, Strip, Token};
 use dr_graph::Graph;
+use dr_lent::rows::{blanks, deal, take_last};
 use dr_meaning::{Mode, OpenFault, is_valid_limit};
 use dr_seq::Size;
 use std::alloc::{AllocError, Global};

@@ -2,7 +2,7 @@
 
 ghost use Rattle.std.specs.Prelude.{◌≡◌, ℕ, ◌+◌, ◌^◌, ◌<◌, ◌≤◌, ◌++◌, List, None, Err, length, true};
 ghost use Rattle.dr_meaning.specs.declared.refusal.Refusal.TheVariants.{NotClaimed};
-ghost use Rattle.dr_plain_senders.specs.declared.record.Lent.{Lent};
+ghost use Rattle.dr_lent.specs.declared.lent.Lent.{Lent};
 ghost use Rattle.dr_plain_senders.specs.declared.record.Stage.{Stage};
 ghost use Rattle.dr_plain_senders.specs.declared.record.Step.TheVariants.{SenderPublishes};
 ghost use Rattle.dr_plain_senders.specs.Meaning.Words.{in_word};

@@ -1,10 +1,10 @@
 use Rattle.std.proofs.Common.{◌<◌, length, arith, ap, sym, subst, ◌∙◌}
 use Rattle.std.proofs.lemmas.List.{length-replicate}
 use Rattle.dr_cells.specs.Tokens.{no_token}
+use Rattle.dr_lent.proofs.Going.{cut_on}
 use Rattle.dr_plain_senders.specs.Meaning.Shape.{handlers_of}
 use Rattle.dr_runs.specs.Seats.{end_of}
 use Rattle.dr_plain_senders.specs.Inside.Stations.{ReceiverSits}
-use Rattle.dr_plain_senders.proofs.Going.{cut_on}
 use Rattle.dr_plain_senders.proofs.Making.{cut_own, cut_rest, receivers_next, receiver_sits, receiver_fits, receiver_view, receiver_listed}
 use Rattle.dr_plain_senders.proofs.Alike.{blank_row_last, blank_rows_left, blank_rows_many}
 use Rattle.dr_plain_senders.proofs.opening.receivers.Goals as goal
@@ -45,6 +45,7 @@ loop-number-preserved g c =
 pub invariant_of-push : goal.invariant_of-push
 invariant_of-push g c =
     let count = c.handlers-handlers.ensures.count ∙ ap (λ r. handlers_of r.plan) c.deref.ensures in let test = c.loop-number-test.true in
-    receiver_fits _ _ c.loop-number.number _ _ (cut_own _ _ _ _ _ c.loop-number.invariant.1 (receivers_next c.loop-number.number _ (omega arith)) c.split_seat-next.ensures.2)
+    receiver_fits _ _ c.loop-number.number _ _ (cut_own _ _ _ _ _ c.loop-number.invariant.1
+    (receivers_next c.loop-number.number _ (omega arith)) c.split_seat-next.ensures.2)
     (ap length (blank_row_last _ _ _ _ _ c.loop-number.invariant.3 c.take_last-parts.ensures) ∙ length-replicate _ no_token
     ∙ sym (ap (λ r. r.plan.size) c.in_ok-own.ensures))

@@ -2,8 +2,8 @@ use Rattle.std.proofs.Common.{◌<◌, length, arith, ap, refl, sym, subst, ◌�
 use Rattle.std.proofs.lemmas.List.{length-replicate}
 use Rattle.dr_cells.specs.Tokens.{no_token}
 use Rattle.dr_runs.specs.Seats.{end_of}
+use Rattle.dr_lent.proofs.Going.{cut_on}
 use Rattle.dr_plain_senders.specs.Inside.Stations.{SenderSits}
-use Rattle.dr_plain_senders.proofs.Going.{cut_on}
 use Rattle.dr_plain_senders.proofs.Making.{cut_own, cut_rest, senders_next, sender_sits, sender_fits, sender_view, sender_listed}
 use Rattle.dr_plain_senders.proofs.Alike.{alike_last, alike_left, blank_row_last, blank_rows_left, blank_rows_many}
 use Rattle.dr_plain_senders.proofs.opening.senders.Goals as goal

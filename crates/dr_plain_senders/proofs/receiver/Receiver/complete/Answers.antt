@@ -25,5 +25,6 @@ complete-requires-clause-hand g c =
 pub invariant_of-self : goal.invariant_of-self
 invariant_of-self g c =
     let low = c.if-upto-self.false in let high = c.if-upto-self-2.false in
-    fits_completed c.self.inside.station c.args.upto _ _ _ c.self.invariant (omega arith) (omega arith) _ c.give_back.ensures.hand _ c.turn_all.ensures _ _ _ c.complete.ensures
+    fits_completed c.self.inside.station c.args.upto _ _ _ c.self.invariant (omega arith)
+    (omega arith) _ c.give_back.ensures.hand _ c.turn_all.ensures _ _ _ c.complete.ensures
     c.give_back.ensures.parts

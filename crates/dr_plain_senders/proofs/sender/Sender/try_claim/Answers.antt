@@ -26,7 +26,11 @@ collect-requires-clause-room g c = c.self.invariant.count ∙ ap (λ (k : Shape 
 
 pub collect-requires-clause-hand : goal.collect-requires-clause-hand
 collect-requires-clause-hand g c =
-    let H = c.in-Ok.ensures.hand in let e = c.self.inside.station in let plan = sym c.in-Ok.ensures.call.stays.1 in let lo = c.in-Ok.claimed.lo in let n = c.args.n in
+    let H = c.in-Ok.ensures.hand in
+    let e = c.self.inside.station in
+    let plan = sym c.in-Ok.ensures.call.stays.1 in
+    let lo = c.in-Ok.claimed.lo in
+    let n = c.args.n in
     let back : n ≡ lo + n - lo = omega arith in (
       H.0,
       e.hand,
@@ -36,10 +40,17 @@ collect-requires-clause-hand g c =
 
 pub invariant_of-self : goal.invariant_of-self
 invariant_of-self g c =
-    let F = c.self.invariant in let e = c.self.inside.station in let e1 = c.try_claim.new.self in let e2 = c.collect.new.self in let o : Owned = c.self.inside.owned in
+    let F = c.self.invariant in
+    let e = c.self.inside.station in
+    let e1 = c.try_claim.new.self in
+    let e2 = c.collect.new.self in
+    let o : Owned = c.self.inside.owned in
     let lo = c.in-Ok.claimed.lo in let n = c.args.n in let E = c.in-Ok.ensures in let C = E.call in let H = E.hand in let step = c.collect.ensures.hand in
     let back : lo + n - lo ≡ n = omega arith in let m = lo + n - lo in
-    fits_claim e o _ lo n _ _ F (subst (λ (k : Shape g.row.T.Denot). AreCollected k lo (lo + n) c.self.inside.tokens.items c.collect.new.tokens.items) C.stays.1 c.collect.ensures.collected) E.fits.1.0 E.fits.1.1 E.own e1.knows
+    fits_claim e o _ lo n _ _ F
+    (subst (λ (k : Shape g.row.T.Denot). AreCollected k lo (lo + n) c.self.inside.tokens.items c.collect.new.tokens.items)
+    C.stays.1 c.collect.ensures.collected)
+    E.fits.1.0 E.fits.1.1 E.own e1.knows
     (ap (λ (r : SenderRecord g.row.T.Denot). r.own) C.knows) e2 _ _ (ap (λ (x : SenderStand g.row.T.Denot). x.plan) step ∙ C.stays.1)
     (ap (λ (x : SenderStand g.row.T.Denot). x.knows) step)
     (ap (λ (x : SenderStand g.row.T.Denot). x.hand) step ∙ ap (λ (k : Shape g.row.T.Denot). drop (lanes_of k * m) e1.hand ++ blank_rows k lo m) C.stays.1
@@ -48,19 +59,26 @@ invariant_of-self g c =
 
 pub returns-in-Ok : goal.returns-in-Ok
 returns-in-Ok g c =
-    let F = c.self.invariant in let e = c.self.inside.station in let e1 = c.try_claim.new.self in let e2 = c.collect.new.self in let o : Owned = c.self.inside.owned in
+    let F = c.self.invariant in
+    let e = c.self.inside.station in
+    let e1 = c.try_claim.new.self in
+    let e2 = c.collect.new.self in
+    let o : Owned = c.self.inside.owned in
     let lo = c.in-Ok.claimed.lo in let n = c.args.n in let E = c.in-Ok.ensures in let C = E.call in let step = c.collect.ensures.hand in
     let back : lo + n - lo ≡ n = omega arith in
-    let collected = subst (λ (k : Shape g.row.T.Denot). AreCollected k lo (lo + n) c.self.inside.tokens.items c.collect.new.tokens.items) C.stays.1 c.collect.ensures.collected in
+    let collected = subst (λ (k : Shape g.row.T.Denot). AreCollected k lo (lo + n) c.self.inside.tokens.items c.collect.new.tokens.items)
+    C.stays.1 c.collect.ensures.collected in
     let H = E.hand in
     let events = subst (λ (k : Shape g.row.T.Denot). HaveThoseOf k e1.hand lo (lo + n) c.collect.new.tokens.items) C.stays.1 c.collect.ensures.events in
     let laid = laid_back e.plan lo (lo + n) H.0 e.hand e1.hand c.collect.new.tokens.items (H.1.count ∙ sym back) H.2 events in
     let grown = ap (λ (r : SenderRecord g.row.T.Denot). r.own) C.knows in
     let marks = c.claim.ensures ∙ ap (λ (z : ℕ). record o { claimed = stamped (entry_of (length o.claimed)) o.claimed lo z }) back in
-    subst (λ (x : SenderEnd g.row.T.Denot). SenderClaimCall x n (sender_end e2 c.claim.new.self c.collect.new.tokens.items) (Ok c.in-Ok.claimed)) c.self.view_is (
+    subst (λ (x : SenderEnd g.row.T.Denot). SenderClaimCall x n (sender_end e2 c.claim.new.self c.collect.new.tokens.items) (Ok c.in-Ok.claimed))
+    c.self.view_is (
       bare_call e e1 e2 _ n (Ok c.in-Ok.claimed) C step,
       (
-        writes_stay e o _ lo n _ _ F collected E.fits.1.0 E.fits.1.1 E.own e1.knows grown _ _ _ (ap (λ (x : SenderStand g.row.T.Denot). x.plan) step ∙ C.stays.1)
+        writes_stay e o _ lo n _ _ F collected E.fits.1.0 E.fits.1.1 E.own e1.knows
+            grown _ _ _ (ap (λ (x : SenderStand g.row.T.Denot). x.plan) step ∙ C.stays.1)
             marks (ap (λ (x : SenderStand g.row.T.Denot). x.knows.own) step ∙ grown),
         gains_cells e o _ lo n _ _ F collected E.fits.1.0 E.fits.1.1 E.own e1.knows grown H.0 H.1 H.3 laid,
       ),
@@ -68,7 +86,8 @@ returns-in-Ok g c =
 
 pub invariant_of-self-in-Err : goal.invariant_of-self-in-Err
 invariant_of-self-in-Err g c =
-    let C = c.in-Err.ensures.call in fits_same c.self.inside.station c.try_claim.new.self _ _ _ C.stays.1 (ap (λ (r : SenderRecord g.row.T.Denot). r.own) C.knows)
+    let C = c.in-Err.ensures.call in
+    fits_same c.self.inside.station c.try_claim.new.self _ _ _ C.stays.1 (ap (λ (r : SenderRecord g.row.T.Denot). r.own) C.knows)
     c.in-Err.ensures.hand c.self.invariant
 
 pub returns-in-Err : goal.returns-in-Err

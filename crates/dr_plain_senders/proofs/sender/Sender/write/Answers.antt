@@ -23,13 +23,16 @@ pub returns-then-not-has-clause-call : goal.returns-then-not-has-clause-call
 returns-then-not-has-clause-call g c =
     let limit = c.limit.ensures.limit ∙ ap (λ (k : Shape g.row.T.Denot). k.limit) c.plan.ensures.plan in let below = c.if-sequence-limit.false in
     let o = c.self.inside.owned in let tokens = c.self.inside.tokens.items in
-    subst (λ (x : SenderEnd g.row.T.Denot). WriteCall x c.args.sequence c.args.event (sender_end c.refusal.new.self o tokens) (Err c.refusal.result)) c.self.view_is
-    (write_refused c.self.inside.station o _ c.args.sequence tokens c.args.event c.self.invariant c.refusal.new.self c.refusal.result (omega arith) (sym c.if-not-has.ensures) c.refusal.ensures)
+    subst (λ (x : SenderEnd g.row.T.Denot). WriteCall x c.args.sequence c.args.event (sender_end c.refusal.new.self o tokens) (Err c.refusal.result))
+    c.self.view_is
+    (write_refused c.self.inside.station o _ c.args.sequence tokens c.args.event c.self.invariant
+    c.refusal.new.self c.refusal.result (omega arith) (sym c.if-not-has.ensures) c.refusal.ensures)
 
 pub returns-then-is_published-clause-call : goal.returns-then-is_published-clause-call
 returns-then-is_published-clause-call g c =
     subst (λ (x : SenderEnd g.row.T.Denot). WriteCall x c.args.sequence c.args.event x (Err AlreadyPublished)) c.self.view_is
-    (write_late c.self.inside.station c.self.inside.owned _ c.args.sequence c.self.inside.tokens.items c.args.event c.self.invariant (sym c.if-not-has.ensures) (sym c.if-is_published.ensures))
+    (write_late c.self.inside.station c.self.inside.owned _ c.args.sequence c.self.inside.tokens.items
+    c.args.event c.self.invariant (sym c.if-not-has.ensures) (sym c.if-is_published.ensures))
 
 pub invariant_of-self-2 : goal.invariant_of-self-2
 invariant_of-self-2 g c =
@@ -38,7 +41,8 @@ invariant_of-self-2 g c =
     let strip = c.cells-cells.ensures ∙ ap (λ (k : Shape g.row.T.Denot). k.strip) c.plan-2.ensures.plan in
     let token = c.write_in.ensures ∙ ap (λ (p : Ptr). let t : Token g.row.T.Denot = token_at p place (whole event) in t) strip in
     let put = c.put_at.ensures.row ∙ (λ i. set (c.put_at-token.ensures.row i) place (token i)) in
-    fits_write c.self.inside.station c.self.inside.owned _ c.args.sequence place c.self.inside.tokens.items c.put_at.new.row.items c.blank.result event c.self.invariant size
+    fits_write c.self.inside.station c.self.inside.owned _ c.args.sequence place
+    c.self.inside.tokens.items c.put_at.new.row.items c.blank.result event c.self.invariant size
     (sym c.if-not-has.ensures) (sym c.if-is_published.ensures) c.place-place.ensures.place put c.write.new.self c.write.ensures
 
 pub returns-clause-call : goal.returns-clause-call
