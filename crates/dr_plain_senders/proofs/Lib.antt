@@ -74,3 +74,4 @@ pub mod Told
 pub mod Later
 pub mod Shutting
 pub mod Crossing
+pub mod Parameters

@@ -79,12 +79,8 @@ fn senders<T: Drop>(
             number,
             looks: 0,
         };
-        senders.push(Sender {
-            station,
-            owned,
-            end: 0,
-            tokens,
-        })?;
+        let sender = Sender::of(station, owned, 0, tokens);
+        senders.push(sender)?;
         rest = next;
     }
     Ok((senders, rest))
@@ -115,12 +111,8 @@ fn receivers<T: Drop>(
             number,
             looks: 0,
         };
-        receivers.push(Receiver {
-            station,
-            taken: 0,
-            completed: 0,
-            parts,
-        })?;
+        let receiver = Receiver::of(station, 0, 0, parts);
+        receivers.push(receiver)?;
         rest = next;
     }
     Ok(receivers)
@@ -161,12 +153,7 @@ fn assemble<T: Drop>(
     let rest = ring.table.shared.split_seat::<Cut>(&mut seat);
     let (senders, rest) = senders(&ring, rest, rooms.marks, rooms.tokens, lists.senders)?;
     let receivers = receivers(&ring, rest, rooms.parts, lists.receivers)?;
-    let halter = Halter {
-        ring,
-        seat,
-        strip,
-        gathered: rooms.gathered,
-    };
+    let halter = Halter::of(ring, seat, strip, rooms.gathered);
     Ok((senders, receivers, halter))
 }
 
