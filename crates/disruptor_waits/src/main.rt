@@ -9,7 +9,7 @@
 //! `rate STRATEGY THOUSANDS CUT` sends so many thousand events through handlers that do nothing, as fast as they take
 //! them, in claims of up to CUT. How long that took stands on standard error.
 //!
-//! `idle STRATEGY SECONDS` leaves the same handlers without an event for so long, for who measures what that costs.
+//! `idle STRATEGY SECONDS` leaves the same handlers without an event for so long, so that you can measure what that costs.
 //!
 //! `latency EXCHANGE STRATEGY EVENTS NANOS` sends an event each so many nanoseconds through `ring`, `plain` or
 //! `plain-senders`, and prints how many nanoseconds each took through three handlers. `--check` runs a little of each but
