@@ -6,6 +6,7 @@ from dataclasses import dataclass, field
 
 FUNCTION = re.compile(r'^([ \t]*)(?:pub(?:\([\w: ]+\))? )?(?:(?:const|unsafe|extern "C") )*fn (\w+)', re.M)
 OWNER = re.compile(r"^(?:pub )?(?:unsafe )?(?:impl|trait)\b[^\n{]*", re.M)
+TRAIT = re.compile(r"(?:pub )?(?:unsafe )?trait\b")
 TYPE = re.compile(r"^(?:pub(?:\([\w: ]+\))? )?(?:struct|enum|union|trait) (\w+)", re.M)
 # What no check admits, since it cites what nothing declares: an error of a name, which refuses no edit.
 NOWHERE = "\nno-offers : nowhere\nno-offers = nothing\n"
@@ -79,6 +80,8 @@ def owner_of(head):
     """Returns the name by which `rt` tells the methods of an `impl` or a trait: that of the type and then, of the trait and the
     types that it is at, each name but those of parameters. A type that is itself a parameter is `Any`."""
     head = re.sub(r"'\w+|\bwhere\b.*|^(?:pub )?(?:unsafe )?", "", head).strip()
+    if not head:
+        return ""
     if head.startswith("trait"):
         return re.match(r"trait\s+(\w+)", head)[1]
     generics, head = generics_of(head.removeprefix("impl").strip())
@@ -116,6 +119,12 @@ def name_of(path):
     return word[:1].upper() + word[1:]
 
 
+def head_of(text, function):
+    """Returns the head of what a function, as `FUNCTION` found it, stands in, or nothing."""
+    heads = [it[0] for it in OWNER.finditer(text) if it.start() < function.start()] if function[1] else []
+    return heads[-1] if heads else ""
+
+
 def function_at(text, at):
     """Returns the owner and the name of the function whose body has this place, or None."""
     found = [it for it in FUNCTION.finditer(text) if it.start() < at]
@@ -125,8 +134,13 @@ def function_at(text, at):
     end = re.compile(rf"^{last[1]}\}}", re.M).search(text, last.end())
     if not end or end.start() < at:
         return None
-    heads = [it for it in OWNER.finditer(text) if it.start() < last.start()] if last[1] else []
-    return owner_of(heads[-1][0]) if heads else "", last[2]
+    return owner_of(head_of(text, last)), last[2]
+
+
+def functions_of(file, text):
+    """Returns the functions of a file, but for those of traits, as files, owners and names."""
+    found = [(head_of(text, it), it[2]) for it in FUNCTION.finditer(text)]
+    return [(file, owner_of(head), name) for head, name in found if not TRAIT.match(head)]
 
 
 def place(edit, folder):
@@ -195,13 +209,14 @@ def go_together(one, other):
     return one.judge == other.judge and "" not in (one.judge, one.goal, other.goal) and one.goal != other.goal
 
 
-def forget(edits, kept):
-    """Removes from what is kept each file that has the name of a function that the edits change, whichever of that name it is of."""
-    names = {name for edit in edits for _, _, name in edit.functions}
+def forget(edits, kept, texts):
+    """Removes from what is kept each file of the proof of a function that the edits change, or of a closure in it."""
+    paths = [proof_of(it, texts).split("/") for edit in edits for it in edit.functions]
+    ends = [re.escape(".".join(it)) for one in paths for it in (one, [*one[:-1], "fn", one[-1]])]
+    own = re.compile(rf"\b(?:{'|'.join(ends)})\.")
     for at, _, files in os.walk(kept):
-        for it in files:
-            if names.intersection(re.split("[.+-]+", it)):
-                os.remove(f"{at}/{it}")
+        for it in filter(own.search, files):
+            os.remove(f"{at}/{it}")
 
 
 def texts_of(folder):

@@ -29,6 +29,7 @@ others_in() {
 others=$(
     others_in crates/dr_ring/src
     for ring in dr_plain dr_plain_senders; do others_in crates/$ring/src; done | grep -v '[.]exchange('
+    grep -rnE "$calls|$ends" crates/dr_lent/src --include='*.rt' | grep -v '[.]exchange('
 )
 if [ -n "$others" ]; then
     printf 'a load or store that is no step of the laws, or a store that its contract does not tell:\n%s\n' "$others"

@@ -13,8 +13,8 @@ once more, alone; and what that does not tell, nor that a proof file which cites
 a check of the whole crate. Each edit has a line that names the goal that refused it, and the last line is `N refused, M not`.
 
 First each crate is proved as it is, over what earlier runs kept. With `--over` that is `rt ci`'s part: a crate's edits are
-tried once `rt ci` has proved it. The libraries that it leaves hold statements alone, so the first check of a crate's edits begins
-from nothing, and each one after it takes what those before it kept of the crate as it is.
+tried once `rt ci` has proved it. The libraries that it leaves hold statements alone, so a check of edits begins with no proof of the
+crate. It needs none either but those of the functions that it asks of: those of others, and of lemmas, are left open in its copy.
 """
 
 import argparse
@@ -36,7 +36,8 @@ sys.path[:0] = [f"{TOP}/tools", f"{TOP}/tests"]
 import prove  # noqa: E402
 import together  # noqa: E402
 import verdicts  # noqa: E402
-from edits import applied, companies, fault_of, forget, offers_nothing, only, place, read_edit, seconds_of, shared_out  # noqa: E402
+from edits import applied, companies, fault_of, forget, offers_nothing, only, place, read_edit, seconds_of, shared_out, texts_of  # noqa: E402
+from openings import leave_open  # noqa: E402
 
 # In a processor's seconds, how long a check takes before it comes to an edit, how long it is to take in all, and more than any does.
 BEGINS = 12
@@ -49,6 +50,8 @@ PROVED = re.compile(r"^rt: (\w+) (?:proved$|is kept: )", re.M)
 ENDED = re.compile(r"^\d+ passed, \d+ failed", re.M)
 # What a check says that took nothing of what is kept of its crate, and so proved its lemmas once more.
 TOOK_NOTHING = re.compile(r"^crate \w+: modules loaded=0 checked=[1-9]", re.M)
+# What it says where an edit leaves nothing to be dropped of which a proof was left open.
+NO_FUNCTION = re.compile(r"^\S*/Proof\.antt: error: `\w+` has no function .*\n", re.M)
 BY_A_NAME = "only a file of proofs refuses it, which cites a name that the edit took away: change a value and keep the names"
 
 
@@ -74,6 +77,15 @@ class Libraries:
         if os.path.isdir(f"{self.top}/crates/{name}/out/rlib"):
             shutil.copytree(f"{self.top}/crates/{name}/out/rlib", f"{self.room}/{name}", copy_function=prove.link)
 
+    def functions(self, name):
+        """Returns the folders of the proofs of the functions of a crate's library, where there is one."""
+        try:
+            with open(f"{self.room}/{name}/{name}.rlib/toolchain/checked.json", encoding="utf-8") as lines:
+                modules = [it.partition(f"-{name}-proofs.")[2] for it, *_ in map(json.loads, lines)]
+        except (OSError, TypeError, ValueError):
+            return []
+        return [f"proofs/{it.removesuffix('.Code').replace('.', '/')}" for it in modules if it.endswith(".Code")]
+
     def sizes(self, name):
         """Returns the functions of a crate's library by their paths, with the size in MB of what the proof of each begins with."""
         try:
@@ -83,10 +95,10 @@ class Libraries:
             return {}
         return {it.partition("-proofs.")[2].removesuffix(".Lts").replace(".", "::"): length / 1e6 for it, length in begun}
 
-    def check(self, edits, kept, keeps=None, is_short=False, is_of_all=False):
+    def check(self, edits, kept, keeps=None, is_short=False, is_of_all=False, is_open=False):
         """Checks the functions of these edits in a copy of their crate to which it applies them, over what is kept, and returns what is
         said. What it kept goes to keeps besides what that has, but nothing of a function that it changed. A short check offers no
-        answers; one of all looks at every function of the crate."""
+        answers; one of all looks at every function of the crate; and an open one takes other functions and lemmas as they are stated."""
         name = edits[0].crate
         with together.folder("wrong-") as room:
             for it in prove.SOURCES:
@@ -96,14 +108,17 @@ class Libraries:
                 shutil.copytree(kept, f"{room}/kept", copy_function=prove.link)
             for it in edits:
                 applied(it, room)
+            if is_open:
+                leave_open(edits, room, self.functions(name))
             if is_short:
                 offers_nothing(edits, room)
-            said = together.said_by([*self.words(name), *([] if is_of_all else only(edits))], room)[1]
+            asked = [*([] if is_of_all else only(edits)), *["--allow-holes"] * is_open]
+            said = NO_FUNCTION.sub("", together.said_by([*self.words(name), *asked], room)[1])
             # (where a file of these is of no function that it knows)
             if is_short and "error: rattle does not read this file" in said:
-                return self.check(edits, kept, keeps)
+                return self.check(edits, kept, keeps, is_open=is_open)
             if keeps and os.path.isdir(f"{room}/kept"):
-                forget(edits, f"{room}/kept")
+                forget(edits, f"{room}/kept", texts_of(room))
                 share(f"{room}/kept", keeps)
         return said
 
@@ -178,7 +193,8 @@ class Crate:
 
     def __init__(self, top, name):
         self.refused, self.failed, self.bodies, self.others, self.untold = {}, {}, [], [], []
-        self.kept, self.sizes = "", {}
+        # What is kept of it as it is proved, or, where that is nothing, with proofs left open.
+        self.kept, self.is_open, self.sizes = "", False, {}
         folder = f"{top}/crates/{name}"
         for it in sorted(os.listdir(f"{folder}/wrong")):
             edit = read_edit(name, f"{folder}/wrong/{it}")
@@ -233,7 +249,7 @@ class Trial:
                 crate.untold = [*crate.bodies, *crate.others]
             else:
                 bodies, others = crate.lists()
-                self.add([*bodies, *others], crate.kept)
+                self.add([*bodies, *others])
 
     def note_proved(self, name):
         """Notes that a crate is proved, and takes its library for the crates above and for the sizes of its functions."""
@@ -252,46 +268,55 @@ class Trial:
                 for name in [it for it in self.all if it in PROVED.findall(words) and it not in self.proved]:
                     self.note_proved(name)
                     if crate := self.crates.get(name):
-                        crate.kept = f"{self.room}/{name}"
+                        crate.kept, crate.is_open = f"{self.room}/{name}", True
                         self.lanes.add(-MANY, functools.partial(self.begin, name))
         finally:
             self.lanes.release()
 
     def begin(self, name):
         """Has the longest check of bodies begin from nothing, and then the others, each over what those before it kept."""
-        crate = self.crates[name]
-        bodies, others = crate.lists()
+        bodies, others = self.crates[name].lists()
         first, *rest = sorted(bodies, key=self.seconds, reverse=True)
-        self.attempt(first, None, True, crate.kept)
-        self.add(rest, crate.kept, keeps=crate.kept)
-        self.add(others, crate.kept)
+        self.attempt(first)
+        self.add([*rest, *others])
 
-    def add(self, groups, kept, is_short=True, keeps=None):
+    def add(self, groups, is_short=True):
         for it in groups:
-            self.lanes.add(-self.seconds(it), functools.partial(self.attempt, it, kept, is_short, keeps))
+            self.lanes.add(-self.seconds(it), functools.partial(self.attempt, it, is_short))
 
     def seconds(self, edits):
         """Returns about how long a check of these edits takes."""
         return BEGINS + sum(self.crates[it.crate].seconds(it) for it in edits)
 
-    def attempt(self, edits, kept, is_short, keeps=None):
-        """Has one short check judge these edits, and then each of which it does not tell a whole one of its own."""
-        said = self.libraries.check(edits, kept, keeps, is_short=is_short)
-        if kept and TOOK_NOTHING.search(said):
-            self.told(f"{edits[0].crate}: a check of {len(edits)} edits took nothing of what is kept of the crate")
-        kept = kept or keeps
+    def attempt(self, edits, is_short=True):
+        """Has one short check judge these edits, and then each of which it does not tell a longer one of its own."""
+        crate = self.crates[edits[0].crate]
+        # An edit of what lemmas are about may make one of them false, with which all is proved.
+        said = self.said_of(edits, crate.is_open and (is_short or edits[0].is_of_a_body), is_short=is_short)
         for edit in edits:
             if goal := verdicts.verdict(said, edit):
                 self.note(edit, goal)
-            elif is_short and edit.functions:
-                self.add([[edit]], kept, is_short=False)
+            elif is_short and (edit.functions or crate.is_open and only(edits)):
+                self.add([[edit]], is_short=False)
             elif verdicts.is_by_names(said) or not only(edits):
                 self.judge(edit, said)
             else:
-                self.lanes.add(-self.seconds([edit]), functools.partial(self.try_whole, edit, kept))
+                self.lanes.add(-self.seconds([edit]), functools.partial(self.try_whole, edit))
 
-    def try_whole(self, edit, kept):
-        self.judge(edit, self.libraries.check([edit], kept, is_of_all=True))
+    def try_whole(self, edit):
+        self.judge(edit, self.said_of([edit], False, is_of_all=True))
+
+    def said_of(self, edits, is_open, **how):
+        """Checks edits over what such checks kept of their crate, and keeps what is of use to others."""
+        crate = self.crates[edits[0].crate]
+        is_open &= bool(only(edits))
+        keeps = crate.kept if is_open == crate.is_open else f"{crate.kept}-whole"
+        kept = keeps if os.path.isdir(keeps) else None
+        is_of_use = crate.is_open and all(it.is_of_a_body for it in edits)
+        said = self.libraries.check(edits, kept, keeps if is_of_use else None, is_open=is_open, **how)
+        if kept and TOOK_NOTHING.search(said):
+            self.told(f"{edits[0].crate}: a check of {len(edits)} edits took nothing of what is kept of the crate")
+        return said
 
     def judge(self, edit, said):
         """Has the last check of an edit judge it, which is one of the whole crate if that of its functions did not tell."""

@@ -2,7 +2,7 @@
 """Tests of `wrong_bodies.py` over a crate of five functions, made in a folder of its own: which edits it takes as refused, over
 the library that `rt lib` built and beside an `rt ci` whose words are written here, and by `rt must-fail` alone. In which order it
 has which checks it shows without `rt`, by answers that stand here for those of checks. And of what it stands on: which errors are a
-name's, which edits one check tries, and that commands end with the process that started them."""
+name's, which edits one check tries, what such a check leaves open, and that commands end with the process that started them."""
 
 import os
 import signal
@@ -14,6 +14,7 @@ sys.dont_write_bytecode = True
 sys.path.insert(0, os.path.dirname(os.path.abspath(__file__)))
 import wrong_bodies  # noqa: E402
 from edits import Edit, companies, seconds_of, shared_out  # noqa: E402
+from openings import lemmas_open  # noqa: E402
 from wrong_bodies import together, verdicts  # noqa: E402
 
 SOURCE = """#![tactic(auto)]
@@ -77,6 +78,28 @@ use Rattle.toy.proofs.six_times.Goals as goal
 pub returns : goal.returns
 returns c = thrice c.twice-double.result c.args.n c.twice-double.ensures
 """
+# A file of proofs with a lemma in a module, and two that others see into, and the bodies that a check leaves open.
+LEMMAS_OF_A_MODULE = """use Rattle.std.proofs.Common.{◌≡◌, ℕ, refl}
+
+abbrev pub same : ℕ → ℕ
+same n = n
+
+half : ℕ → ℕ
+half zero = zero
+
+pub by_half : half zero ≡ zero
+unfolding half
+by_half = refl
+
+module _ (n : ℕ) where
+  -- by clauses
+  pub is_itself : (k : ℕ)
+      → k ≡ k
+  is_itself zero = refl
+  is_itself (suc k) =
+      refl
+"""
+LEFT_OPEN = {"by_half = refl\n": "by_half = ?\n", "  is_itself zero = refl\n  is_itself (suc k) =\n      refl\n": "  is_itself = ?\n\n"}
 # Each edit by its name: the file, the old text, the new one, and what its line has to say.
 EDITS = {
     "adds_one": ("src/lib.rt", "    n + n", "    n + n + 1", "refused by twice, goal"),
@@ -182,22 +205,35 @@ def over_answers(top):
     names, asked = list(ANSWERED), []
     made_in(top, names)
 
-    def check(_, edits, kept, keeps=None, is_short=False, is_of_all=False):
-        asked.append(([it.name for it in edits], bool(kept), bool(keeps), is_short, is_of_all))
+    def check(_, edits, kept, keeps=None, is_short=False, is_of_all=False, is_open=False):
+        asked.append(([it.name for it in edits], bool(kept), bool(keeps), is_open, is_short, is_of_all))
+        os.makedirs(keeps if is_open else top, exist_ok=True)
         return "\n" + "".join(ANSWERED[it.name] for it in edits if is_of_all or it.name != "means_the_same")
 
     of_rt, wrong_bodies.Libraries.check = wrong_bodies.Libraries.check, check
     failed = failures(top, {it: (EDITS | MORE)[it][3] for it in names}, "3 refused, 2 not", "rt: toy proved\n")
     failed += failures(top, {"leaves_all": "toy is not proved"}, "0 refused, 5 not", "rt: toy NOT PROVED\n0 passed, 1 failed\n")
     wrong_bodies.Libraries.check = of_rt
-    first = [(["leaves_all", "means_the_same"], False, True, True, False)]
-    rest = [([it], True, False, True, False) for it in ("changes_a_lemma", "is_of_a_test")]
-    rest += [(["leaves_half"], True, True, True, False)]
-    rest += [(["means_the_same"], True, False, False, is_of_all) for is_of_all in (False, True)]
+    first = [(["leaves_all", "means_the_same"], False, True, True, True, False)]
+    rest = [([it], False, False, False, True, False) for it in ("changes_a_lemma", "is_of_a_test")]
+    rest += [(["leaves_half"], True, True, True, True, False), (["means_the_same"], True, True, True, False, False)]
+    rest += [(["means_the_same"], False, True, False, False, True)]
     if asked[:1] != first or sorted(asked[1:]) != sorted(rest):
         failed += 1
         print(f"FAILED: these checks came: {asked}")
     return failed
+
+
+def lemmas_closed():
+    """Returns how many files of proofs a check would read otherwise than with their lemmas left open."""
+    wanted = LEMMAS_OF_A_MODULE
+    for one, other in LEFT_OPEN.items():
+        wanted = wanted.replace(one, other)
+    found = lemmas_open(LEMMAS_OF_A_MODULE, {"half"})
+    if found == wanted:
+        return 0
+    print(f"FAILED: how lemmas are left open: {found}")
+    return 1
 
 
 def lists_apart():
@@ -260,7 +296,7 @@ def main():
         if not ends_all(number):
             failed += 1
             print(f"FAILED: what was started goes on after signal {number}")
-    failed += lists_apart()
+    failed += lists_apart() + lemmas_closed()
     for tries in (over_answers, over_a_library):
         with together.folder("toy-") as top:
             failed += tries(top)

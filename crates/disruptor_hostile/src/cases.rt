@@ -7,10 +7,8 @@ use crate::core_calls::{tell_opened, tell_run};
 use crate::fault::Fault;
 use crate::parts::tell_parts;
 use crate::plain_calls::{tell_plain, tell_plain_ends};
-use crate::plain_dropping::tell_plain_dropped;
+use crate::plain_rings::{ONE_SENDER, TOGETHER, TWO_SENDERS, tell_rings};
 use crate::plain_senders_calls::tell_plain_senders_ends;
-use crate::plain_senders_dropping::tell_plain_senders_dropped;
-use crate::plain_senders_making::tell_plain_senders;
 use crate::recording::{tell_calls, tell_recorded};
 use crate::ring_calls::tell_ring;
 use crate::scripts::tell_scripts;
@@ -137,9 +135,9 @@ fn tell_once<R: Print + Threads + Wait + Copy + Send + 'static>(
         Case::Record => tell_recorded(rt, alloc),
         Case::Ring => tell_ring(rt, alloc),
         Case::Plain => tell_plain(rt, alloc),
-        Case::PlainDropped => tell_plain_dropped(rt, alloc),
-        Case::PlainSenders => tell_plain_senders(rt, alloc),
-        Case::PlainSendersDropped => tell_plain_senders_dropped(rt, alloc),
+        Case::PlainDropped => tell_rings(rt, alloc, &ONE_SENDER),
+        Case::PlainSenders => tell_rings(rt, alloc, &TOGETHER),
+        Case::PlainSendersDropped => tell_rings(rt, alloc, &TWO_SENDERS),
         Case::Run => tell_run(rt, alloc),
         Case::Call => tell_calls(rt, alloc),
         Case::Audit => tell_audits(rt, alloc),

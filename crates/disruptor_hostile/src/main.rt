@@ -14,6 +14,7 @@ mod graphs;
 mod parts;
 mod plain_calls;
 mod plain_dropping;
+mod plain_rings;
 mod plain_senders_calls;
 mod plain_senders_dropping;
 mod plain_senders_making;

@@ -11,7 +11,7 @@ use crate::taking_none::tell_memory;
 use crate::telling::{tell_about, tell_both, tell_value, tell_words};
 use dr_graph::Graph;
 use dr_meaning::MAX_LIMIT;
-use dr_plain::{Halter, Receiver, Sender, Settled, Values, finish, ring};
+use dr_plain::{Halter, Receiver, Sender, Values, finish, ring};
 use dr_seq::{Event, Size};
 use std::alloc::Global;
 
@@ -89,13 +89,15 @@ fn tell_open<R: Print>(rt: &R, ends: &mut Ends) -> Result<(), Fault> {
     tell_calls(rt, ends)
 }
 
-fn tell_settled<R: Print>(
+/// How far a ring came, and the events of its four cells, when its ends came together. That took no memory.
+pub fn tell_back<R: Print>(
     rt: &R,
     alloc: Global,
-    settled: &Settled,
+    claimed: u64,
+    handlers: usize,
     events: &mut Values<Event>,
 ) -> Result<(), Fault> {
-    tell_both(rt, settled.claimed(), settled.handlers())?;
+    tell_both(rt, claimed, handlers)?;
     for _ in 0..5 {
         tell_value(rt, events.next())?;
     }
@@ -107,7 +109,8 @@ fn tell_finished<R: Print>(rt: &R, alloc: Global, ends: Ends) -> Result<(), Faul
     requires { AreAllEnds ends.sender ends.receivers.items × IsHalterOf ends.sender ends.halter }
 {
     let (settled, mut events) = finish(ends.sender, ends.receivers, ends.halter);
-    tell_settled(rt, alloc, &settled, &mut events)
+    let (claimed, handlers) = (settled.claimed(), settled.handlers());
+    tell_back(rt, alloc, claimed, handlers, &mut events)
 }
 
 fn tell_ring_over<R: Print>(rt: &R, alloc: Global, graph: &Graph) -> Result<(), Fault> {
@@ -126,25 +129,16 @@ pub fn tell_plain<R: Print>(rt: &R, alloc: Global) -> Result<(), Fault> {
     tell_ring_of(rt, alloc, &graph)
 }
 
-// Every call of a ring's ends, when those of another are there to be brought together.
-fn tell_both_rings<R: Print>(
-    rt: &R,
-    alloc: Global,
-    ends: &mut Ends,
-    other: Ends,
-) -> Result<(), Fault>
-    requires { AreAllEnds other.sender other.receivers.items × IsHalterOf other.sender other.halter }
-{
-    match tell_open(rt, ends) {
-        Ok(()) => tell_finished(rt, alloc, other),
-        Err(fault) => Err(fault),
-    }
+fn tell_open_ring<R: Print>(rt: &R, alloc: Global, graph: &Graph) -> Result<(), Fault> {
+    let mut ends = opened(alloc, graph)?;
+    tell_open(rt, &mut ends)
 }
 
+// The ends of another ring are there before.
 fn tell_ends_of<R: Print>(rt: &R, alloc: Global, graph: &Graph) -> Result<(), Fault> {
     let other = opened(alloc, graph)?;
-    match opened(alloc, graph) {
-        Ok(mut ends) => tell_both_rings(rt, alloc, &mut ends, other),
+    match tell_open_ring(rt, alloc, graph) {
+        Ok(()) => tell_finished(rt, alloc, other),
         Err(fault) => Err(fault),
     }
 }

@@ -6,11 +6,11 @@ ghost use Rattle.dr_plain_senders.specs.Calls.Settling.{AreAllEnds};
 use crate::core_calls::word;
 use crate::fault::Fault;
 use crate::graphs::diamond;
+use crate::plain_calls::tell_back;
 use crate::plain_senders_making::{Ends, opened};
-use crate::taking_none::tell_memory;
-use crate::telling::{tell_about, tell_both, tell_value, tell_words};
+use crate::telling::{tell_about, tell_value, tell_words};
 use dr_graph::Graph;
-use dr_plain_senders::{Receiver, Sender, Settled, Values, finish};
+use dr_plain_senders::{Receiver, Sender, finish};
 use dr_seq::Event;
 use std::alloc::Global;
 
@@ -95,46 +95,25 @@ fn tell_open<R: Print>(rt: &R, ends: &mut Ends<Event>) -> Result<(), Fault> {
     tell_draining(rt, &mut ends.receivers)
 }
 
-fn tell_settled<R: Print>(
-    rt: &R,
-    alloc: Global,
-    settled: &Settled<Event>,
-    events: &mut Values<Event>,
-) -> Result<(), Fault> {
-    tell_both(rt, settled.claimed(), settled.handlers())?;
-    for _ in 0..5 {
-        tell_value(rt, events.next())?;
-    }
-    tell_memory(rt, alloc)
-}
-
 // Brings the ends of a ring together, and tells what came back.
 fn tell_finished<R: Print>(rt: &R, alloc: Global, ends: Ends<Event>) -> Result<(), Fault>
     requires { AreAllEnds ends.senders.items ends.receivers.items ends.halter }
 {
     let (settled, mut events) = finish(ends.senders, ends.receivers, ends.halter);
-    tell_settled(rt, alloc, &settled, &mut events)
+    let (claimed, handlers) = (settled.claimed(), settled.handlers());
+    tell_back(rt, alloc, claimed, handlers, &mut events)
 }
 
-// Every call of a ring's ends, when those of another are there to be brought together.
-fn tell_both_rings<R: Print>(
-    rt: &R,
-    alloc: Global,
-    ends: &mut Ends<Event>,
-    other: Ends<Event>,
-) -> Result<(), Fault>
-    requires { AreAllEnds other.senders.items other.receivers.items other.halter }
-{
-    match tell_open(rt, ends) {
-        Ok(()) => tell_finished(rt, alloc, other),
-        Err(fault) => Err(fault),
-    }
+fn tell_open_ring<R: Print>(rt: &R, alloc: Global, graph: &Graph) -> Result<(), Fault> {
+    let mut ends = opened_over_four(alloc, graph)?;
+    tell_open(rt, &mut ends)
 }
 
+// The ends of another ring are there before.
 fn tell_ends_of<R: Print>(rt: &R, alloc: Global, graph: &Graph) -> Result<(), Fault> {
     let other = opened_over_four(alloc, graph)?;
-    match opened_over_four(alloc, graph) {
-        Ok(mut ends) => tell_both_rings(rt, alloc, &mut ends, other),
+    match tell_open_ring(rt, alloc, graph) {
+        Ok(()) => tell_finished(rt, alloc, other),
         Err(fault) => Err(fault),
     }
 }

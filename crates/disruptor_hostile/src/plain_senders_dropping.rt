@@ -1,12 +1,9 @@
-//! Rings over plain memory with several senders, whose ends are dropped, in several orders, and never
-//! brought together.
+//! A ring over plain memory with several senders is used, and its ends are dropped.
 
-use crate::again::again;
 use crate::fault::Fault;
-use crate::graphs::{diamond, tell_graph};
-use crate::plain_dropping::Turn;
-use crate::plain_senders_making::{Counted, Ends, are_dropped, four_numbers, opened_over};
-use crate::telling::{tell_about, tell_value};
+use crate::plain_rings::{Turn, drop_in_turn};
+use crate::plain_senders_making::{Counted, Ends, opened_over};
+use crate::telling::tell_value;
 use dr_graph::Graph;
 use dr_plain_senders::Sender;
 use std::alloc::Global;
@@ -20,8 +17,9 @@ fn tell_sending<R: Print>(
     last: u64,
 ) -> Result<(), Fault> {
     tell_value(rt, sender.try_claim(2))?;
-    tell_value(rt, sender.update(lo, |_event| ()))?;
-    tell_value(rt, sender.update(last, |_event| ()))?;
+    for s in [lo, last] {
+        tell_value(rt, sender.update(s, |_event| ()))?;
+    }
     tell_value(rt, sender.publish(lo, last))
 }
 
@@ -45,40 +43,8 @@ fn tell_used<R: Print>(rt: &R, ends: &mut Ends<Counted>) -> Result<(), Fault> {
     Ok(())
 }
 
-fn drop_between(ends: Ends<Counted>) {
-    let Ends {
-        mut senders,
-        mut receivers,
-        halter,
-    } = ends;
-    drop(receivers.pop());
-    drop(senders.pop());
-    drop(halter);
-    drop(receivers);
-    drop(senders);
-}
-
-fn drop_in_turn(ends: Ends<Counted>, turn: Turn) {
-    if matches!(turn, Turn::Between) {
-        return drop_between(ends);
-    }
-    let Ends {
-        senders,
-        receivers,
-        halter,
-    } = ends;
-    if matches!(turn, Turn::First) {
-        drop(senders);
-        drop(receivers);
-        drop(halter);
-    } else {
-        drop(halter);
-        drop(receivers);
-        drop(senders);
-    }
-}
-
-fn tell_turn<R: Print>(
+/// The ends of such a ring are used, and dropped.
+pub fn tell_plain_senders_used<R: Print>(
     rt: &R,
     alloc: Global,
     graph: &Graph,
@@ -86,30 +52,8 @@ fn tell_turn<R: Print>(
     turn: Turn,
 ) -> Result<(), Fault> {
     let mut ends = opened_over(alloc, graph, numbers)?;
-    tell_used(rt, &mut ends)?;
-    drop_in_turn(ends, turn);
-    tell_about(rt, "dropped", are_dropped(numbers))
-}
-
-fn tell_rings_of<R: Print>(
-    rt: &R,
-    alloc: Global,
-    graph: &Graph,
-    numbers: &[Arc<u64>],
-) -> Result<(), Fault> {
-    again!(rt, tell_turn(rt, alloc, graph, numbers, Turn::First));
-    again!(rt, tell_turn(rt, alloc, graph, numbers, Turn::Between));
-    again!(rt, tell_turn(rt, alloc, graph, numbers, Turn::Last));
-    tell_graph(rt, graph)
-}
-
-fn tell_rings<R: Print>(rt: &R, alloc: Global, graph: &Graph) -> Result<(), Fault> {
-    let numbers = four_numbers(alloc)?;
-    tell_rings_of(rt, alloc, graph, numbers.as_slice())
-}
-
-/// Makes rings, and drops their ends, one by one.
-pub fn tell_plain_senders_dropped<R: Print>(rt: &R, alloc: Global) -> Result<(), Fault> {
-    let graph = diamond(alloc)?;
-    tell_rings(rt, alloc, &graph)
+    let told = tell_used(rt, &mut ends);
+    let one = ends.senders.pop();
+    drop_in_turn(turn, one, ends.senders, ends.receivers, ends.halter);
+    told
 }

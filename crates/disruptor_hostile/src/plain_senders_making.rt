@@ -4,9 +4,7 @@
 ghost use Rattle.std.specs.Prelude.{IfOk};
 ghost use Rattle.dr_plain_senders.specs.Calls.Settling.{AreAllEnds};
 
-use crate::again::again;
 use crate::fault::Fault;
-use crate::graphs::{diamond, tell_graph};
 use crate::telling::{tell_about, tell_both, tell_words};
 use dr_graph::Graph;
 use dr_meaning::MAX_LIMIT;
@@ -130,7 +128,8 @@ fn tell_back<R: Print>(rt: &R, ends: Ends<Counted>, count: usize) -> Result<(), 
     tell_some(rt, &settled, &mut events, count)
 }
 
-fn tell_ring_over<R: Print>(
+/// Makes a ring, brings its ends together, and uses so many of the events that come back.
+pub fn tell_together<R: Print>(
     rt: &R,
     alloc: Global,
     graph: &Graph,
@@ -138,28 +137,5 @@ fn tell_ring_over<R: Print>(
     count: usize,
 ) -> Result<(), Fault> {
     let ends = opened_over(alloc, graph, numbers)?;
-    tell_back(rt, ends, count)?;
-    tell_about(rt, "dropped", are_dropped(numbers))
-}
-
-fn tell_rings_of<R: Print>(
-    rt: &R,
-    alloc: Global,
-    graph: &Graph,
-    numbers: &[Arc<u64>],
-) -> Result<(), Fault> {
-    again!(rt, tell_ring_over(rt, alloc, graph, numbers, 4));
-    again!(rt, tell_ring_over(rt, alloc, graph, numbers, 2));
-    tell_graph(rt, graph)
-}
-
-fn tell_rings<R: Print>(rt: &R, alloc: Global, graph: &Graph) -> Result<(), Fault> {
-    let numbers = four_numbers(alloc)?;
-    tell_rings_of(rt, alloc, graph, numbers.as_slice())
-}
-
-/// Makes rings, and brings the ends of each together.
-pub fn tell_plain_senders<R: Print>(rt: &R, alloc: Global) -> Result<(), Fault> {
-    let graph = diamond(alloc)?;
-    tell_rings(rt, alloc, &graph)
+    tell_back(rt, ends, count)
 }

@@ -152,59 +152,68 @@ fn output_option<'a>(alloc: Global) -> Arg<'a> {
         .help(OUTPUT)
 }
 
-fn check_command<'a>(alloc: Global) -> Result<Command<'a>, AllocError> {
-    let tool = Arg::new(alloc, "tool")
+// The word that names the file.
+fn file_word<'a>(alloc: Global, help: &'a str) -> Arg<'a> {
+    Arg::new(alloc, "file")
+        .value_name("FILE")
+        .help(help)
+        .required(true)
+}
+
+fn tool_word<'a>(alloc: Global) -> Arg<'a> {
+    Arg::new(alloc, "tool")
         .value_name("TOOL")
         .help(TOOL)
         .value_parser(TOOLS)
-        .required(true);
-    let file = Arg::new(alloc, "file")
-        .value_name("FILE")
-        .help(CHECKED)
-        .required(true);
-    Command::new(alloc, "check")
-        .about(CHECK)
-        .after_help(CHECK_EXAMPLE)
-        .arg(tool)?
-        .arg(file)
+        .required(true)
 }
 
-fn replay_command<'a>(alloc: Global) -> Result<Command<'a>, AllocError> {
-    let size = Arg::new(alloc, "size")
+fn size_option<'a>(alloc: Global) -> Arg<'a> {
+    Arg::new(alloc, "size")
         .long("size")
         .value_name("N")
         .help(SIZE)
         .value_parser(value_parser!(u64))
-        .default_value("1024");
-    let by = Arg::new(alloc, "by")
+        .default_value("1024")
+}
+
+fn by_option<'a>(alloc: Global) -> Arg<'a> {
+    Arg::new(alloc, "by")
         .long("by")
         .value_name("WAY")
         .help(BY)
         .value_parser(WAYS)
-        .default_value("plain");
-    let file = Arg::new(alloc, "file")
-        .value_name("FILE")
-        .help(EVENTS)
-        .required(true);
-    Command::new(alloc, "replay")
-        .about(REPLAY)
-        .after_help(REPLAY_EXAMPLE)
-        .arg(size)?
-        .arg(by)?
-        .arg(output_option(alloc))?
-        .arg(file)
+        .default_value("plain")
 }
 
-fn command<'a>(alloc: Global) -> Result<Command<'a>, AllocError> {
-    let file = Arg::new(alloc, "file")
-        .value_name("FILE")
-        .help(FILE)
-        .required(true);
-    let drive = Command::new(alloc, "drive")
+fn drive_command<'a>(alloc: Global) -> Result<Command<'a>, AllocError> {
+    Command::new(alloc, "drive")
         .about(DRIVE)
         .after_help(EXAMPLE)
         .arg(output_option(alloc))?
-        .arg(file)?;
+        .arg(file_word(alloc, FILE))
+}
+
+fn check_command<'a>(alloc: Global) -> Result<Command<'a>, AllocError> {
+    Command::new(alloc, "check")
+        .about(CHECK)
+        .after_help(CHECK_EXAMPLE)
+        .arg(tool_word(alloc))?
+        .arg(file_word(alloc, CHECKED))
+}
+
+fn replay_command<'a>(alloc: Global) -> Result<Command<'a>, AllocError> {
+    Command::new(alloc, "replay")
+        .about(REPLAY)
+        .after_help(REPLAY_EXAMPLE)
+        .arg(size_option(alloc))?
+        .arg(by_option(alloc))?
+        .arg(output_option(alloc))?
+        .arg(file_word(alloc, EVENTS))
+}
+
+fn command<'a>(alloc: Global) -> Result<Command<'a>, AllocError> {
+    let drive = drive_command(alloc)?;
     Command::new(alloc, "disruptor")
         .about(ABOUT)
         .version(VERSION)

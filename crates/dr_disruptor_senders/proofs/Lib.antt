@@ -9,4 +9,3 @@ pub mod Untroubled
 pub mod Polled
 pub mod Ready
 pub mod Settled
-pub mod Crossing

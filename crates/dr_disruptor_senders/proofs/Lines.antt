@@ -13,7 +13,7 @@ use Rattle.dr_meaning.specs.declared.command.Claimed.{Claimed}
 use Rattle.dr_meaning.specs.Calls.Calling.{InletCall, TriesClaim, WritesOne, WritesMany, PublishesStretch, each_written}
 use Rattle.dr_workers.specs.Meaning.Work.{BeginsPart, Part, sending_of, writing_of}
 use Rattle.dr_runs.proofs.Lists.{at_behind, map_there}
-use Rattle.dr_plain_senders.specs.declared.record.Lent.{Lent}
+use Rattle.dr_lent.specs.declared.lent.Lent.{Lent}
 use Rattle.dr_plain_senders.specs.declared.record.Own.{Own}
 use Rattle.dr_plain_senders.specs.Meaning.Moments.{event_of}
 use Rattle.dr_plain_senders.specs.Meaning.Records.{fresh_own, own_after, own_published, published}

@@ -17,7 +17,7 @@ use Rattle.dr_workers.specs.Meaning.Work.{batches_in}
 use Rattle.dr_runs.specs.declared.look.Look.{Look}
 use Rattle.dr_runs.specs.Looks.{look, offered_by}
 use Rattle.dr_runs.proofs.Elements.{at_index}
-use Rattle.dr_plain_senders.specs.declared.record.Lent.{Lent}
+use Rattle.dr_lent.specs.declared.lent.Lent.{Lent}
 use Rattle.dr_plain_senders.specs.declared.record.MarkLook.{MarkLook}
 use Rattle.dr_plain_senders.specs.Meaning.Records.{mark_look}
 use Rattle.dr_plain_senders.specs.declared.record.ReceiverRecord.{ReceiverRecord}

@@ -16,7 +16,7 @@ use Rattle.dr_meaning.specs.Calls.Ends.{IsEndsAnswer}
 use Rattle.dr_workers.specs.Meaning.Work.{IsSent, accepted_in, accepted_of, sending_of}
 use Rattle.dr_runs.proofs.Elements.{there}
 use Rattle.dr_runs.proofs.Lists.{map_there}
-use Rattle.dr_plain_senders.specs.declared.record.Lent.{Lent}
+use Rattle.dr_lent.specs.declared.lent.Lent.{Lent}
 use Rattle.dr_plain_senders.specs.declared.record.Own.{Own}
 use Rattle.dr_plain_senders.specs.declared.record.SenderRecord.{SenderRecord}
 use Rattle.dr_plain_senders.specs.declared.claiming.ClaimFault.{ClaimFault}

@@ -11,12 +11,19 @@ use crate::exchange::Exchange;
 use crate::recorded::Recorded;
 use dr_meaning::{Command, Reply, Wrote};
 use std::alloc::AllocError;
+use std::hint::spin_loop;
 use std::marker::{Model, PhantomData};
 use std::sync::ledger::{Blank, Ledger, Share};
-use std::sync::{Mutex, Wait};
+use std::sync::{Mutex, MutexGuard, Wait};
 
 /// How many ends a lock gives out at most.
 pub const MAX_ENDS: usize = 64;
+
+// How often a call tries the lock before it sleeps, and how long it pauses between two tries. Another
+// call may hold the lock for some microseconds, and to sleep and be woken takes as long.
+const TRIES: u32 = 10;
+
+const PAUSES: u32 = 50;
 
 /// The parts of the ledger that no end has.
 #[derive(Drop)]
@@ -130,7 +137,7 @@ impl<E: Copy, L: Exchange<E>> Shared<E, L> {
         ensures unchanged { OnErr result (out.new ≡ out.old) }
         ensures end { end.new ≡ handed (handed_out (result_ok result) out.new) (after_call command (result_ok result) end.old) }
     {
-        self.locked.lock(rt).call(end, command, out)
+        held(&self.locked, rt).call(end, command, out)
     }
 
     /// Writes of a producer, one after another while the lock is held once: events go to the
@@ -149,7 +156,24 @@ impl<E: Copy, L: Exchange<E>> Shared<E, L> {
         ensures counts { (end.new.calls ≡ end.old.calls + result.count) × (end.new.halts ≡ end.old.halts) }
         ensures end { end.new ≡ after_calls (writes_asked p lo events.now result) end.old }
     {
-        self.locked.lock(rt).write_all(end, p, lo, events)
+        held(&self.locked, rt).write_all(end, p, lo, events)
+    }
+}
+
+// Takes the lock: it tries for a while, and then waits.
+fn held<'a, T>(lock: &'a Mutex<T>, rt: &impl Wait) -> MutexGuard<'a, T> {
+    for _ in 0..TRIES {
+        if let Some(guard) = lock.try_lock() {
+            return guard;
+        }
+        pause();
+    }
+    lock.lock(rt)
+}
+
+fn pause() {
+    for _ in 0..PAUSES {
+        spin_loop();
     }
 }
 

@@ -12,17 +12,18 @@ use Rattle.dr_cells.specs.Hold.{held}
 use Rattle.dr_seq.proofs.Apart.{slots_differ}
 use Rattle.dr_runs.proofs.Lists.{at_map}
 use Rattle.dr_runs.proofs.Rows.{replicate_at}
+use Rattle.dr_lent.specs.Rows.{cells_of}
+use Rattle.dr_lent.proofs.Lists.{at_slice, set_twice}
+use Rattle.dr_lent.specs.declared.lent.Lent.{Lent}
 use Rattle.dr_plain.specs.Meaning.Shape.{Shape, handlers_of}
 use Rattle.dr_plain.specs.Meaning.Words.{cell_of}
 use Rattle.dr_plain.specs.Meaning.Records.{laid}
-use Rattle.dr_plain.specs.declared.record.Lent.{Lent}
 use Rattle.dr_plain.specs.declared.record.SenderRecord.{SenderRecord}
-use Rattle.dr_plain.specs.Inside.Fits.{Keeps, no_lents, cells_of}
+use Rattle.dr_plain.specs.Inside.Fits.{Keeps, no_lents}
 use Rattle.dr_plain.specs.Inside.Hands.{lent_by}
 use Rattle.dr_plain.specs.Inside.Lending.{laid_between, AreLent, AreWhole, SameBut, lents_of, lent_at}
 use Rattle.dr_plain.proofs.Tokens.{out}
 use Rattle.dr_runs.proofs.Elements.{at_below}
-use Rattle.dr_plain.proofs.Parts.{at_slice}
 use Rattle.dr_plain.proofs.Rowing.{replicate_more}
 
 module _ {A : Type 0} where
@@ -31,11 +32,6 @@ module _ {A : Type 0} where
   at_after (x ∷ xs) ys zero y le at = absurd (omega arith)
   at_after (x ∷ xs) ys (suc i) y le at = let e : suc i - suc (length xs) ≡ i - length xs = omega arith in
       ap (λ (n : ℕ). get_elem? ys n) e ∙ at_after xs ys i y (omega arith) at
-
-  pub set_twice : (xs : List A) (i : ℕ) (a b : A) → set (set xs i a) i b ≡ set xs i b
-  set_twice [] i a b = refl
-  set_twice (x ∷ xs) zero a b = refl
-  set_twice (x ∷ xs) (suc i) a b = ap (λ (ys : List A). x ∷ ys) (set_twice xs i a b)
 
   pub last_at : (xs : List A) (a : A) → get_elem? (xs ++ a ∷ []) (length xs) ≡ some a
   last_at [] a = refl

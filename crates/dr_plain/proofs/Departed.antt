@@ -11,12 +11,12 @@ use Rattle.dr_runs.specs.Gathering.{Known, IsInView, ViewRan}
 use Rattle.dr_runs.specs.Seats.{end_of}
 use Rattle.dr_runs.proofs.Gathering.{in_own}
 use Rattle.dr_runs.proofs.Lists.{at_map}
+use Rattle.dr_runs.specs.declared.counts.HandlerCounts.{HandlerCounts}
 use Rattle.dr_plain.specs.Meaning.Shape.{Shape}
 use Rattle.dr_plain.specs.Meaning.Records.{claimed}
 use Rattle.dr_plain.specs.declared.record.EndRecord.{EndRecord}
 use Rattle.dr_plain.specs.declared.record.SenderRecord.{SenderRecord}
 use Rattle.dr_plain.specs.declared.record.Step.{Step}
-use Rattle.dr_plain.specs.declared.settled.HandlerCounts.{HandlerCounts}
 use Rattle.dr_plain.specs.Calls.Ends.{SenderEnd, ReceiverEnd, SenderStand, HalterStand}
 use Rattle.dr_plain.specs.Calls.Settling.{handler_counts}
 use Rattle.dr_plain.specs.Inside.Seats.{End, Hand, Sitting, ring_ends, exchange, as_receiver, IsSender, IsReceiver, IsHalter}

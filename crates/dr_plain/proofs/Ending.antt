@@ -1,7 +1,6 @@
 -- The seat that stands for all ends takes what lies in the slots, and the ring is over.
-use Rattle.std.proofs.Common.{◌≡◌, ◌⊎◌, ℕ, zero, suc, ◌+◌, ◌<◌, ◌≤◌, inl, inr, Bool, true, false, ◌&&◌, if◌then◌else◌, List, [], ◌∷◌, ◌++◌, map}
+use Rattle.std.proofs.Common.{◌≡◌, ◌⊎◌, ℕ, zero, suc, ◌+◌, ◌<◌, ◌≤◌, inl, inr, Bool, true, false, if◌then◌else◌, List, [], ◌∷◌, ◌++◌, map}
 use Rattle.std.proofs.Common.{length, set, drop, Some, sym, refl, ap, ◌∙◌, subst, arith}
-use Rattle.std.proofs.lemmas.Bool.{cases_lt, lt-ltb, le-ltb, le-leb, lt-leb}
 use Rattle.std.proofs.lemmas.List.{length-drop}
 use mathlib.Core.Option.{some, none, some-injective, some-ne-none}
 use mathlib.Core.Option as maybe
@@ -17,29 +16,32 @@ use Rattle.dr_runs.proofs.Gathering.{in_own, gathering_none, gathering_more, gat
 use Rattle.dr_runs.proofs.Seats.{each_map}
 use Rattle.dr_runs.proofs.Lists.{at_map, map_there}
 use Rattle.dr_runs.proofs.Stretches.{Apart, AreHome, take_all, take_carried, take_valid, at_either, apart_both}
+use Rattle.dr_lent.proofs.Lists.{dropped_at, first_or}
+use Rattle.dr_lent.specs.declared.lent.Lent.{Lent}
+use Rattle.dr_runs.specs.declared.counts.HandlerCounts.{HandlerCounts}
+use Rattle.dr_lent.proofs.Lanes.{other_lane, slots_apart, slot_later}
+use Rattle.dr_lent.specs.Slots.{is_in_hand}
+use Rattle.dr_lent.proofs.InHand.{free_of}
 use Rattle.dr_plain.specs.Meaning.Shape.{Shape}
 use Rattle.dr_plain.specs.Meaning.Words.{slot_of}
 use Rattle.dr_plain.specs.Meaning.Lying.{part_of, placed, Lies}
 use Rattle.dr_plain.specs.Meaning.Records.{claimed, laid}
 use Rattle.dr_plain.specs.Meaning.Rule.{World, KeepsRule}
-use Rattle.dr_plain.specs.declared.record.Lent.{Lent}
 use Rattle.dr_plain.specs.declared.record.SenderRecord.{SenderRecord}
 use Rattle.dr_plain.specs.declared.record.ReceiverRecord.{ReceiverRecord}
 use Rattle.dr_plain.specs.declared.record.HalterRecord.{HalterRecord}
 use Rattle.dr_plain.specs.declared.record.EndRecord.{EndRecord}
 use Rattle.dr_plain.specs.declared.record.EndRecord.TheVariants.{Sends, Receives, Halts}
 use Rattle.dr_plain.specs.declared.record.Step.{Step}
-use Rattle.dr_plain.specs.declared.settled.HandlerCounts.{HandlerCounts}
 use Rattle.dr_plain.specs.Calls.Ends.{SenderEnd, ReceiverEnd, HalterStand}
 use Rattle.dr_plain.specs.Calls.Settling.{AreAllEnds, handler_counts}
 use Rattle.dr_plain.specs.Inside.Seats.{End, Hand, Sitting, ring_ends, stored_of, Stands, exchange, Ruled, IsOver, as_sender, as_halter, sender_of}
 use Rattle.dr_plain.specs.Inside.Seats.{halter_of, IsSender, IsHalter}
 use Rattle.dr_plain.specs.Inside.Gathering.{sender_known, receiver_known, halter_known}
-use Rattle.dr_plain.specs.Inside.Finishing.{is_in_hand, first_lent, parts_left, all_left, left_of, HasAllEnds, TookAll}
+use Rattle.dr_plain.specs.Inside.Finishing.{first_lent, parts_left, all_left, left_of, HasAllEnds, TookAll}
 use Rattle.dr_runs.proofs.Elements.{at_below}
-use Rattle.dr_plain.proofs.Lanes.{other_lane, slots_apart, slot_later}
 use Rattle.dr_plain.proofs.Moving.{part_later}
-use Rattle.dr_plain.proofs.Parts.{dropped_at, laid_later}
+use Rattle.dr_plain.proofs.Parts.{laid_later}
 use Rattle.dr_plain.proofs.Gathering.{knows_of, Together, AllStand, all_stand}
 
 pub bool_cases : (b : Bool) → (b ≡ true) ⊎ (b ≡ false)
@@ -48,38 +50,6 @@ bool_cases false = inr refl
 
 not_both : (b : Bool) → b ≡ true → b ≡ false → ⊥
 not_both b t f = let z : true ≡ false = sym t ∙ f in absurd (cc)
-
-held_both : (c : HandlerCounts) (s : ℕ) → c.completed ≤ s → s < c.taken → is_in_hand c s ≡ true
-held_both c s low high = λ i. le-leb c.completed s low i && lt-ltb s c.taken high i
-
--- what a handler has not in hand
-pub free_of : (c : HandlerCounts) (s : ℕ) → is_in_hand c s ≡ false → (s < c.completed) ⊎ (c.taken ≤ s)
-free_of c s free = elim (cases_lt s c.completed) [
-  | inl lt ↦ inl lt
-  | inr ge ↦ elim (cases_lt s c.taken) [
-    | inl lt ↦ absurd (not_both (is_in_hand c s) (held_both c s ge lt) free)
-    | inr over ↦ inr over
-  ]
-]
-
-and_false : (b : Bool) → (b && false) ≡ false
-and_false true = refl
-and_false false = refl
-
--- and what it has
-pub held_of : (c : HandlerCounts) (s : ℕ) → is_in_hand c s ≡ true → (c.completed ≤ s) × (s < c.taken)
-held_of c s held = elim (cases_lt s c.completed) [
-  | inl lt ↦ absurd (not_both (is_in_hand c s) held (rw (lt-leb c.completed s lt) refl))
-  | inr ge ↦ elim (cases_lt s c.taken) [
-    | inl lt ↦ (ge, lt)
-    | inr over ↦ absurd (not_both (is_in_hand c s) held (rw (le-ltb s c.taken over) (and_false _)))
-  ]
-]
-
--- an element of a list with one more in front
-first_or : {A : Type 0} (y : A) (ys : List A) (j : ℕ) (x : A) → get_elem? (y ∷ ys) j ≡ some x → (y ≡ x) ⊎ ((i : ℕ) × (get_elem? ys i ≡ some x))
-first_or y ys zero x at = inl (some-injective y x at)
-first_or y ys (suc j) x at = inr (j, at)
 
 module _ {T : Type 0} where
   pub left_held : (k : Shape) (h : ℕ) (c : HandlerCounts) (s : ℕ) (l : Lent T) (lents : List (Lent T)) → is_in_hand c s ≡ true
@@ -148,7 +118,7 @@ module _ {T : Type 0} where
           | inl held ↦ subst (λ (xs : Hand T). Apart xs) (sym (left_held k h c s l lents held)) rest
           | inr free ↦ subst (λ (xs : Hand T). Apart xs) (sym (left_home k h c s l lents free)) (
             λ j y at (e : y.0 ≡ slot_of k h s). (let L = at_left k h c (s + 1) lents j y at in let n = L.at in let b = at_below lents L.at L.lent L.there in
-                slots_apart k h h (s + 1 + L.at) s some_slot (omega arith) (omega arith) (inr (λ (z : s + 1 + L.at ≡ s). omega arith))
+                slots_apart k.size h h (s + 1 + L.at) s some_slot (omega arith) (omega arith) (inr (λ (z : s + 1 + L.at ≡ s). omega arith))
                 (ap (λ (z : ℕ × Token T). z.0) L.is ∙ e)),
             rest,
           )
@@ -159,7 +129,7 @@ module _ {T : Type 0} where
     apart_all h (c ∷ counts) s lents few =
         apart_both (parts_left k h c s lents) (all_left k (h + 1) counts s lents) (apart_left h c s lents few) (apart_all (h + 1) counts s lents few)
         (λ i x at j y at_y (e : y.0 ≡ x.0). (let L = at_left k h c s lents i x at in let M = at_all k (h + 1) counts s lents j y at_y in let n = M.by in
-        other_lane k (h + 1 + M.by) h (s + M.left.at) (s + L.at) some_slot (λ (z : h + 1 + M.by ≡ h). omega arith)
+        other_lane k.size (h + 1 + M.by) h (s + M.left.at) (s + L.at) some_slot (λ (z : h + 1 + M.by ≡ h). omega arith)
         (ap (λ (z : ℕ × Token T). z.0) M.left.is ∙ e ∙ ap (λ (z : ℕ × Token T). z.0) (sym L.is))))
 
   -- what is left, by the records in a world
@@ -195,7 +165,7 @@ module _ {T : Type 0} where
         let there = lies.lies h r of.1 q l laid_at past away in let same : 0 + h ≡ h = omega arith in
         subst (λ (y : ℕ × Token T). get_elem? homes y.0 ≡ some (some y.1)) L.is
         (subst (λ (g : ℕ). get_elem? homes (slot_of k g m) ≡ some (some (part_of k m l))) (sym same)
-        (ap (λ (n : ℕ). get_elem? homes n) (sym (slot_later k h m)) ∙ there ∙ ap (λ (t : Token T). some (some t)) (part_later k K.some_slot m l)))
+        (ap (λ (n : ℕ). get_elem? homes n) (sym (slot_later k.size h m)) ∙ there ∙ ap (λ (t : Token T). some (some t)) (part_later k K.some_slot m l)))
 
     all_home : AreHome homes (left_in w.sender counts_in)
     all_home j x at = home_of x (at_all k 0 counts_in (first_lent w.sender) (drop (first_lent w.sender) w.sender.published) j x

@@ -1,39 +1,37 @@
 -- What is lent when all ends are together, and where its parts are.
-use Rattle.std.proofs.Common.{◌≡◌, ℕ, zero, suc, ◌+◌, ◌-◌, ◌%◌, ◌<◌, ◌≤◌, inl, inr, List, [], ◌∷◌, ◌++◌, map, length, set, take, drop, replicate}
+use Rattle.std.proofs.Common.{◌≡◌, ℕ, zero, suc, ◌+◌, ◌-◌, ◌%◌, ◌<◌, ◌≤◌, inl, inr, List, [], ◌∷◌, ◌++◌, map, length, set, drop, replicate}
 use Rattle.std.proofs.Common.{Option, None, Some, sym, refl, ap, ◌∙◌, subst, arith, length-set}
 use Rattle.std.proofs.Math.Nat.{mod-lt, mod-eq_of_lt, add-mod_left}
 use Rattle.std.proofs.lemmas.Bool.{cases_eq, cases_lt}
-use Rattle.std.proofs.lemmas.List.{length-map, length-replicate, length-append, map-append}
+use Rattle.std.proofs.lemmas.List.{length-map, length-replicate}
 use mathlib.Core.Option.{some, some-injective, some-ne-none}
 use lib.ListN.{get_elem?}
-use denote.RawPtr.{Ptr}
 use Rattle.atomic_table.proofs.Lists.{set_here, set_else}
 use Rattle.dr_cells.specs.declared.token.Token.{Token}
 use Rattle.dr_cells.specs.Hold.{whole, kept, held}
 use Rattle.dr_cells.specs.Tokens.{token_at}
-use Rattle.dr_runs.proofs.Lists.{at_map, map_there, at_behind, take_whole}
+use Rattle.dr_runs.proofs.Lists.{at_map, map_there, at_behind}
+use Rattle.dr_lent.proofs.Lists.{at_slice}
+use Rattle.dr_lent.specs.declared.lent.Lent.{Lent}
+use Rattle.dr_runs.specs.declared.counts.HandlerCounts.{HandlerCounts}
+use Rattle.dr_lent.proofs.Lanes.{cell_later}
+use Rattle.dr_lent.proofs.InHand.{held_of}
 use Rattle.dr_plain.specs.Meaning.Shape.{Shape, handlers_of}
 use Rattle.dr_plain.specs.Meaning.Words.{cell_of}
 use Rattle.dr_plain.specs.Meaning.Lying.{part_of}
 use Rattle.dr_plain.specs.Meaning.Records.{claimed, laid}
 use Rattle.dr_plain.specs.Meaning.Rule.{World}
-use Rattle.dr_plain.specs.declared.record.Lent.{Lent}
 use Rattle.dr_plain.specs.declared.record.SenderRecord.{SenderRecord}
 use Rattle.dr_plain.specs.declared.record.ReceiverRecord.{ReceiverRecord}
 use Rattle.dr_plain.specs.declared.record.Step.{Step}
-use Rattle.dr_plain.specs.declared.settled.HandlerCounts.{HandlerCounts}
 use Rattle.dr_plain.specs.Calls.Ends.{SenderEnd, ReceiverEnd}
 use Rattle.dr_plain.specs.Calls.Settling.{AreAllEnds, handler_counts}
-use Rattle.dr_plain.specs.Inside.Fits.{Keeps, TokensFit, PartsFit, cells_of}
+use Rattle.dr_plain.specs.Inside.Fits.{Keeps, TokensFit, PartsFit}
 use Rattle.dr_plain.specs.Inside.Seats.{Hand}
-use Rattle.dr_plain.specs.Inside.Finishing.{first_lent, all_left, left_of, AreHandsOf, AreOut, AreLanes, AreAllWhole}
+use Rattle.dr_plain.specs.Inside.Finishing.{first_lent, all_left, left_of, AreHandsOf, AreOut, AreLanes}
 use Rattle.dr_runs.proofs.Elements.{there, at_below}
-use Rattle.dr_plain.proofs.Lanes.{cell_later}
-use Rattle.dr_plain.proofs.Parts.{at_slice}
-use Rattle.dr_plain.proofs.Trading.{take_more}
 use Rattle.dr_plain.proofs.Collecting.{laid_first, laid_count}
 use Rattle.dr_plain.proofs.Gathering.{knows_of, AllStand}
-use Rattle.dr_plain.proofs.Ending.{held_of}
 
 -- each place is that of one of as many sequences on
 window : (n c i : ℕ) → i < n → (q : ℕ) × (c ≤ q) × (q < c + n) × (q % n ≡ i)
@@ -61,9 +59,9 @@ module _ {T : Type 0} where
     cells = F.count;
     out = λ s l low at. (
         let c = cell_of k s in let in_size : c < size = mod-lt s some_slot in let count = F.count in let t = there tokens c (omega arith) in
-        let here : get_elem? tokens (cell_of k (size + s)) ≡ some t.0 = ap (λ (n : ℕ). get_elem? tokens n) (cell_later k s) ∙ t.1 in
+        let here : get_elem? tokens (cell_of k (size + s)) ≡ some t.0 = ap (λ (n : ℕ). get_elem? tokens n) (cell_later k.size s) ∙ t.1 in
         let keeps : t.0 ≡ token_at k.strip (cell_of k (size + s)) (kept l.round (handlers_of k) l.event) = F.others (size + s) (Some l) t.0 (omega arith) (lent_later r s l at) here in
-        t.1 ∙ ap (λ (x : Token T). some x) (keeps ∙ ap (λ (n : ℕ). token_at k.strip n (kept l.round (handlers_of k) l.event)) (cell_later k s)));
+        t.1 ∙ ap (λ (x : Token T). some x) (keeps ∙ ap (λ (n : ℕ). token_at k.strip n (kept l.round (handlers_of k) l.event)) (cell_later k.size s)));
     others = λ i t none at. (
         let count = F.count in let inside : i < size = (let b = at_below tokens i t at in omega arith) in let w = window size (claimed r) i inside in let q = w.0 in
         let low = w.1 in let high = w.2 in let cell : cell_of k q ≡ i = w.3 in let here : get_elem? tokens (cell_of k q) ≡ some t = ap (λ (n : ℕ). get_elem? tokens n) cell ∙ at in
@@ -76,10 +74,11 @@ module _ {T : Type 0} where
               elim (cases_lt q size) [
                 | inl first ↦ of q cell (subst (λ (o : Option (Lent T)). Keeps k q o t) (laid_first r q l.0 first l.1) (F.others q l.0 t low l.1 here))
                 | inr past ↦ (let e : size + (q - size) ≡ q = omega arith in
-                    absurd (none (q - size) (omega arith) (omega arith) (sym (cell_later k (q - size)) ∙ ap (λ (n : ℕ). cell_of k n) e ∙ cell)))
+                    absurd (none (q - size) (omega arith) (omega arith) (sym (cell_later k.size (q - size)) ∙ ap (λ (n : ℕ). cell_of k n) e ∙ cell)))
               ])
           | inr unpublished ↦ (
-              let s = q - size in let e : size + s ≡ q = omega arith in let same : cell_of k s ≡ i = sym (cell_later k s) ∙ ap (λ (n : ℕ). cell_of k n) e ∙ cell in
+              let s = q - size in let e : size + s ≡ q = omega arith in
+              let same : cell_of k s ≡ i = sym (cell_later k.size s) ∙ ap (λ (n : ℕ). cell_of k n) e ∙ cell in
               of s same (F.opened s t (omega arith) (omega arith) (ap (λ (n : ℕ). get_elem? tokens n) same ∙ at)))
         ]);
   }
@@ -111,37 +110,6 @@ module _ {T : Type 0} where
         others = others;
         in_front = is ∙ ap (λ (cs : List HandlerCounts). all_left p 0 cs (first_lent s.knows) (drop (first_lent s.knows) s.knows.published) ++ others) (sym counted);
       }
-
-  -- The tokens of a strip go back to its row, one after another.
-  pub record Rowed (p : Ptr) (place : ℕ) (tokens now : List (Token T)) (items : List T) : Type 0 where
-    pub many : length items ≡ place
-    pub items_are : map (λ (x : T). Some x) items ≡ take place (cells_of tokens)
-    pub rest : (i : ℕ) → place ≤ i → get_elem? now i ≡ get_elem? tokens i
-    pub count : length now ≡ length tokens
-
-  pub rowed_none : (p : Ptr) (tokens : List (Token T)) → Rowed p 0 tokens tokens []
-  rowed_none p tokens = record { many = refl; items_are = refl; rest = λ i le. refl; count = refl }
-
-  pub rowed_more : (p : Ptr) (place : ℕ) (tokens was now : List (Token T)) (items items' : List T) (t u : Token T) (x : T) → Rowed p place tokens was items
-      → get_elem? was place ≡ some t → t.hold ≡ whole x → items' ≡ items ++ x ∷ [] → now ≡ set was place u → Rowed p (place + 1) tokens now items'
-  rowed_more p place tokens was now items items' t u x R at holds more put =
-      let here : get_elem? tokens place ≡ some t = sym (R.rest place (omega arith)) ∙ at in
-      let cell : get_elem? (cells_of tokens) place ≡ some (Some x) = map_there (λ (y : Token T). held y.hold) tokens place t here ∙ ap (λ h. some (held h)) holds in record {
-        many = ap length more ∙ length-append items (x ∷ []) ∙ ap (λ (n : ℕ). n + 1) R.many;
-        items_are = ap (map (λ (y : T). Some y)) more ∙ map-append (λ (y : T). Some y) items (x ∷ []) ∙ ap (λ (os : List (Option T)). os ++ Some x ∷ []) R.items_are
-            ∙ take_more (cells_of tokens) place (Some x) cell;
-        rest = λ i le. ap (λ (xs : List (Token T)). get_elem? xs i) put ∙ set_else was place i u (λ (e : i ≡ place). omega arith) ∙ R.rest i (omega arith);
-        count = ap length put ∙ length-set was place u ∙ R.count;
-      }
-
-  pub rowed_all : (p : Ptr) (place : ℕ) (tokens now : List (Token T)) (items : List T) → Rowed p place tokens now items → length tokens ≤ place
-      → map (λ (x : T). Some x) items ≡ cells_of tokens
-  rowed_all p place tokens now items R all = let len = length-map tokens (λ (t : Token T). held t.hold) in R.items_are ∙ take_whole (cells_of tokens) place (omega arith)
-
-  -- the token of the next cell is whole
-  pub rowed_next : (p : Ptr) (place : ℕ) (tokens now : List (Token T)) (items : List T) (t : Token T) → Rowed p place tokens now items → AreAllWhole p tokens
-      → get_elem? now place ≡ some t → (x : T) × (t ≡ token_at p place (whole x))
-  rowed_next p place tokens now items t R W at = W place t (sym (R.rest place (omega arith)) ∙ at)
 
   -- The receivers' tokens come to their places, from the last.
   pub record Handed (left : ℕ) (seen : List (ReceiverEnd T)) (hands : List (List (Token T))) (n : ℕ) : Type 0 where

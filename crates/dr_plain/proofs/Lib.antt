@@ -1,10 +1,8 @@
-pub mod Lanes
 pub mod Moving
 pub mod Keeps
 pub mod Barriers
 pub mod Stores
 pub mod Beginning
-pub mod Going
 pub mod Seats
 pub mod Parts
 pub mod Allowed
@@ -17,13 +15,11 @@ pub mod Later
 pub mod Writings
 pub mod Making
 pub mod Opened
-pub mod Dealing
 pub mod Trading
 pub mod Stations
 pub mod Taken
 pub mod Offers
 pub mod Polls
-pub mod Leaving
 pub mod Copying
 pub mod Settling
 pub mod Keeping

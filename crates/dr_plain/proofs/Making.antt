@@ -13,11 +13,12 @@ use Rattle.dr_runs.specs.Seats.{seat_at, fresh_seat, first_view, rest_view}
 use Rattle.dr_runs.proofs.Lists.{at_map, map_there}
 use Rattle.dr_runs.proofs.Rows.{replicate_at, at_replicate}
 use Rattle.dr_runs.proofs.Cuts.{ruled_fresh}
+use Rattle.dr_lent.specs.declared.lent.Lent.{Lent}
+use Rattle.dr_lent.proofs.Lanes.{inside_lanes}
 use Rattle.dr_plain.specs.Meaning.Shape.{Shape, handlers_of}
 use Rattle.dr_plain.specs.Meaning.Words.{words_of, slot_of, slots_of}
 use Rattle.dr_plain.specs.Meaning.Lying.{part_of, Lies}
 use Rattle.dr_plain.specs.Calls.Plans.{IsPlan}
-use Rattle.dr_plain.specs.declared.record.Lent.{Lent}
 use Rattle.dr_plain.specs.declared.record.SenderRecord.{SenderRecord}
 use Rattle.dr_plain.specs.declared.record.ReceiverRecord.{ReceiverRecord}
 use Rattle.dr_plain.specs.declared.record.EndRecord.{EndRecord}
@@ -31,7 +32,6 @@ use Rattle.dr_plain.specs.Calls.Ends.{SenderEnd, ReceiverEnd, HalterStand}
 use Rattle.dr_plain.specs.Calls.Settling.{AreAllEnds}
 use Rattle.dr_plain.specs.Calls.Making.{at_ring, AreFreshEnds}
 use Rattle.dr_runs.proofs.Elements.{at_below}
-use Rattle.dr_plain.proofs.Lanes.{inside_lanes}
 use Rattle.dr_plain.proofs.Beginning.{fresh_at, fresh_count}
 
 module _ {T : Type 0} where
@@ -54,7 +54,8 @@ module _ {T : Type 0} where
         let nothing : Option (Lent T) = None in
         let none : nothing ≡ l = at_replicate k.size q nothing l (ap (λ (xs : List (Option (Lent T))). get_elem? xs q) (sym (append-nil (replicate k.size nothing))) ∙ laid_at) in
         map_there (λ (c : Token T). some c) cs (slot_of k h q) no_token
-        (ap (λ (xs : List (Token T)). get_elem? xs (slot_of k h q)) is ∙ replicate_at (slots_of k) (slot_of k h q) no_token (inside_lanes k h q some_slot inside))
+        (ap (λ (xs : List (Token T)). get_elem? xs (slot_of k h q)) is ∙ replicate_at (slots_of k) (slot_of k h q) no_token
+        (inside_lanes k.size (handlers_of k) h q some_slot inside))
         ∙ ap (λ (x : Option (Lent T)). some (some (part_of k q x))) none);
   }
 

@@ -12,13 +12,13 @@ use Rattle.dr_cells.specs.Tokens.{token_at}
 use Rattle.dr_runs.specs.Stretches.{stretch, rows}
 use Rattle.dr_runs.proofs.Stretches.{Lacks, Apart, AreHome, emptied, filled, emptied_else, emptied_length, filled_else, filled_here, filled_length}
 use Rattle.dr_runs.proofs.Rows.{at_stretch, stretch_at, at_rows, rows_at, apart_stretch, apart_rows}
+use Rattle.dr_lent.specs.declared.lent.Lent.{Lent}
+use Rattle.dr_lent.proofs.Lanes.{inside_lanes, other_lane, slots_apart, cell_later, slot_later}
 use Rattle.dr_plain.specs.Meaning.Shape.{Shape, handlers_of}
 use Rattle.dr_plain.specs.Meaning.Words.{slot_of}
-use Rattle.dr_plain.specs.declared.record.Lent.{Lent}
 use Rattle.dr_plain.specs.declared.record.ReceiverRecord.{ReceiverRecord}
 use Rattle.dr_plain.specs.Meaning.Lying.{part_of, placed, LiesBy}
 use Rattle.dr_runs.proofs.Elements.{there, at_below}
-use Rattle.dr_plain.proofs.Lanes.{inside_lanes, other_lane, slots_apart, cell_later, slot_later}
 
 -- an element of two lists, where it is past the first
 at_second : {A : Type 0} (xs ys : List A) (q : ℕ) (a : A) → length xs ≤ q → get_elem? (xs ++ ys) q ≡ some a → get_elem? ys (q - length xs) ≡ some a
@@ -42,14 +42,14 @@ pub record Stretches {T : Type 0} (k : Shape) (lents : List (Option (Lent T))) (
 module _ {T : Type 0} (k : Shape) (some_slot : 0 < k.size) where
   pub part_later : (s : ℕ) (l : Option (Lent T)) → part_of k (k.size + s) l ≡ part_of k s l
   part_later s None = refl
-  part_later s (Some l) = ap (λ (c : ℕ). token_at k.strip c (part l.round l.event)) (cell_later k s)
+  part_later s (Some l) = ap (λ (c : ℕ). token_at k.strip c (part l.round l.event)) (cell_later k.size s)
 
   -- a slot of some sequence, and not of one of a row
   lacks_rows : (n s : ℕ) (lents : List (Option (Lent T))) (h q : ℕ) → ((i : ℕ) → i < length lents → (q < s + i + k.size) × (s + i < q + k.size) × (q ≢ s + i))
       → Lacks (rows (placed k) n s lents) (slot_of k h q)
   lacks_rows n s lents h q apart j x at e =
       let t = at_rows (placed k) n s lents j x at in let i = t.1 in let a = apart i (at_below lents i t.2 t.4) in
-      slots_apart k h t.0 q (s + i) some_slot a.0 a.1 (inr a.2) (sym e ∙ ap (λ (y : ℕ × Token T). y.0) (sym t.5))
+      slots_apart k.size h t.0 q (s + i) some_slot a.0 a.1 (inr a.2) (sym e ∙ ap (λ (y : ℕ × Token T). y.0) (sym t.5))
 
   -- the same of a stretch of one lane, seen a round later
   lacks_stretch : (g s : ℕ) (lents : List (Option (Lent T))) (h q : ℕ)
@@ -58,10 +58,10 @@ module _ {T : Type 0} (k : Shape) (some_slot : 0 < k.size) where
   lacks_stretch g s lents h q apart j x at e =
       let t = at_stretch (placed k g) s lents j x at in let b = k.size + (s + j) in
       let same : slot_of k h q ≡ slot_of k g (s + j) = sym e ∙ ap (λ (y : ℕ × Token T). y.0) (sym t.2) in
-      let later : slot_of k h q ≡ slot_of k g b = same ∙ sym (slot_later k g (s + j)) in
+      let later : slot_of k h q ≡ slot_of k g b = same ∙ sym (slot_later k.size g (s + j)) in
       elim (apart j (at_below lents j t.0 t.1)) [
-        | inl other ↦ other_lane k h g q b some_slot (λ (z : h ≡ g). other (sym z)) later
-        | inr near ↦ (let a = near.0 in let c = near.1 in slots_apart k h g q b some_slot (omega arith) (omega arith)
+        | inl other ↦ other_lane k.size h g q b some_slot (λ (z : h ≡ g). other (sym z)) later
+        | inr near ↦ (let a = near.0 in let c = near.1 in slots_apart k.size h g q b some_slot (omega arith) (omega arith)
             (inr (λ (z : q ≡ b). near.2 (omega arith))) later)
       ]
 
@@ -80,7 +80,7 @@ module _ {T : Type 0} (k : Shape) (some_slot : 0 < k.size) where
             let r = there receivers h (omega arith) in let room = free h r.0 r.1 in let less = f.0 in
             subst (λ (y : ℕ × Token T). get_elem? homes y.0 ≡ some (some y.1)) t.5 (L.lies h r.0 r.1 (claims + i) t.2 f.1 (omega arith) (inl (omega arith)))),
         apart_rows (placed k) count claims fresh (λ h g i j a b lh lg li lj ne. (let p = (low i li).1 in let q = (low j lj).1 in
-            slots_apart k h g (claims + i) (claims + j) some_slot (omega arith) (omega arith)
+            slots_apart k.size h g (claims + i) (claims + j) some_slot (omega arith) (omega arith)
             (elim ne [ inl z ↦ inl z | inr z ↦ inr (λ (e : claims + i ≡ claims + j). z (omega arith)) ]))),
         record {
           deep = emptied_length homes xs ∙ L.deep;
@@ -108,13 +108,13 @@ module _ {T : Type 0} (k : Shape) (some_slot : 0 < k.size) where
               let inside : h < count = (let b = at_below receivers h r there_r in omega arith) in
               let t = rows_at (placed k) count published more h i l inside at_i in
               let same : k.size + (published + i) ≡ q = omega arith in
-              let slot : slot_of k h q ≡ slot_of k h (published + i) = ap (slot_of k h) (sym same) ∙ slot_later k h (published + i) in
+              let slot : slot_of k h q ≡ slot_of k h (published + i) = ap (slot_of k h) (sym same) ∙ slot_later k.size h (published + i) in
               let token : part_of k (published + i) l ≡ part_of k q l = sym (part_later (published + i) l) ∙ ap (λ (m : ℕ). part_of k m l) same in
               ap (λ (m : ℕ). get_elem? (filled homes xs) m) slot
               ∙ filled_here homes xs t.0 (placed k h (published + i) l) (apart_rows (placed k) count published more (λ g h i j a b lg lh li lj ne.
-              slots_apart k g h (published + i) (published + j) some_slot (omega arith) (omega arith)
+              slots_apart k.size g h (published + i) (published + j) some_slot (omega arith) (omega arith)
               (elim ne [ inl z ↦ inl z | inr z ↦ inr (λ (e : published + i ≡ published + j). z (omega arith)) ]))) t.1
-              (let a = inside_lanes k h (published + i) some_slot inside in let d = L.deep in omega arith)
+              (let a = inside_lanes k.size (handlers_of k) h (published + i) some_slot inside in let d = L.deep in omega arith)
               ∙ ap (λ (c : Token T). some (some c)) token)
         ];
       }
@@ -148,11 +148,11 @@ module _ {T : Type 0} (k : Shape) (some_slot : 0 < k.size) where
       → k.size + s + i < length lents = λ i lt. (let t = there more i lt in at_below lents (k.size + s + i) t.0 (at_more i t.0 t.1)) in (
         λ j x at_x. (let t = at_stretch (placed k g) s more j x at_x in let i : k.size + (s + j) ≡ k.size + s + j = omega arith in let m = low j (at_below more j t.0 t.1) in
             subst (λ (y : ℕ × Token T). get_elem? homes y.0 ≡ some (some y.1)) t.2
-            (ap (λ (z : ℕ). get_elem? homes z) (sym (slot_later k g (s + j)) ∙ ap (slot_of k g) i)
+            (ap (λ (z : ℕ). get_elem? homes z) (sym (slot_later k.size g (s + j)) ∙ ap (slot_of k g) i)
             ∙ L.lies g r at (k.size + s + j) t.0 (at_more j t.0 t.1) (omega arith) (inr (omega arith))
             ∙ ap (λ (c : Token T). some (some c)) (ap (λ (z : ℕ). part_of k z t.0) (sym i) ∙ part_later (s + j) t.0))),
         apart_stretch (placed k g) s more (λ i j a b lt below. (let m = low j below in
-            slots_apart k g g (s + j) (s + i) some_slot (omega arith) (omega arith) (inr (λ (e : s + j ≡ s + i). omega arith)))),
+            slots_apart k.size g g (s + j) (s + i) some_slot (omega arith) (omega arith) (inr (λ (e : s + j ≡ s + i). omega arith)))),
         others_lie receivers lents claims g r' homes (emptied homes xs) L (emptied_length homes xs)
             (λ h q ne. emptied_else homes xs (slot_of k h q) (lacks_stretch g s more h q (λ i lt. inl ne)))
             (λ q l at_q past away. (let below = at_below lents q l at_q in
@@ -188,13 +188,13 @@ module _ {T : Type 0} (k : Shape) (some_slot : 0 < k.size) where
               let i = q - (k.size + s) in let here : k.size + s + i ≡ q = omega arith in let lt : i < length done = omega arith in
               let at_i = at_done i l (ap (λ (m : ℕ). get_elem? lents m) here ∙ at_q) lt in
               let same_q : k.size + (s + i) ≡ q = omega arith in
-              let slot : slot_of k g q ≡ slot_of k g (s + i) = ap (slot_of k g) (sym same_q) ∙ slot_later k g (s + i) in
+              let slot : slot_of k g q ≡ slot_of k g (s + i) = ap (slot_of k g) (sym same_q) ∙ slot_later k.size g (s + i) in
               let token : part_of k (s + i) l ≡ part_of k q l = sym (part_later (s + i) l) ∙ ap (λ (m : ℕ). part_of k m l) same_q in
               ap (λ (m : ℕ). get_elem? (filled homes xs) m) slot
               ∙ filled_here homes xs i (placed k g (s + i) l) (apart_stretch (placed k g) s done (λ i j a b lt below.
-              slots_apart k g g (s + j) (s + i) some_slot (omega arith) (omega arith) (inr (λ (e : s + j ≡ s + i). omega arith))))
+              slots_apart k.size g g (s + j) (s + i) some_slot (omega arith) (omega arith) (inr (λ (e : s + j ≡ s + i). omega arith))))
               (stretch_at (placed k g) s done i l at_i)
-              (let a = inside_lanes k g (s + i) some_slot inside in let d = L.deep in omega arith)
+              (let a = inside_lanes k.size (handlers_of k) g (s + i) some_slot inside in let d = L.deep in omega arith)
               ∙ ap (λ (c : Token T). some (some c)) token)
         ]
       ]))

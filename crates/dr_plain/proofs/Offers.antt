@@ -1,20 +1,19 @@
 -- What a receiver is offered, by the counts that it finds one after another.
-use Rattle.std.proofs.Common.{◌≡◌, ◌≢◌, ℕ, suc, ◌+◌, ◌-◌, ◌<◌, ◌≤◌, inl, inr, Bool, true, ◌==◌, if◌then◌else◌, min}
+use Rattle.std.proofs.Common.{◌≡◌, ◌≢◌, ℕ, ◌+◌, ◌-◌, ◌<◌, ◌≤◌, inl, inr, true, ◌==◌, min}
 use Rattle.std.proofs.Common.{List, [], ◌∷◌, ◌++◌, map, length, get_or, take, sym, refl, ap, ◌∙◌, subst, arith, append_assoc}
 use Rattle.std.specs.Prelude.{Contains}
-use Rattle.std.specs.List.{AllPairs}
 use Rattle.std.specs.List.Sorted.{IsStrictlyIncreasing}
-use Rattle.std.proofs.lemmas.Bool.{eq-eqb, ne_eqb, eqb-true}
+use Rattle.std.proofs.lemmas.Bool.{eqb-true}
 use Rattle.std.proofs.lemmas.List.{length-append, append-nil}
-use Rattle.std.proofs.lemmas.List.Kept.{AllPairs-from_increasing}
 use Rattle.dr_graph.specs.Meaning.Graph.{upstreams_of}
+use Rattle.dr_lent.specs.declared.lent.Lent.{Lent}
+use Rattle.dr_lent.proofs.Looks.{seen_counts, offered_same}
 use Rattle.dr_plain.specs.Meaning.Shape.{Shape}
 use Rattle.dr_runs.specs.Words.{cursor_word, closed_word, count_word}
 use Rattle.dr_runs.specs.declared.look.Look.{Look}
-use Rattle.dr_plain.specs.declared.record.Lent.{Lent}
 use Rattle.dr_plain.specs.declared.record.ReceiverRecord.{ReceiverRecord}
 use Rattle.dr_plain.specs.Meaning.Records.{barrier_seen, taken_at, tells_drained, receiver_looked, cursor_looked}
-use Rattle.dr_runs.specs.Looks.{look, last_look, offered_by, looks_at, lesser_of}
+use Rattle.dr_runs.specs.Looks.{look, last_look, offered_by, lesser_of}
 use Rattle.dr_plain.specs.Calls.Ends.{count_looks}
 use Rattle.dr_plain.specs.Calls.Finds.{FindsEvents}
 use Rattle.dr_plain.specs.Calls.Receiving.{received_all}
@@ -25,63 +24,15 @@ use Rattle.dr_runs.proofs.Looks.{last_look_more, looks_more}
 use Rattle.dr_runs.proofs.Elements.{contains_more, contains_last}
 use Rattle.dr_runs.proofs.Offers.{offers_more, either_true, second_true}
 
--- no number stands in a list twice
-AreDistinct : List ℕ → Type 0
-AreDistinct [] = Unit {0}
-AreDistinct (u ∷ us) = ((g : ℕ) → Contains us g → u ≢ g) × AreDistinct us
-
-distinct_of : (us : List ℕ) → AllPairs (λ x y. x < y) us → AreDistinct us
-unfolding AreDistinct
-distinct_of [] all = tt
-distinct_of (u ∷ us) all = (
-  λ g has e. (let inside = has.1 in let lt : u < get_or us has.0 g = all 0 (suc has.0) g (omega arith) (omega arith) in let at = has.2 in omega arith),
-  distinct_of us (λ i j d lt inside. all (suc i) (suc j) d (omega arith) (omega arith)),
-)
-
-last_look_both : (d : ℕ) (xs ys : List Look) (word : ℕ) → last_look d (xs ++ ys) word ≡ last_look (last_look d xs word) ys word
-last_look_both d [] ys word = refl
-last_look_both d (x ∷ xs) ys word = last_look_both (if x.word == word then x.value else d) xs ys word
-
--- the counts of other handlers
-not_looked : (d : ℕ) (us counts : List ℕ) (w : ℕ) → ((g : ℕ) → Contains us g → count_word g ≢ w) → last_look d (looks_at count_word us counts) w ≡ d
-not_looked d [] counts w others = refl
-not_looked d (u ∷ us) [] w others = refl
-not_looked d (u ∷ us) (n ∷ counts) w others =
-    ap (λ (b : Bool). last_look (if b then n else d) (looks_at count_word us counts) w) (ne_eqb (count_word u) w (others u (0, omega arith, refl)))
-    ∙ not_looked d us counts w (λ g has. others g (suc has.0, (let inside = has.1 in omega arith), has.2))
-
-seen_from : (d : ℕ → ℕ) (us counts : List ℕ) → AreDistinct us → length counts ≡ length us
-    → map (λ u. last_look (d u) (looks_at count_word us counts) (count_word u)) us ≡ counts
-unfolding AreDistinct
-seen_from d [] [] apart e = refl
-seen_from d [] (n ∷ counts) apart e = absurd (omega arith)
-seen_from d (u ∷ us) [] apart e = absurd (omega arith)
-seen_from d (u ∷ us) (n ∷ counts) apart e =
-    let head : last_look (if count_word u == count_word u then n else d u) (looks_at count_word us counts) (count_word u) ≡ n =
-    ap (λ (b : Bool). last_look (if b then n else d u) (looks_at count_word us counts) (count_word u)) (eq-eqb (count_word u) (count_word u) refl)
-    ∙ not_looked n us counts (count_word u) (λ g has same. apart.0 g has (omega arith)) in
-    let tail : map (λ g. last_look (if count_word u == count_word g then n else d g) (looks_at count_word us counts) (count_word g)) us ≡ counts =
-    seen_from (λ g. if count_word u == count_word g then n else d g) us counts apart.1 (omega arith) in
-    λ i. head i ∷ tail i
-
--- each of some handlers' counts was seen last as it was found
-seen_counts : (looks : List Look) (us counts : List ℕ) → IsStrictlyIncreasing us → length counts ≡ length us
-    → map (λ u. last_look 0 (looks ++ looks_at count_word us counts) (count_word u)) us ≡ counts
-seen_counts looks us counts rising e =
-    (λ i. map (λ u. last_look_both 0 looks (looks_at count_word us counts) (count_word u) i) us)
-    ∙ seen_from (λ u. last_look 0 looks (count_word u)) us counts (distinct_of us (AllPairs-from_increasing us rising)) e
-
--- where there is a count, the cursor offers nothing
-offered_same : (a b : ℕ) (counts : List ℕ) → 0 < length counts → offered_by a counts ≡ offered_by b counts
-offered_same a b [] lt = absurd (omega arith)
-offered_same a b (n ∷ counts) lt = refl
+own_word : (g u : ℕ) → u ≢ g → count_word g ≢ count_word u
+own_word g u ne same = ne (omega arith)
 
 -- what a barrier lets through, once all upstreams' counts were looked at
 barrier_is : (k : Shape) (h cursor : ℕ) (looks : List Look) (counts : List ℕ) → (let us = upstreams_of k.upstreams h in
     IsStrictlyIncreasing us → length counts ≡ length us → 0 < length us → barrier_seen k h (looks ++ count_looks us counts) ≡ offered_by cursor counts)
 barrier_is k h cursor looks counts rising e some =
     let us = upstreams_of k.upstreams h in let c = last_look 0 (looks ++ count_looks us counts) cursor_word in
-    ap (λ (ns : List ℕ). offered_by c ns) (seen_counts looks us counts rising e) ∙ offered_same c cursor counts (omega arith)
+    ap (λ (ns : List ℕ). offered_by c ns) (seen_counts count_word own_word looks us counts rising e) ∙ offered_same c cursor counts (omega arith)
 
 module _ {T : Type 0} where
   pub first_none : (r : ReceiverRecord T) (cursor : ℕ) → IsNear r cursor → LooksAtFirst r cursor 0 r cursor

@@ -13,15 +13,16 @@ use Rattle.dr_cells.specs.Hold.{whole, held}
 use Rattle.dr_cells.specs.Tokens.{token_at}
 use Rattle.dr_runs.proofs.Lists.{same_lists, map_there, at_map}
 use Rattle.dr_runs.proofs.Rows.{at_replicate}
+use Rattle.dr_lent.specs.Rows.{cells_of}
+use Rattle.dr_lent.specs.declared.lent.Lent.{Lent}
+use Rattle.dr_runs.specs.declared.counts.HandlerCounts.{HandlerCounts}
 use Rattle.dr_plain.specs.Meaning.Shape.{Shape, handlers_of}
 use Rattle.dr_plain.specs.Meaning.Words.{cell_of}
-use Rattle.dr_plain.specs.declared.record.Lent.{Lent}
 use Rattle.dr_runs.specs.declared.written.Written.{Written}
-use Rattle.dr_plain.specs.declared.settled.HandlerCounts.{HandlerCounts}
 use Rattle.dr_plain.specs.Meaning.Moments.{fresh_sender}
 use Rattle.dr_plain.specs.Calls.Plans.{IsPlan}
 use Rattle.dr_plain.specs.Calls.Ends.{SenderStand}
-use Rattle.dr_plain.specs.Inside.Fits.{Keeps, TokensFit, SenderFits, cells_of}
+use Rattle.dr_plain.specs.Inside.Fits.{Keeps, TokensFit, SenderFits}
 use Rattle.dr_runs.proofs.Elements.{there}
 
 module _ {T : Type 0} where

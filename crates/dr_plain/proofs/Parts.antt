@@ -3,7 +3,7 @@ use Rattle.std.proofs.Common.{◌≡◌, ℕ, zero, suc, ◌+◌, ◌-◌, ◌<�
 use Rattle.std.proofs.Common.{replicate, Option, Some, None, sym, refl, ap, ◌∙◌, subst, arith}
 use Rattle.std.proofs.lemmas.Bool.{cases_eq, cases_lt}
 use Rattle.std.proofs.lemmas.List.{length-append, length-replicate, length-map, length-take, length-drop}
-use mathlib.Core.Option.{some, some-ne-none}
+use mathlib.Core.Option.{some}
 use mathlib.Core.Option as maybe
 use lib.ListN.{get_elem?}
 use Rattle.atomic_table.specs.Table.{carried_after}
@@ -13,9 +13,10 @@ use Rattle.dr_runs.proofs.Lists.{at_behind}
 use Rattle.dr_runs.proofs.Stretches.{Apart, AreHome, take_all, give_all, emptied, filled, take_carried, take_homes, take_valid, give_carried}
 use Rattle.dr_runs.proofs.Stretches.{give_homes, give_valid}
 use Rattle.dr_runs.proofs.Seats.{Moves}
+use Rattle.dr_lent.proofs.Lists.{taken_there, slice_at, at_slice}
+use Rattle.dr_lent.specs.declared.lent.Lent.{Lent}
 use Rattle.dr_plain.specs.Meaning.Shape.{Shape, handlers_of}
 use Rattle.dr_runs.specs.Words.{halt_word}
-use Rattle.dr_plain.specs.declared.record.Lent.{Lent}
 use Rattle.dr_plain.specs.declared.record.SenderRecord.{SenderRecord}
 use Rattle.dr_plain.specs.declared.record.ReceiverRecord.{ReceiverRecord}
 use Rattle.dr_plain.specs.Meaning.Records.{claimed, laid, SeesRoom}
@@ -26,30 +27,6 @@ use Rattle.dr_plain.specs.Inside.Seats.{Hand, exchange, lent_all}
 use Rattle.dr_runs.proofs.Elements.{at_below}
 use Rattle.dr_plain.proofs.Keeps.{word_at, ahead_of_all, above, near, room_seen, claims_some, claims_none}
 use Rattle.dr_plain.proofs.Moving.{Stretches, claims_take, publishes_give, receiver_takes, receiver_gives}
-
--- an element of some of a list's elements
-taken_at_least : {A : Type 0} (xs : List A) (n i : ℕ) (a : A) → get_elem? (take n xs) i ≡ some a → (i < n) × (get_elem? xs i ≡ some a)
-taken_at_least xs zero i a at = absurd (some-ne-none a (sym at))
-taken_at_least [] (suc n) i a at = absurd (some-ne-none a (sym at))
-taken_at_least (x ∷ xs) (suc n) zero a at = (omega arith, at)
-taken_at_least (x ∷ xs) (suc n) (suc i) a at = let t = taken_at_least xs n i a at in let lt = t.0 in (omega arith, t.1)
-
-taken_there : {A : Type 0} (xs : List A) (n i : ℕ) (a : A) → i < n → get_elem? xs i ≡ some a → get_elem? (take n xs) i ≡ some a
-taken_there xs zero i a lt at = absurd (omega arith)
-taken_there [] (suc n) i a lt at = at
-taken_there (x ∷ xs) (suc n) zero a lt at = at
-taken_there (x ∷ xs) (suc n) (suc i) a lt at = taken_there xs n i a (omega arith) at
-
-pub dropped_at : {A : Type 0} (xs : List A) (m i : ℕ) → get_elem? (drop m xs) i ≡ get_elem? xs (m + i)
-dropped_at xs zero i = let e : i ≡ 0 + i = omega arith in ap (λ (n : ℕ). get_elem? xs n) e
-dropped_at [] (suc m) i = refl
-dropped_at (x ∷ xs) (suc m) i = let e : suc (m + i) ≡ suc m + i = omega arith in dropped_at xs m i ∙ ap (λ (n : ℕ). get_elem? (x ∷ xs) n) e
-
-pub slice_at : {A : Type 0} (xs : List A) (m n i : ℕ) (a : A) → get_elem? (take n (drop m xs)) i ≡ some a → (i < n) × (get_elem? xs (m + i) ≡ some a)
-slice_at xs m n i a at = let t = taken_at_least (drop m xs) n i a at in (t.0, sym (dropped_at xs m i) ∙ t.1)
-
-pub at_slice : {A : Type 0} (xs : List A) (m n i : ℕ) (a : A) → i < n → get_elem? xs (m + i) ≡ some a → get_elem? (take n (drop m xs)) i ≡ some a
-at_slice xs m n i a lt at = taken_there (drop m xs) n i a lt (dropped_at xs m i ∙ at)
 
 abbrev nothing_lent : (T : Type 0) → Option (Lent T)
 nothing_lent T = None

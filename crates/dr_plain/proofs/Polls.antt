@@ -12,11 +12,13 @@ use Rattle.dr_meaning.specs.declared.command.Polled.TheVariants.{Batch}
 use Rattle.dr_seq.proofs.Apart.{slots_differ}
 use Rattle.dr_runs.specs.Stretches.{stretch}
 use Rattle.dr_runs.proofs.Lists.{no_elements, take_whole}
+use Rattle.dr_lent.proofs.Lists.{drop_seam}
+use Rattle.dr_lent.specs.declared.lent.Lent.{Lent}
+use Rattle.dr_lent.specs.Trades.{PartsTaken}
 use Rattle.dr_plain.specs.Meaning.Words.{cell_of}
 use Rattle.dr_runs.specs.Words.{cursor_word, closed_word}
 use Rattle.dr_plain.specs.Meaning.Lying.{placed}
 use Rattle.dr_runs.specs.declared.look.Look.{Look}
-use Rattle.dr_plain.specs.declared.record.Lent.{Lent}
 use Rattle.dr_plain.specs.declared.record.ReceiverRecord.{ReceiverRecord}
 use Rattle.dr_plain.specs.Meaning.Records.{closed_looked}
 use Rattle.dr_runs.specs.Looks.{look}
@@ -27,11 +29,11 @@ use Rattle.dr_plain.specs.Inside.Fits.{taken_slots, ReceiverFits}
 use Rattle.dr_plain.specs.Inside.Hands.{with_hand}
 use Rattle.dr_plain.specs.Inside.Polling.{ups_of, receiver_saw, cursor_seen, LooksRound}
 use Rattle.dr_plain.specs.Inside.Seats.{Hand, lent_all, taken_by_poll}
-use Rattle.dr_plain.specs.Inside.Trades.{parts_between, blanks_between, PartsTaken}
+use Rattle.dr_plain.specs.Inside.Trades.{parts_between, blanks_between}
 use Rattle.dr_runs.proofs.Elements.{there, at_below}
 use Rattle.dr_runs.proofs.Looks.{last_look_more}
 use Rattle.dr_plain.proofs.Trading.{parts_count}
-use Rattle.dr_plain.proofs.Taken.{blanks_both, drop_seam}
+use Rattle.dr_plain.proofs.Taken.{blanks_both}
 use Rattle.dr_runs.proofs.Offers.{drains, idles, gates, or_true, not_true, only_cursor}
 
 abbrev pub saw : ℕ → ℕ → List ℕ → PollLooks
@@ -153,7 +155,7 @@ module _ {T : Type 0} (e e' : ReceiverStand T) (t c room closed cursor available
         ∙ ap (λ (q : ReceiverRecord T). parts_between q t (t + count) ++ e.hand) (sym knows_is)
 
     pub fits_batch : (s : ReceiverStand T) (parts' : List (Token T)) → s ≡ with_hand e' (drop (t + count - t) e'.hand ++ blanks_between e'.knows t (t + count))
-        → PartsTaken e'.knows t (t + count) parts parts' → ReceiverFits s (t + count) c parts'
+        → PartsTaken e'.knows.plan.strip e'.knows.plan.size e'.knows.received t (t + count) parts parts' → ReceiverFits s (t + count) c parts'
     unfolding now_knows
     fits_batch s parts' is P =
         let K = now_knows in let may = may_take in let m = lents_are in let all = F.taken in let done = F.completed in let rises = F.rises in let near = L.near in
@@ -165,7 +167,7 @@ module _ {T : Type 0} (e e' : ReceiverStand T) (t c room closed cursor available
         ap (λ (x : ReceiverStand T). x.hand) is
         ∙ (λ i. (old ∙ F.hand ∙ ap (λ (n : ℕ). blanks_between K e.knows.completed n) (sym F.taken)) i ++ blanks_between (knows_is i) t upto)
         ∙ sym (blanks_both K e.knows.completed t upto (omega arith) (omega arith)) ∙ ap (λ (n : ℕ). blanks_between K e.knows.completed n) (sym long) in
-        let Q = subst (λ (q : ReceiverRecord T). PartsTaken q t upto parts parts') knows_is P in
+        let Q = subst (λ (q : ReceiverRecord T). PartsTaken q.plan.strip q.plan.size q.received t upto parts parts') knows_is P in
         subst (λ (x : ReceiverRecord T × Hand T). ReceiverFits (record s { knows = x.0; hand = x.1 }) upto c parts') (λ i. (sym knows i, sym hand i)) (record {
           taken = sym long;
           completed = F.completed;

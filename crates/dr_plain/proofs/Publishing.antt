@@ -16,16 +16,18 @@ use Rattle.dr_cells.specs.declared.token.Token.{Token}
 use Rattle.dr_cells.specs.Hold.{held, kept}
 use Rattle.dr_cells.specs.Tokens.{token_at}
 use Rattle.dr_runs.proofs.Lists.{map_there}
+use Rattle.dr_lent.specs.Rows.{cells_of}
+use Rattle.dr_lent.specs.declared.lent.Lent.{Lent}
+use Rattle.dr_lent.proofs.Lanes.{cell_later}
 use Rattle.dr_plain.specs.Meaning.Shape.{Shape, handlers_of}
 use Rattle.dr_plain.specs.Meaning.Words.{cell_of}
 use Rattle.dr_plain.specs.Meaning.Lying.{placed}
 use Rattle.dr_plain.specs.Meaning.Records.{events_of, claimed, laid, published_more}
-use Rattle.dr_plain.specs.declared.record.Lent.{Lent}
 use Rattle.dr_plain.specs.declared.record.SenderRecord.{SenderRecord}
 use Rattle.dr_runs.specs.declared.written.Written.{Written}
 use Rattle.dr_plain.specs.Calls.Ends.{SenderStand, SenderEnd, sent_of}
 use Rattle.dr_plain.specs.Calls.Sending.{TriesToPublish}
-use Rattle.dr_plain.specs.Inside.Fits.{Keeps, SenderFields, SenderFits, TokensFit, cells_of, no_lents, open_slots}
+use Rattle.dr_plain.specs.Inside.Fits.{Keeps, SenderFields, SenderFits, TokensFit, no_lents, open_slots}
 use Rattle.dr_plain.specs.Inside.Lending.{lanes, lents_of, AreLent, SameBut}
 use Rattle.dr_plain.specs.Inside.Hands.{with_hand}
 use Rattle.dr_plain.specs.Inside.Noted.{Noted, writes_from}
@@ -35,7 +37,6 @@ use Rattle.dr_plain.specs.Inside.Views.{sender_end}
 use Rattle.dr_runs.proofs.Answering.{open_at, AllWritten, accepted, unwritten, out_of_order, published_before}
 use Rattle.dr_plain.proofs.Claims.{fits_as}
 use Rattle.dr_plain.proofs.Collecting.{at_after, first_at, laid_count, laid_later, blanks_count}
-use Rattle.dr_plain.proofs.Lanes.{cell_later}
 use Rattle.dr_plain.proofs.Tokens.{out}
 use Rattle.dr_runs.proofs.Elements.{there, value_at}
 use Rattle.dr_plain.proofs.Noting.{write_at, writes_at, written_at, unwritten_at, writes_both, writes_same, writes_count, noted_published, noted_later}
@@ -180,7 +181,7 @@ module _ {T : Type 0} where
               let i = s - k.size - length r.published in
               let mine : get_elem? lents i ≡ some m.0 = at_after r.published lents (s - k.size) m.0 (omega arith) m.1 in
               let cell : cell_of k (length r.published + i) ≡ cell_of k s =
-              (let e : s ≡ k.size + (length r.published + i) = omega arith in sym (ap (cell_of k) e ∙ cell_later k (length r.published + i))) in
+              (let e : s ≡ k.size + (length r.published + i) = omega arith in sym (ap (cell_of k) e ∙ cell_later k.size (length r.published + i))) in
               let token : out k (length r.published + i) (handlers_of k) m.0 ≡ t =
               some-injective (out k (length r.published + i) (handlers_of k) m.0) t (sym (L i m.0 mine) ∙ ap (λ (c : ℕ). get_elem? tokens' c) cell ∙ at) in
               subst (λ (o : Option (Lent T)). Keeps k s o t) (sym m.2) (sym token ∙ out_later k (length r.published + i) s m.0 cell))

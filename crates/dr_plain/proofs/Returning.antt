@@ -14,17 +14,19 @@ use Rattle.dr_cells.specs.Hold.{Hold, blank, whole, part, kept, held, joined, re
 use Rattle.dr_cells.specs.Tokens.{token_at, no_token, with_hold}
 use Rattle.dr_seq.proofs.Apart.{slots_differ}
 use Rattle.dr_runs.proofs.Lists.{past_end}
+use Rattle.dr_lent.specs.Rows.{cells_of, AreAllWhole}
+use Rattle.dr_lent.proofs.Lists.{drop_at}
+use Rattle.dr_lent.proofs.Trading.{was_there}
+use Rattle.dr_lent.specs.declared.lent.Lent.{Lent}
+use Rattle.dr_runs.specs.declared.counts.HandlerCounts.{HandlerCounts}
+use Rattle.dr_lent.specs.Slots.{is_in_hand}
 use Rattle.dr_plain.specs.Meaning.Shape.{Shape}
 use Rattle.dr_plain.specs.Meaning.Words.{cell_of, slot_of}
 use Rattle.dr_plain.specs.Meaning.Lying.{part_of, placed}
-use Rattle.dr_plain.specs.declared.record.Lent.{Lent}
-use Rattle.dr_plain.specs.declared.settled.HandlerCounts.{HandlerCounts}
-use Rattle.dr_plain.specs.Inside.Fits.{cells_of}
 use Rattle.dr_plain.specs.Inside.Seats.{Hand}
-use Rattle.dr_plain.specs.Inside.Finishing.{is_in_hand, parts_left, all_left, IsLane, TakesLane, OnePartBack, AreOut, AreAllWhole}
+use Rattle.dr_plain.specs.Inside.Finishing.{parts_left, all_left, IsLane, TakesLane, OnePartBack, AreOut}
 use Rattle.dr_runs.proofs.Elements.{there, at_below}
 use Rattle.dr_plain.proofs.Tokens.{out}
-use Rattle.dr_plain.proofs.Trading.{drop_at, was_there}
 use Rattle.dr_plain.proofs.Collecting.{cells_set}
 use Rattle.dr_plain.proofs.Ending.{left_held, left_home}
 

@@ -9,6 +9,7 @@ use Rattle.dr_cells.specs.declared.token.Token.{Token}
 use Rattle.dr_runs.specs.Runs.{IsBeginning, IsReached}
 use Rattle.dr_runs.specs.Seats.{end_of, seat_at, first_past, past_of, stores_of}
 use Rattle.dr_runs.proofs.Seats.{Adds, OthersStand, Moves, by_end}
+use Rattle.dr_lent.proofs.Going.{goes_on, some_end_of}
 use Rattle.dr_plain.specs.Meaning.Shape.{Shape}
 use Rattle.dr_plain.specs.declared.record.SenderRecord.{SenderRecord}
 use Rattle.dr_plain.specs.declared.record.ReceiverRecord.{ReceiverRecord}
@@ -21,7 +22,6 @@ use Rattle.dr_plain.specs.Meaning.Moments.{new_world}
 use Rattle.dr_plain.specs.Meaning.Steps.{Happens}
 use Rattle.dr_plain.specs.Inside.Seats.{End, Hand, Sitting, ring_ends, exchange, stored_of, world_of, Ruled, as_sender, as_receiver, as_halter}
 use Rattle.dr_runs.proofs.Elements.{at_below}
-use Rattle.dr_plain.proofs.Going.{goes_on, some_end_of}
 use Rattle.dr_plain.proofs.Beginning.{kept_opening, keeps_runs}
 
 module _ {T : Type 0} where
@@ -73,7 +73,8 @@ module _ {T : Type 0} where
       → SenderActs k step w i (f (get_or w.words i 0)) hand homes (told (get_or w.words i 0)))
       → Allows (Ruled k) slots id (seat_at (as_sender r hand) pasts) i f (TellsOn 0 grow pasts told)
   by_sender k slots id step grow pasts r hand i f told adds acts =
-      goes_on k slots id _ i f (TellsOn 0 grow pasts told) (some_end_of (Sends r) []) (by_end (exchange k) slots id step grow pasts (Sends r) hand i f told adds
+      goes_on (exchange k) slots id _ i f (TellsOn 0 grow pasts told) (some_end_of (Sends r) [])
+      (by_end (exchange k) slots id step grow pasts (Sends r) hand i f told adds
       (λ w at reached small homes lies. let n = get_or w.words i 0 in let a = acts w at (kept_of k w reached) homes lies in let m = a.moves in record {
         mine = Sends a.mine;
         same = refl;
@@ -95,7 +96,8 @@ module _ {T : Type 0} where
       × told (get_or w.words i 0) (as_halter (g (get_or w.words i 0))))
       → Allows (Ruled k) slots id (seat_at (as_halter r) pasts) i f (TellsOn 1 grow pasts told)
   by_halter k slots id step grow pasts r i f g told adds acts =
-      goes_on k slots id _ i f (TellsOn 1 grow pasts told) (some_end_of (Halts r) []) (by_end (exchange k) slots id step grow pasts (Halts r) [] i f told adds
+      goes_on (exchange k) slots id _ i f (TellsOn 1 grow pasts told) (some_end_of (Halts r) [])
+      (by_end (exchange k) slots id step grow pasts (Halts r) [] i f told adds
       (λ w at reached small homes lies. let n = get_or w.words i 0 in let a = acts w at (kept_of k w reached) in record {
         mine = Halts (g n);
         same = refl;
@@ -117,7 +119,8 @@ module _ {T : Type 0} where
       → ReceiverActs k step w i (f (get_or w.words i 0)) r.number hand homes (told (get_or w.words i 0)))
       → Allows (Ruled k) slots id (seat_at (as_receiver r hand) pasts) i f (TellsOn (r.number + 2) grow pasts told)
   by_receiver k slots id step grow pasts r hand i f told adds acts =
-      goes_on k slots id _ i f (TellsOn (r.number + 2) grow pasts told) (some_end_of (Receives r) []) (by_end (exchange k) slots id step grow pasts (Receives r) hand i f told adds
+      goes_on (exchange k) slots id _ i f (TellsOn (r.number + 2) grow pasts told) (some_end_of (Receives r) [])
+      (by_end (exchange k) slots id step grow pasts (Receives r) hand i f told adds
       (λ w at reached small homes lies. let n = get_or w.words i 0 in let h = r.number in let a = acts w at (kept_of k w reached) homes lies in let m = a.moves in
       let rs = set w.receivers h a.mine in let us = set w.words i (f n) in record {
         mine = Receives a.mine;

@@ -1,30 +1,26 @@
 -- What a receiver has in hand, and its parts, as it takes events and completes them.
 use Rattle.std.proofs.Common.{◌≡◌, ℕ, ◌+◌, ◌-◌, ◌≤◌, List, ◌++◌, length, take, drop, replicate, Option, None, sym, refl, ap, ◌∙◌, subst, arith}
-use Rattle.std.proofs.Math.Seq.{take-append_seam, drop-append_seam}
+use Rattle.std.proofs.Math.Seq.{drop-append_seam}
 use Rattle.std.proofs.lemmas.List.{replicate-append-replicate, length-replicate, length-append}
 use Rattle.dr_cells.specs.declared.token.Token.{Token}
 use Rattle.dr_seq.proofs.Apart.{slots_differ}
 use Rattle.dr_runs.specs.Stretches.{stretch}
 use Rattle.dr_runs.proofs.Rows.{stretch_both}
+use Rattle.dr_lent.proofs.Lists.{drop_seam, take_seam}
+use Rattle.dr_lent.specs.declared.lent.Lent.{Lent}
+use Rattle.dr_lent.specs.Trades.{SamePlaces, ArePartsBetween}
 use Rattle.dr_plain.specs.Meaning.Words.{cell_of}
 use Rattle.dr_plain.specs.Meaning.Lying.{placed}
 use Rattle.dr_plain.specs.Meaning.Records.{completed_to}
-use Rattle.dr_plain.specs.declared.record.Lent.{Lent}
 use Rattle.dr_plain.specs.declared.record.ReceiverRecord.{ReceiverRecord}
 use Rattle.dr_plain.specs.declared.record.Step.{Step}
 use Rattle.dr_plain.specs.Calls.Ends.{ReceiverStand, HasStored}
 use Rattle.dr_plain.specs.Inside.Fits.{no_lents, ReceiverFits}
 use Rattle.dr_plain.specs.Inside.Hands.{with_hand}
 use Rattle.dr_plain.specs.Inside.Seats.{Hand, given_by_completion}
-use Rattle.dr_plain.specs.Inside.Trades.{parts_between, blanks_between, SamePlaces, ArePartsBetween}
+use Rattle.dr_plain.specs.Inside.Trades.{parts_between, blanks_between}
 use Rattle.dr_runs.proofs.Elements.{at_below}
 use Rattle.dr_plain.proofs.Trading.{blanks_count}
-
-pub drop_seam : {A : Type 0} (xs ys : List A) (n : ℕ) → length xs ≡ n → drop n (xs ++ ys) ≡ ys
-drop_seam xs ys n len = ap (λ (m : ℕ). drop m (xs ++ ys)) (sym len) ∙ drop-append_seam xs ys
-
-pub take_seam : {A : Type 0} (xs ys : List A) (n : ℕ) → length xs ≡ n → take n (xs ++ ys) ≡ xs
-take_seam xs ys n len = ap (λ (m : ℕ). take m (xs ++ ys)) (sym len) ∙ take-append_seam xs ys
 
 module _ {T : Type 0} where
   -- the slots for some sequences, and for those that follow
@@ -44,7 +40,7 @@ module _ {T : Type 0} (e : ReceiverStand T) (n t c : ℕ) (parts : List (Token T
   pub first_in_hand : e.hand ≡ blanks_between e.knows c n ++ blanks_between e.knows n t
   first_in_hand = F.hand ∙ (λ i. blanks_between e.knows (sym F.completed i) (sym F.taken i)) ∙ blanks_both e.knows c n t rises le
 
-  pub parts_there : ArePartsBetween e.knows c n parts
+  pub parts_there : ArePartsBetween e.knows.plan.strip e.knows.plan.size e.knows.received c n parts
   parts_there s l low lt at = let done = F.completed in F.parts.held s l (omega arith) at
 
   module _ (s : ReceiverStand T) (given : s ≡ with_hand e (drop (n - c) e.hand ++ parts_between e.knows c n)) where
@@ -75,7 +71,7 @@ module _ {T : Type 0} (e : ReceiverStand T) (n t c : ℕ) (parts : List (Token T
           ∙ ap (λ (x : ReceiverStand T). given_by_completion x.knows n ++ blanks_between e.knows n t) (sym in_front)
 
       pub fits_completed : (step : Step T) (e' : ReceiverStand T) (parts' : List (Token T))
-          → HasStored u step (completed_to u.knows n) (drop (length (given_by_completion u.knows n)) u.hand) e' → SamePlaces e.knows c n parts parts'
+          → HasStored u step (completed_to u.knows n) (drop (length (given_by_completion u.knows n)) u.hand) e' → SamePlaces e.knows.plan.size c n parts parts'
           → ReceiverFits e' t n parts'
       fits_completed step e' parts' stored same =
           let knows : e'.knows ≡ completed_to e.knows n = stored.1 ∙ ap (λ (x : ReceiverStand T). completed_to x.knows n) in_front in

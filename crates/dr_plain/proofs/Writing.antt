@@ -16,19 +16,21 @@ use Rattle.dr_meaning.specs.Calls.Ends.{Sent, claimed_in, WriteAnswers}
 use Rattle.dr_cells.specs.declared.token.Token.{Token}
 use Rattle.dr_cells.specs.Hold.{whole, held}
 use Rattle.dr_cells.specs.Tokens.{token_at}
+use Rattle.dr_lent.specs.Rows.{cells_of}
+use Rattle.dr_lent.proofs.Lists.{set_twice}
+use Rattle.dr_lent.specs.declared.lent.Lent.{Lent}
 use Rattle.dr_plain.specs.Meaning.Shape.{Shape}
 use Rattle.dr_plain.specs.Meaning.Words.{cell_of}
 use Rattle.dr_plain.specs.Meaning.Records.{events_of, claimed, laid}
-use Rattle.dr_plain.specs.declared.record.Lent.{Lent}
 use Rattle.dr_plain.specs.declared.record.SenderRecord.{SenderRecord}
 use Rattle.dr_runs.specs.declared.written.Written.{Written}
 use Rattle.dr_plain.specs.Calls.Ends.{SenderStand, SenderEnd, sent_of}
 use Rattle.dr_plain.specs.Calls.Sending.{TriesToWrite}
-use Rattle.dr_plain.specs.Inside.Fits.{SenderFields, SenderFits, TokensFit, cells_of}
+use Rattle.dr_plain.specs.Inside.Fits.{SenderFields, SenderFits, TokensFit}
 use Rattle.dr_plain.specs.Inside.Noted.{writes_from}
 use Rattle.dr_runs.specs.Noted.{Notes}
 use Rattle.dr_plain.specs.Inside.Views.{sender_end}
-use Rattle.dr_plain.proofs.Collecting.{laid_count, set_twice}
+use Rattle.dr_plain.proofs.Collecting.{laid_count}
 use Rattle.dr_runs.proofs.Elements.{at_below}
 use Rattle.dr_plain.proofs.Noting.{noted_write, write_at, written_at, writes_count, writes_set}
 use Rattle.dr_runs.proofs.Noting.{notes_one}

@@ -3,18 +3,20 @@
 ghost use Rattle.std.specs.Prelude.{◌≡◌, ◌+◌, ◌-◌, ◌<◌, ◌≤◌, ◌∷◌, ◌++◌, [], length, take, drop, Some};
 ghost use mathlib.Core.Option.{some};
 ghost use lib.ListN.{get_elem?};
-ghost use Rattle.atomic_table.specs.Table.{rest, turned};
+ghost use Rattle.atomic_table.specs.Table.{rest};
 ghost use Rattle.dr_cells.specs.declared.token.Token.{Token as TokenValue};
+ghost use Rattle.dr_lent.specs.declared.lent.Lent.{Lent};
+ghost use Rattle.dr_lent.specs.Trades.{PartsTaken, SamePlaces, ArePartsBetween};
 ghost use Rattle.dr_plain.specs.Meaning.Words.{cell_of, slot_of};
 ghost use Rattle.dr_plain.specs.Meaning.Lying.{part_of};
-ghost use Rattle.dr_plain.specs.declared.record.Lent.{Lent};
 ghost use Rattle.dr_plain.specs.Inside.Hands.{with_hand};
 ghost use Rattle.dr_plain.specs.Inside.Seats.{Hand};
-ghost use Rattle.dr_plain.specs.Inside.Trades.{parts_between, blanks_between, PartsTaken, SamePlaces, ArePartsBetween};
+ghost use Rattle.dr_plain.specs.Inside.Trades.{parts_between, blanks_between};
 
-use crate::dealt::{at, put_at};
 use crate::laws::{ReceiverStation, SenderStation};
 use dr_cells::Token;
+use dr_lent::rows::{at, put_at};
+use dr_lent::slots::turn_by;
 
 impl<T> SenderStation<T> {
     /// Puts a token into the slot that is first in hand, gives what lay there, and turns to the
@@ -59,13 +61,6 @@ impl<T> ReceiverStation<T> {
         self.ring.plan.size().slot(sequence)
     }
 
-    // The slot that is first in hand goes behind all others.
-    fn turn(&mut self)
-        ensures { self.new ≡ with_hand self.old (turned self.old.hand) }
-    {
-        self.seat.turn();
-    }
-
     /// The event that a part of a sequence lets read.
     pub(crate) fn read<'a>(&self, sequence: u64, parts: &'a Vec<Token<T>>) -> &'a T
         requires { (l : Lent T) × (get_elem? parts.now.items (cell_of self.now.knows.plan sequence) ≡ some (part_of self.now.knows.plan sequence (Some l))) }
@@ -80,9 +75,7 @@ impl<T> ReceiverStation<T> {
         requires { count ≤ length self.old.hand }
         ensures { self.new ≡ with_hand self.old (drop count self.old.hand ++ take count self.old.hand) }
     {
-        for turns in 0..count {
-            self.turn();
-        }
+        turn_by(&mut self.seat, count);
     }
 
     /// Takes the parts of some events out of their slots, which are first in hand, to the places of
@@ -92,7 +85,7 @@ impl<T> ReceiverStation<T> {
         requires room { length parts.old.items ≡ self.old.knows.plan.size }
         requires hand { (others : Hand T) × (self.old.hand ≡ parts_between self.old.knows first upto ++ others) }
         ensures hand { self.new ≡ with_hand self.old (drop (upto - first) self.old.hand ++ blanks_between self.old.knows first upto) }
-        ensures parts { PartsTaken self.old.knows first upto parts.old.items parts.new.items }
+        ensures parts { PartsTaken self.old.knows.plan.strip self.old.knows.plan.size self.old.knows.received first upto parts.old.items parts.new.items }
     {
         for sequence in first..upto {
             let slot = self.slot(sequence);
@@ -106,10 +99,10 @@ impl<T> ReceiverStation<T> {
     pub(crate) fn give_back(&mut self, first: u64, upto: u64, parts: &mut Vec<Token<T>>)
         requires order { (first ≤ upto) × (upto ≤ length self.old.knows.received) × (upto ≤ first + self.old.knows.plan.size) }
         requires room { length parts.old.items ≡ self.old.knows.plan.size }
-        requires parts { ArePartsBetween self.old.knows first upto parts.old.items }
+        requires parts { ArePartsBetween self.old.knows.plan.strip self.old.knows.plan.size self.old.knows.received first upto parts.old.items }
         requires hand { (others : Hand T) × (self.old.hand ≡ blanks_between self.old.knows first upto ++ others) }
         ensures hand { self.new ≡ with_hand self.old (drop (upto - first) self.old.hand ++ parts_between self.old.knows first upto) }
-        ensures parts { SamePlaces self.old.knows first upto parts.old.items parts.new.items }
+        ensures parts { SamePlaces self.old.knows.plan.size first upto parts.old.items parts.new.items }
     {
         for sequence in first..upto {
             let slot = self.slot(sequence);

@@ -16,6 +16,7 @@ ghost use Rattle.dr_graph.specs.Meaning.Graph.{IsGraph};
 ghost use Rattle.dr_meaning.specs.Meaning.Transcript.{Transcript, LeadsTo};
 ghost use Rattle.dr_meaning.specs.Meaning.Laws.{Laws};
 ghost use Rattle.dr_meaning.specs.Meaning.Progress.{NobodyIsStuck};
+ghost use Rattle.dr_lent.specs.declared.lent.Lent.{Lent};
 ghost use Rattle.dr_plain.specs.Meaning.Shape.{Shape, ring_setup};
 ghost use Rattle.dr_runs.specs.Words.{halt_word};
 ghost use Rattle.dr_plain.specs.Meaning.Records.{claimed};
@@ -25,7 +26,6 @@ ghost use Rattle.dr_plain.specs.Meaning.Moments.{Runs, new_world, picture_of, We
 ghost use Rattle.dr_plain.specs.Meaning.Replies.{picture_with, open_writes, OffersWhatWasThere};
 ghost use Rattle.dr_plain.specs.Calls.Replies.{RepliesAsAnswered};
 ghost use Rattle.dr_plain.specs.Calls.Handing.{HandsWhatWasThere};
-ghost use Rattle.dr_plain.specs.declared.record.Lent.{Lent};
 
 use crate::plan::Plan;
 use crate::record::View;
@@ -74,7 +74,7 @@ pub trait Lends<T> {
     ghost lents: { List (Lent T) };
 
     ghost use Rattle.std.specs.Prelude.{List};
-    ghost use Rattle.dr_plain.specs.declared.record.Lent.{Lent};
+    ghost use Rattle.dr_lent.specs.declared.lent.Lent.{Lent};
 }
 
 impl<T> Lends<T> for Brand {

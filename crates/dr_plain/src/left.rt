@@ -1,10 +1,9 @@
 //! What ends that are dropped leave in their ring, for when no end is there any more.
 
 use crate::laws::{RingSeat, Words};
-use crate::settled::HandlerCounts;
 use dr_cells::{Strip, Token};
 use dr_places::Belongs;
-use dr_runs::Written;
+use dr_runs::{HandlerCounts, Written};
 use dr_seq::GateCache;
 use std::marker::Model;
 
@@ -25,8 +24,9 @@ pub struct SenderLeft<T> {
 impl<T> Model for SenderLeft<T> {
     ghost use Rattle.std.specs.Prelude.{length};
     ghost use Rattle.dr_runs.specs.Seats.{end_of};
+    ghost use Rattle.dr_lent.specs.Rows.{cells_of};
     ghost use Rattle.dr_plain.specs.Calls.Ends.{SenderEnd};
-    ghost use Rattle.dr_plain.specs.Inside.Fits.{SenderFits, cells_of};
+    ghost use Rattle.dr_plain.specs.Inside.Fits.{SenderFits};
     ghost use Rattle.dr_plain.specs.Inside.Seats.{IsSender};
     ghost use Rattle.dr_plain.specs.Inside.Stations.{sender_stand};
     ghost use Rattle.dr_plain.specs.Inside.Views.{sender_end};

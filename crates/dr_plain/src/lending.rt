@@ -9,11 +9,11 @@ ghost use Rattle.dr_plain.specs.Inside.Hands.{with_hand, row, lent_by};
 ghost use Rattle.dr_plain.specs.Inside.Seats.{Hand, lent_all, given_by_publication};
 ghost use Rattle.dr_plain.specs.Meaning.Records.{claimed};
 ghost use Rattle.dr_plain.specs.Inside.Lending.{lanes, laid_between, lents_of, IsKept, AreKept, IsLending, AreLent, AreWhole, SameBut, HasPublished};
-ghost use Rattle.atomic_table.specs.Table.{turned};
 
-use crate::dealt::put_at;
 use crate::laws::{Lends, SenderStation};
 use dr_cells::Token;
+use dr_lent::rows::put_at;
+use dr_lent::slots::turn_by;
 
 impl<T> SenderStation<T> {
     // The slot of a handler's part of a sequence.
@@ -40,21 +40,12 @@ impl<T> SenderStation<T> {
         self.ring.plan.size().slot(sequence)
     }
 
-    // The slot that is first in hand goes behind all others.
-    fn turn(&mut self)
-        ensures { self.new ≡ with_hand self.old (turned self.old.hand) }
-    {
-        self.seat.turn();
-    }
-
     /// So many slots that are first in hand go behind all others, in their order.
     pub(crate) fn turn_all(&mut self, count: u64)
         requires { count ≤ length self.old.hand }
         ensures { self.new ≡ with_hand self.old (drop count self.old.hand ++ take count self.old.hand) }
     {
-        for turns in 0..count {
-            self.turn();
-        }
+        turn_by(&mut self.seat, count);
     }
 
     /// So many rows of slots that are first in hand go behind all others, in their order.

@@ -4,7 +4,6 @@
 
 mod body;
 mod claiming;
-mod dealt;
 pub mod events;
 mod exchanges;
 pub mod finishing;
@@ -25,7 +24,7 @@ pub mod settled;
 mod updating;
 
 pub use dr_cells::Values;
-pub use dr_runs::RingFault;
+pub use dr_runs::{HandlerCounts, RingFault};
 pub use events::Events;
 pub use finishing::finish;
 pub use laws::Halter;
@@ -33,4 +32,4 @@ pub use opening::ring;
 pub use plan::Plan;
 pub use receiver::Receiver;
 pub use sender::Sender;
-pub use settled::{HandlerCounts, Settled};
+pub use settled::Settled;

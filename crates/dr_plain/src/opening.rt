@@ -15,19 +15,18 @@ ghost use Rattle.dr_plain.specs.Calls.Settling.{AreAllEnds, IsHalterOf};
 ghost use Rattle.dr_plain.specs.Calls.Making.{at_ring, AreFreshEnds, fault_of};
 
 use crate::body::RingBody;
-use crate::dealt::{blanks, deal, empty_hands};
 use crate::laws::{Halter, ReceiverStation, RingSeat, RingTable, SenderStation};
 use crate::plan::Plan;
 use crate::receiver::Receiver;
 use crate::record::View;
 use crate::sender::Sender;
-use crate::settled::HandlerCounts;
 use atomic_table::Split;
 use dr_cells::{Cells, Row, Strip, Token};
 use dr_graph::Graph;
+use dr_lent::rows::{blanks, deal, empty_hands};
 use dr_meaning::is_valid_limit;
 use dr_places::Places;
-use dr_runs::{RingFault, Written};
+use dr_runs::{HandlerCounts, RingFault, Written};
 use dr_seq::{GateCache, Size};
 use std::alloc::{AllocError, Global};
 use std::sync::Arc;
@@ -185,7 +184,8 @@ fn ends<T>(
         counts,
         hands,
     } = prepared;
-    deal(row, strip.cells, &mut tokens);
+    let count = tokens.len();
+    deal(row, strip.cells, count, &mut tokens);
     let sender = Sender {
         station,
         claimed: 0,

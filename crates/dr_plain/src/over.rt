@@ -14,9 +14,9 @@ use crate::finishing::{receive, take_back};
 use crate::laws::{RingSeat, Words, settling};
 use crate::left::{HalterLeft, ReceiverLeft, SenderLeft};
 use crate::plan::Plan;
-use crate::settled::HandlerCounts;
 use dr_cells::{Token, Values};
 use dr_places::Gathered;
+use dr_runs::HandlerCounts;
 
 // What a receiver left: its seat comes to the sender's, and its counts and tokens to their places.
 fn gather_left<T>(

@@ -1,52 +1,17 @@
 //! The parts of all lent events come back to the sender's tokens.
 
-ghost use Rattle.std.specs.Prelude.{◌≡◌, ◌+◌, ◌-◌, ◌<◌, ◌≤◌, ◌++◌, ⊤, [], ◌∷◌, ℕ, List, length, slice_set, map};
-ghost use Rattle.std.specs.Bool.{MatchBool};
-ghost use mathlib.Core.Option.{some};
-ghost use lib.ListN.{get_elem?};
-ghost use Rattle.atomic_table.specs.Table.{rest};
-ghost use Rattle.dr_cells.specs.declared.token.Token.{Token as TokenValue};
-ghost use Rattle.dr_cells.specs.Tokens.{no_token};
+ghost use Rattle.std.specs.Prelude.{◌≡◌, ◌+◌, ◌-◌, ◌<◌, ◌≤◌, ℕ, List, map};
+ghost use Rattle.dr_lent.specs.Rows.{cells_of, AreAllWhole};
+ghost use Rattle.dr_lent.specs.declared.lent.Lent.{Lent};
 ghost use Rattle.dr_plain.specs.Meaning.Shape.{handlers_of};
-ghost use Rattle.dr_plain.specs.declared.record.Lent.{Lent};
-ghost use Rattle.dr_plain.specs.Inside.Fits.{cells_of};
-ghost use Rattle.dr_plain.specs.Inside.Finishing.{is_in_hand as is_in_hand_of, IsLane, TakesLane, OnePartBack, AreOut, AreLanes, AreAllWhole};
+ghost use Rattle.dr_plain.specs.Inside.Finishing.{IsLane, TakesLane, OnePartBack, AreOut, AreLanes};
 
-use crate::dealt::{join_at, put_at, regain_at};
 use crate::laws::{RingSeat, Words};
 use crate::plan::Plan;
-use crate::settled::HandlerCounts;
 use dr_cells::Token;
-
-// Whether a handler has its part of a sequence in hand.
-fn is_in_hand(counts: HandlerCounts, sequence: u64) -> bool
-    ensures { result ≡ is_in_hand_of counts sequence }
-{
-    counts.completed <= sequence && sequence < counts.taken
-}
-
-// A handler's part of an event, out of its hand, or else out of the slot that is first in hand.
-fn draw<T>(
-    words: &Words<T>,
-    seat: &mut RingSeat<T>,
-    held: bool,
-    slot: usize,
-    place: usize,
-    parts: &mut Vec<Token<T>>,
-) -> Token<T>
-    requires table { seat.old.table_id ≡ words.now.table_id }
-    requires place { place < length parts.old.items }
-    requires slot { MatchBool held ⊤ ((old : TokenValue T) × (seat.old.me.1 ≡ (slot, old) ∷ rest seat.old.me.1)) }
-    ensures seat { seat.new.table_id ≡ seat.old.table_id }
-    ensures drawn { MatchBool held ((get_elem? parts.old.items place ≡ some result) × (parts.new.items ≡ slice_set parts.old.items place no_token) × (seat.new.me.1 ≡ seat.old.me.1)) ((parts.new.items ≡ parts.old.items) × (seat.old.me.1 ≡ (slot, result) ∷ rest seat.old.me.1) × (seat.new.me.1 ≡ rest seat.old.me.1 ++ (slot, no_token) ∷ [])) }
-{
-    if held {
-        return put_at(parts, place, Token::blank());
-    }
-    let part = words.exchange(seat, slot, Token::blank());
-    seat.turn();
-    part
-}
+use dr_lent::rows::{join_at, put_at, regain_at};
+use dr_lent::slots::{draw, is_in_hand};
+use dr_runs::HandlerCounts;
 
 // A handler's part of each of some events comes back.
 fn reclaim_lane<T>(

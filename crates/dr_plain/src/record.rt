@@ -1,14 +1,9 @@
 //! What the ends of a ring know. No value of a record is ever made: they stand in proofs alone.
 
 use crate::plan::Plan;
+pub use dr_lent::Lent;
 use dr_runs::Look;
 use std::collections::LinkedList;
-
-/// An event as it was lent to all handlers: which lending of its cell, and the event.
-pub struct Lent<T> {
-    pub round: u64,
-    pub event: T,
-}
 
 /// What the sender knows: which events it published, each as it was lent, how many sequences it claimed past them, whether it halted or closed the ring, and
 /// what it saw.

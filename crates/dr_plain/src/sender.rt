@@ -8,13 +8,12 @@ ghost use Rattle.dr_plain.specs.Calls.Sending.{ClaimCall, WriteCall, PublishCall
 ghost use Rattle.dr_plain.specs.Inside.Leaving.{BelongsSender};
 
 use crate::body::RingBody;
-use crate::dealt::{put_at, write_in};
 use crate::laws::SenderStation;
 use crate::left::SenderLeft;
-use crate::settled::HandlerCounts;
 use dr_cells::{Strip, Token};
+use dr_lent::rows::{put_at, write_in};
 use dr_meaning::{Claimed, Refusal};
-use dr_runs::Written;
+use dr_runs::{HandlerCounts, Written};
 use dr_seq::GateCache;
 use std::alloc::Global;
 use std::marker::{Brand, Model};
@@ -38,8 +37,9 @@ pub struct Sender<T> {
 
 impl<T> Model for Sender<T> {
     ghost use Rattle.std.specs.Prelude.{length};
+    ghost use Rattle.dr_lent.specs.Rows.{cells_of};
     ghost use Rattle.dr_plain.specs.Calls.Ends.{SenderEnd};
-    ghost use Rattle.dr_plain.specs.Inside.Fits.{SenderFits, cells_of};
+    ghost use Rattle.dr_plain.specs.Inside.Fits.{SenderFits};
     ghost use Rattle.dr_plain.specs.Inside.Views.{sender_end};
 
     ghost Value = { SenderEnd T };

@@ -1,24 +1,9 @@
 //! How far a ring came.
 
 ghost use Rattle.std.specs.Prelude.{◌≡◌, ◌<◌, length};
-ghost use Rattle.dr_plain.specs.Calls.Settling.{counts_at};
+ghost use Rattle.dr_runs.specs.Gathering.{counts_at};
 
-/// How many events a handler took and completed.
-#[derive(Clone, Copy, Debug, PartialEq, Eq)]
-pub struct HandlerCounts {
-    pub taken: u64,
-    pub completed: u64,
-}
-
-impl HandlerCounts {
-    /// Before the first event.
-    pub const NONE: HandlerCounts = HandlerCounts {
-        taken: 0,
-        completed: 0,
-    };
-}
-
-const _: () = prove!(HandlerCounts::NONE.taken == 0 && HandlerCounts::NONE.completed == 0);
+use dr_runs::HandlerCounts;
 
 /// How far a ring came.
 #[derive(Drop)]

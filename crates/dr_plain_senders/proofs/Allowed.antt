@@ -1,5 +1,6 @@
--- Each kind of step is allowed.
-use Rattle.std.proofs.Common.{◌≡◌, ℕ, ◌+◌, ◌-◌, ◌*◌, ◌^◌, ◌<◌, ◌≤◌, inl, inr, Bool, true, false, ◌==◌, if◌then◌else◌, List, [], ◌∷◌, ◌++◌, length, get_or, set, replicate, sym, refl, ap, ◌∙◌, subst, arith}
+-- Each kind of step of a sender, and of the halter, is allowed.
+use Rattle.std.proofs.Common.{◌≡◌, ℕ, ◌+◌, ◌-◌, ◌*◌, ◌^◌, ◌<◌, ◌≤◌, inl, inr, Bool, true, false, ◌==◌, if◌then◌else◌, List, [], ◌∷◌, ◌++◌, length}
+use Rattle.std.proofs.Common.{get_or, set, replicate, sym, refl, ap, ◌∙◌, subst, arith}
 use Rattle.std.specs.Prelude.{Contains, bit_or, bit_xor}
 use Rattle.std.proofs.lemmas.Bool.{cases_eq, cases_lt, eq-eqb, ne_eqb, lt-ltb, le-ltb}
 use Rattle.std.proofs.lemmas.List.{length-append, length-map, length-replicate}
@@ -14,41 +15,43 @@ use prog.Atomic.{either}
 use Rattle.atomic_table.specs.Table.{step, Allows}
 use Rattle.atomic_table.proofs.Lists.{set_here, at_longer}
 use Rattle.dr_cells.specs.declared.token.Token.{Token}
-use Rattle.dr_graph.specs.Meaning.Graph.{upstreams_of, finals}
+use Rattle.dr_graph.specs.Meaning.Graph.{finals}
 use Rattle.dr_runs.specs.Seats.{end_of, seat_at}
 use Rattle.dr_runs.proofs.Elements.{at_below}
 use Rattle.dr_runs.proofs.Looks.{last_look_le}
 use Rattle.dr_runs.proofs.Offers.{final_inside}
 use Rattle.dr_runs.proofs.Seats.{adds_nothing, adds_one}
+use Rattle.dr_lent.specs.declared.lent.Lent.{Lent}
 use Rattle.dr_plain_senders.specs.Meaning.Shape.{Shape, handlers_of}
 use Rattle.dr_plain_senders.specs.Meaning.Words.{claim_word, claimed_in, halted_from, halt_bit, count_word, mark_word, mark_bit, in_word, mark_start}
-use Rattle.dr_plain_senders.specs.declared.record.Lent.{Lent}
 use Rattle.dr_plain_senders.specs.declared.record.Stage.{Stage}
 use Rattle.dr_plain_senders.specs.declared.record.SenderRecord.{SenderRecord}
-use Rattle.dr_plain_senders.specs.declared.record.ReceiverRecord.{ReceiverRecord}
 use Rattle.dr_plain_senders.specs.declared.record.HalterRecord.{HalterRecord}
-use Rattle.dr_plain_senders.specs.declared.record.EndRecord.TheVariants.{Sends, Receives, Halts}
+use Rattle.dr_plain_senders.specs.declared.record.EndRecord.TheVariants.{Sends, Halts}
 use Rattle.dr_plain_senders.specs.declared.record.Step.{Step}
-use Rattle.dr_plain_senders.specs.declared.record.Step.TheVariants.{SenderLooksAtClaims, SenderLooksAtCount, SenderClaims, SenderPublishes, SenderLooksAtMark, SenderHalts}
-use Rattle.dr_plain_senders.specs.declared.record.Step.TheVariants.{ReceiverLooksAtClaims, ReceiverLooksAtMark, ReceiverLooksAtCount, ReceiverCompletes, HalterHalts}
-use Rattle.dr_plain_senders.specs.Meaning.Records.{events_of, Owns, has_published, sender_looked, mark_found, claimed_from, claims_looked, taken_at_mark, mark_looked, taken_at_count, receiver_looked, completed_to, halter_halted, SeesRoom, fresh_stage}
+use Rattle.dr_plain_senders.specs.declared.record.Step.TheVariants.{SenderLooksAtClaims, SenderLooksAtCount, SenderClaims, SenderPublishes}
+use Rattle.dr_plain_senders.specs.declared.record.Step.TheVariants.{SenderLooksAtMark, SenderHalts}
+use Rattle.dr_plain_senders.specs.declared.record.Step.TheVariants.{HalterHalts}
+use Rattle.dr_plain_senders.specs.Meaning.Records.{events_of, Owns, has_published, sender_looked, mark_found, claimed_from, halter_halted, SeesRoom}
+use Rattle.dr_plain_senders.specs.Meaning.Records.{fresh_stage}
 use Rattle.dr_plain_senders.specs.Meaning.Rule.{World, KeepsRule}
 use Rattle.dr_plain_senders.specs.Meaning.Lying.{Laid, Lies}
-use Rattle.dr_plain_senders.specs.Meaning.Steps.{Happens, sender_knows, sender_claims, receiver_knows, halted_words}
-use Rattle.dr_plain_senders.specs.Calls.Finds.{FindsMore, FindsClaims, FindsEvents, FindsNext, FindsOwn, IsEarlier}
-use Rattle.dr_plain_senders.specs.Inside.Seats.{End, Hand, Sitting, Tells, ring_ends, Loads, Stores, Ruled, as_sender, as_receiver, as_halter, sender_of, receiver_of, halter_of, IsSender, IsReceiver, IsHalter}
-use Rattle.dr_plain_senders.specs.Inside.Seats.{LayIn, LayAsLent, taken_by_claim, given_by_publication, taken_by_poll, given_by_completion, SenderLooked, SenderLookedAtClaims, SenderClaimed, SenderPublished, SenderLookedAtMark, SenderHalted}
-use Rattle.dr_plain_senders.specs.Inside.Seats.{ReceiverLookedAtClaims, ReceiverLookedAtMark, ReceiverLookedAtCount, ReceiverCompleted, HalterHalted}
+use Rattle.dr_plain_senders.specs.Meaning.Steps.{Happens, sender_knows, sender_claims, halted_words}
+use Rattle.dr_plain_senders.specs.Calls.Finds.{FindsMore, FindsOwn, IsEarlier}
+use Rattle.dr_plain_senders.specs.Inside.Seats.{End, Hand, Sitting, Tells, ring_ends, Loads, Stores, Ruled, as_sender, as_halter, sender_of}
+use Rattle.dr_plain_senders.specs.Inside.Seats.{halter_of, IsSender, IsHalter}
+use Rattle.dr_plain_senders.specs.Inside.Seats.{LayIn, LayAsLent, taken_by_claim, given_by_publication, SenderLooked, SenderLookedAtClaims}
+use Rattle.dr_plain_senders.specs.Inside.Seats.{SenderClaimed, SenderPublished, SenderLookedAtMark, SenderHalted}
+use Rattle.dr_plain_senders.specs.Inside.Seats.{HalterHalted}
 use Rattle.dr_plain_senders.proofs.Places.{word_at, claimed_low}
-use Rattle.dr_plain_senders.proofs.Facts.{taken_claimed, handler_inside, upstream_inside, receiver_of_handler, above, near_open, owned}
+use Rattle.dr_plain_senders.proofs.Facts.{near_open, owned}
 use Rattle.dr_plain_senders.proofs.KeepsClaims.{keeps_claims}
-use Rattle.dr_plain_senders.proofs.Barriers.{marked_claimed, offers_at_mark, offers_at_count, next_of}
-use Rattle.dr_plain_senders.proofs.Moves.{stays, gives_moves, claim_moves, look_moves, poll_moves, completion_moves}
+use Rattle.dr_plain_senders.proofs.Moves.{stays, gives_moves, claim_moves}
 use Rattle.dr_plain_senders.proofs.RunMoves.{MayPublish, publishes_many}
-use Rattle.dr_plain_senders.proofs.Seats.{Does, Acts, OthersStand, by_end, but_sender, but_receiver, but_halter}
+use Rattle.dr_plain_senders.proofs.Seats.{Does, Acts, OthersStand, by_end, but_sender, but_halter}
 
 -- a load stores what was there
-same_words : (us : List ℕ) (i : ℕ) → us ≡ set us i (get_or us i 0)
+pub same_words : (us : List ℕ) (i : ℕ) → us ≡ set us i (get_or us i 0)
 same_words us i = sym (set-get_or us i 0)
 
 -- the highest bit is set
@@ -83,14 +86,12 @@ module _ {T : Type 0} where
   -- the highest bit of a word may be set, by this step, which tells this
   abbrev pub MayHalt : Shape T → ℕ → ℕ → Sitting T → (End T → ℕ → Step T) → Tells T → Type 0
   MayHalt k slots id me stored tells =
-      Allows (Ruled k) slots id me claim_word (λ n. bit_or n 9223372036854775808) (Stores (λ s. stored) tells (step slots claim_word 9223372036854775808 0 none) me)
+      Allows (Ruled k) slots id me claim_word (λ n. bit_or n 9223372036854775808)
+      (Stores (λ s. stored) tells (step slots claim_word 9223372036854775808 0 none) me)
 
   -- for a seat that stands for one end
   along_sender : (P : Sitting T → Type 0) (me : Sitting T) → IsSender (end_of me) → P (seat_at (as_sender (sender_of me.0.ends) me.1) me.0.pasts) → P me
   along_sender P me is p = subst (λ (e : End T). P (seat_at e me.0.pasts)) (sym is) p
-
-  along_receiver : (P : Sitting T → Type 0) (me : Sitting T) → IsReceiver (end_of me) → P (seat_at (as_receiver (receiver_of me.0.ends) me.1) me.0.pasts) → P me
-  along_receiver P me is p = subst (λ (e : End T). P (seat_at e me.0.pasts)) (sym is) p
 
   along_halter : (P : Sitting T → Type 0) (me : Sitting T) → IsHalter (end_of me) → P (seat_at (as_halter (halter_of me.0.ends)) me.0.pasts) → P me
   along_halter P me is p = subst (λ (e : End T). P (seat_at e me.0.pasts)) (sym is) p
@@ -101,7 +102,8 @@ module _ {T : Type 0} where
   sender_sees k w r i at low K = last_look_le (mark_start k) w.words 0 r.looks i (omega arith) (K.sent r.number r at).looks
 
   -- what a step does that changes a sender's record, and no word
-  abbrev sender_learns : (k : Shape T) (kind : Step T) (w : World T) (r q : SenderRecord T) (i : ℕ) → get_elem? w.senders r.number ≡ some r → q.number ≡ r.number
+  abbrev sender_learns : (k : Shape T) (kind : Step T) (w : World T) (r q : SenderRecord T) (i : ℕ)
+      → get_elem? w.senders r.number ≡ some r → q.number ≡ r.number
       → Happens k kind w (sender_knows w r.number q) → Does k kind w i (word_at w.words i) (Sends q)
   sender_learns k kind w r q i at same happens = record {
     after = sender_knows w r.number q;
@@ -111,27 +113,20 @@ module _ {T : Type 0} where
     others = subst (λ (p : ℕ). OthersStand w (sender_knows w r.number q) (2 * p + 1)) (sym same) (but_sender w (sender_knows w r.number q) r q refl refl refl);
   }
 
-  -- and a receiver's
-  abbrev receiver_learns : (k : Shape T) (kind : Step T) (w : World T) (r q : ReceiverRecord T) (i : ℕ) → get_elem? w.receivers r.number ≡ some r → q.number ≡ r.number
-      → Happens k kind w (receiver_knows w r.number q) → Does k kind w i (word_at w.words i) (Receives q)
-  receiver_learns k kind w r q i at same happens = record {
-    after = receiver_knows w r.number q;
-    happens = happens;
-    words = same_words w.words i;
-    stands = ap (λ (p : ℕ). get_elem? (set w.receivers r.number q) p) same ∙ set_here w.receivers r.number q (at_below w.receivers r.number r at);
-    others = subst (λ (p : ℕ). OthersStand w (receiver_knows w r.number q) (2 * p + 2)) (sym same)
-        (but_receiver w (receiver_knows w r.number q) r q refl refl refl);
-  }
-
   -- what a sender has is claimed
   finds_own : (k : Shape T) (w : World T) (r : SenderRecord T) → get_elem? w.senders r.number ≡ some r → KeepsRule k w → FindsOwn r (word_at w.words claim_word)
-  finds_own k w r at K z t own = let here = (owned k w r.number r z own.0 t at own.1 K).1 in let inside = at_below w.stages z t here in let claim = K.claim in omega arith
+  finds_own k w r at K z t own =
+      let here = (owned k w r.number r z own.0 t at own.1 K).1 in
+      let inside = at_below w.stages z t here in
+      let claim = K.claim in omega arith
 
-  pub sender_looks_at_claims : (k : Shape T) {slots : ℕ} (id : ℕ) (me : Sitting T) → IsSender (end_of me) → MayLoad k slots id me claim_word SenderLookedAtClaims
+  pub sender_looks_at_claims : (k : Shape T) {slots : ℕ} (id : ℕ) (me : Sitting T)
+      → IsSender (end_of me) → MayLoad k slots id me claim_word SenderLookedAtClaims
   sender_looks_at_claims k {slots = slots} id me is =
       let r = sender_of me.0.ends in let kind = SenderLooksAtClaims r.number in
       along_sender (λ m. MayLoad k slots id m claim_word SenderLookedAtClaims) me is
-      (by_end k slots id kind (λ xs. xs) me.0.pasts (Sends r) me.1 claim_word (λ n. n) (SenderLookedAtClaims (step slots claim_word 0 0 none) (as_sender r me.1))
+      (by_end k slots id kind (λ xs. xs) me.0.pasts (Sends r) me.1 claim_word (λ n. n)
+      (SenderLookedAtClaims (step slots claim_word 0 0 none) (as_sender r me.1))
       (adds_nothing ring_ends _ kind (λ n. refl))
       (λ w at K small homes lies. let q = sender_looked r claim_word (word_at w.words claim_word) in record {
         mine = Sends q;
@@ -142,7 +137,8 @@ module _ {T : Type 0} where
         tells = (refl, sender_sees k w r claim_word at (omega arith) K, finds_own k w r at K);
       }))
 
-  looks_at_count : (k : Shape T) (slots id : ℕ) (me : Sitting T) (f : ℕ) → IsSender (end_of me) → Contains (finals k.upstreams) f → MayLoad k slots id me (count_word f) SenderLooked
+  looks_at_count : (k : Shape T) (slots id : ℕ) (me : Sitting T) (f : ℕ) → IsSender (end_of me)
+      → Contains (finals k.upstreams) f → MayLoad k slots id me (count_word f) SenderLooked
   looks_at_count k slots id me f is has =
       let r = sender_of me.0.ends in let i = count_word f in let kind = SenderLooksAtCount r.number f in
       along_sender (λ m. MayLoad k slots id m i SenderLooked) me is
@@ -157,7 +153,8 @@ module _ {T : Type 0} where
         tells = (refl, sender_sees k w r i at (omega arith) K);
       }))
 
-  pub sender_looks_at_count : (k sh : Shape T) {slots : ℕ} (id : ℕ) (me : Sitting T) (i f : ℕ) → k ≡ sh → i ≡ count_word f → IsSender (end_of me) → Contains (finals sh.upstreams) f
+  pub sender_looks_at_count : (k sh : Shape T) {slots : ℕ} (id : ℕ) (me : Sitting T) (i f : ℕ)
+      → k ≡ sh → i ≡ count_word f → IsSender (end_of me) → Contains (finals sh.upstreams) f
       → MayLoad k slots id me i SenderLooked
   sender_looks_at_count k sh {slots = slots} id me i f same here is has =
       subst (λ (i : ℕ). MayLoad k slots id me i SenderLooked) (sym here)
@@ -175,10 +172,14 @@ module _ {T : Type 0} where
       → word_at w.words claim_word ≡ c → Owns r z t → KeepsRule k w
       → IsEarlier k c (c + n) z t
   earlier k w r c n z t at some_one room hit own K =
-      let here = (owned k w r.number r z own.0 t at own.1 K).1 in let inside = at_below w.stages z t here in let small = K.shape.small in let fits = room.limit in
+      let here = (owned k w r.number r z own.0 t at own.1 K).1 in
+      let inside = at_below w.stages z t here in
+      let small = K.shape.small in
+      let fits = room.limit in
       let low : c < halt_bit = omega arith in let new = replicate n (fresh_stage {T = T} r.number) in
       let now : c ≡ length w.stages = sym (claimed_low c low) ∙ ap claimed_in (sym hit) ∙ K.claim in
-      let longer : length (w.stages ++ new) ≡ length w.stages + n = omega (arith, length-append w.stages new, length-replicate n (fresh_stage {T = T} r.number)) in (
+      let longer : length (w.stages ++ new) ≡ length w.stages + n =
+      omega (arith, length-append w.stages new, length-replicate n (fresh_stage {T = T} r.number)) in (
         omega arith,
         λ hidden. (
             let near = near_open k (sender_claims w r.number r c n) z t (at_longer w.stages new z t here) hidden
@@ -192,13 +193,15 @@ module _ {T : Type 0} where
       × (me' ≡ as_sender (learned r c n m b) (taken_by_claim k c laid ++ hand))
       × FindsMore r.looks claim_word m × (m ≡ c → (z : ℕ) (t : Stage T) → Owns r z t → IsEarlier k c v z t) × LayAsLent k r c laid
 
-  claim_acts : (k : Shape T) (w : World T) (r : SenderRecord T) (hand : Hand T) (homes : List (maybe.Option (Token T))) (c n v m : ℕ) → get_elem? w.senders r.number ≡ some r → 0 < n
+  claim_acts : (k : Shape T) (w : World T) (r : SenderRecord T) (hand : Hand T) (homes : List (maybe.Option (Token T))) (c n v m : ℕ)
+      → get_elem? w.senders r.number ≡ some r → 0 < n
       → SeesRoom k r c n → c + n ≡ v → m ≡ word_at w.words claim_word → KeepsRule k w → Lies k w homes
       → Acts k (SenderClaims r.number c n) w claim_word (either (m == c) v m) (Sends r) hand homes (ClaimTells k r hand c n v m (m == c))
   claim_acts k w r hand homes c n v m at some_one room sum here K lies =
       let kind = SenderClaims r.number c n in
       let P : Bool → Type 0 = λ b. Acts k kind w claim_word (either b v m) (Sends r) hand homes (ClaimTells k r hand c n v m b) in
-      let seen : FindsMore r.looks claim_word m = subst (λ (j : ℕ). FindsMore r.looks claim_word j) (sym here) (sender_sees k w r claim_word at (omega arith) K) in
+      let seen : FindsMore r.looks claim_word m =
+      subst (λ (j : ℕ). FindsMore r.looks claim_word j) (sym here) (sender_sees k w r claim_word at (omega arith) K) in
       let before : m ≡ c → (z : ℕ) (t : Stage T) → Owns r z t → IsEarlier k c v z t =
       λ hit z t own. subst (λ (j : ℕ). IsEarlier k c j z t) sum (earlier k w r c n z t at some_one room (sym here ∙ hit) own K) in
       let after : (b : Bool) → (m == c) ≡ b → exchanged_world w r c n b ≡ exchanged_world w r c n (word_at w.words claim_word == c) =
@@ -235,7 +238,14 @@ module _ {T : Type 0} where
               };
               hand_after = hand;
               moves = stays k u hand homes lies;
-              tells = ([], record { count = refl; rounds = λ i a at_i. absurd (some-ne-none a (sym at_i)) }, refl, seen, before, λ i s a x l at_i place own out. absurd (some-ne-none a (sym at_i)));
+              tells = (
+                [],
+                record { count = refl; rounds = λ i a at_i. absurd (some-ne-none a (sym at_i)) },
+                refl,
+                seen,
+                before,
+                λ i s a x l at_i place own out. absurd (some-ne-none a (sym at_i)),
+              );
             }))
       ]
 
@@ -256,11 +266,16 @@ module _ {T : Type 0} where
       (adds_one ring_ends _ kind (λ n. refl))
       (λ w at K small homes lies. claim_acts k w r me.1 homes c more v (word_at w.words claim_word) at (omega arith) room back refl K lies)))
 
-  publishes : (k : Shape T) (slots id : ℕ) (me : Sitting T) (s : ℕ) (lents : List (Lent T)) (rest : Hand T) → IsSender (end_of me) → 0 < length lents → length lents ≤ in_word k s
+  publishes : (k : Shape T) (slots id : ℕ) (me : Sitting T) (s : ℕ) (lents : List (Lent T)) (rest : Hand T)
+      → IsSender (end_of me) → 0 < length lents → length lents ≤ in_word k s
       → MayPublish (sender_of me.0.ends) s (length lents) → me.1 ≡ given_by_publication k s lents ++ rest
-      → MayFlip k slots id me (mark_word k s) (2 ^ (mark_bit k s + length lents) - 2 ^ mark_bit k s) (λ e n. SenderPublishes (sender_of e.0).number s (events_of lents)) (SenderPublished k s lents)
+      → MayFlip k slots id me (mark_word k s) (2 ^ (mark_bit k s + length lents) - 2 ^ mark_bit k s)
+      (λ e n. SenderPublishes (sender_of e.0).number s (events_of lents)) (SenderPublished k s lents)
   publishes k slots id me s lents rest is some_one few may hand =
-      let r = sender_of me.0.ends in let i = mark_word k s in let mask : ℕ = 2 ^ (mark_bit k s + length lents) - 2 ^ mark_bit k s in let given = given_by_publication k s lents in
+      let r = sender_of me.0.ends in
+      let i = mark_word k s in
+      let mask : ℕ = 2 ^ (mark_bit k s + length lents) - 2 ^ mark_bit k s in
+      let given = given_by_publication k s lents in
       let kind = SenderPublishes r.number s (events_of lents) in let tells : Tells T = SenderPublished k s lents in
       let Goal : Sitting T → Type 0 = λ x. MayFlip k slots id x i mask (λ e n. SenderPublishes (sender_of e.0).number s (events_of lents)) tells in
       along_sender Goal me is
@@ -283,17 +298,23 @@ module _ {T : Type 0} where
         tells = ap (λ (c : Hand T). as_sender q c) (sym (drop-append_seam given rest));
       })))
 
-  pub sender_publishes_many : (k sh : Shape T) {slots : ℕ} (id : ℕ) (me : Sitting T) (i s m v count : ℕ) (lents : List (Lent T)) (rest : Hand T) → k ≡ sh → s ≡ m → length lents ≡ count
+  pub sender_publishes_many : (k sh : Shape T) {slots : ℕ} (id : ℕ) (me : Sitting T) (i s m v count : ℕ) (lents : List (Lent T)) (rest : Hand T)
+      → k ≡ sh → s ≡ m → length lents ≡ count
       → 0 < count → count ≤ in_word sh s → i ≡ mark_word sh s → v ≡ 2 ^ (mark_bit sh s + count) - 2 ^ mark_bit sh s → IsSender (end_of me)
       → MayPublish (sender_of me.0.ends) s count → me.1 ≡ given_by_publication sh s lents ++ rest
       → MayFlip k slots id me i v (λ e n. SenderPublishes (sender_of e.0).number m (events_of lents)) (SenderPublished sh m lents)
   sender_publishes_many k sh {slots = slots} id me i s m v count lents rest same named many some_one few here now is may hand =
-      subst (λ (p : Shape T). count ≤ in_word p s → i ≡ mark_word p s → v ≡ 2 ^ (mark_bit p s + count) - 2 ^ mark_bit p s → me.1 ≡ given_by_publication p s lents ++ rest
+      subst (λ (p : Shape T).
+      count ≤ in_word p s → i ≡ mark_word p s → v ≡ 2 ^ (mark_bit p s + count) - 2 ^ mark_bit p s → me.1 ≡ given_by_publication p s lents ++ rest
       → MayFlip k slots id me i v (λ e n. SenderPublishes (sender_of e.0).number m (events_of lents)) (SenderPublished p m lents)) same
-      (λ few here now hand. subst (λ (j : ℕ). MayFlip k slots id me i v (λ e n. SenderPublishes (sender_of e.0).number j (events_of lents)) (SenderPublished k j lents)) named
-      (subst (λ (x : ℕ × ℕ). MayFlip k slots id me x.0 x.1 (λ e n. SenderPublishes (sender_of e.0).number s (events_of lents)) (SenderPublished k s lents)) (λ j. (sym here j, sym now j))
+      (λ few here now hand.
+      subst (λ (j : ℕ). MayFlip k slots id me i v (λ e n. SenderPublishes (sender_of e.0).number j (events_of lents)) (SenderPublished k j lents)) named
+      (subst (λ (x : ℕ × ℕ). MayFlip k slots id me x.0 x.1 (λ e n. SenderPublishes (sender_of e.0).number s (events_of lents)) (SenderPublished k s lents))
+      (λ j. (sym here j, sym now j))
       (subst (λ (n : ℕ). 0 < n → n ≤ in_word k s → MayPublish (sender_of me.0.ends) s n
-      → MayFlip k slots id me (mark_word k s) (2 ^ (mark_bit k s + n) - 2 ^ mark_bit k s) (λ e n. SenderPublishes (sender_of e.0).number s (events_of lents)) (SenderPublished k s lents)) many
+      → MayFlip k slots id me (mark_word k s) (2 ^ (mark_bit k s + n) - 2 ^ mark_bit k s)
+      (λ e n. SenderPublishes (sender_of e.0).number s (events_of lents)) (SenderPublished k s lents))
+      many
       (λ some_one few may. publishes k slots id me s lents rest is some_one few may hand) some_one few may)))
       few here now hand
 
@@ -316,9 +337,11 @@ module _ {T : Type 0} where
       → MayLoad k slots id me i (SenderLookedAtMark m)
   sender_looks_at_mark k sh {slots = slots} id me i s m same named here is =
       subst (λ (j : ℕ). MayLoad k slots id me i (SenderLookedAtMark j)) named
-      (subst (λ (j : ℕ). MayLoad k slots id me j (SenderLookedAtMark s)) (sym (here ∙ ap (λ (p : Shape T). mark_word p s) (sym same))) (looks_at_mark k slots id me s is))
+      (subst (λ (j : ℕ). MayLoad k slots id me j (SenderLookedAtMark s))
+      (sym (here ∙ ap (λ (p : Shape T). mark_word p s) (sym same))) (looks_at_mark k slots id me s is))
 
-  pub sender_halts : (k : Shape T) {slots : ℕ} (id : ℕ) (me : Sitting T) → IsSender (end_of me) → MayHalt k slots id me (λ e n. SenderHalts (sender_of e.0).number) SenderHalted
+  pub sender_halts : (k : Shape T) {slots : ℕ} (id : ℕ) (me : Sitting T) → IsSender (end_of me)
+      → MayHalt k slots id me (λ e n. SenderHalts (sender_of e.0).number) SenderHalted
   sender_halts k {slots = slots} id me is =
       let r = sender_of me.0.ends in let kind = SenderHalts r.number in
       along_sender (λ m. MayHalt k slots id m (λ e n. SenderHalts (sender_of e.0).number) SenderHalted) me is
@@ -348,7 +371,8 @@ module _ {T : Type 0} where
       (by_end k slots id HalterHalts (λ xs. xs ++ HalterHalts ∷ []) me.0.pasts (Halts r) [] claim_word (λ n. bit_or n 9223372036854775808)
       (HalterHalted (step slots claim_word 9223372036854775808 0 none) (as_halter r))
       (adds_one ring_ends _ HalterHalts (λ n. refl))
-      (λ w at K small homes lies. let n = word_at w.words claim_word in let u : World T = record w { words = halted_words w; halter = halter_halted w.halter n } in record {
+      (λ w at K small homes lies. let n = word_at w.words claim_word in
+      let u : World T = record w { words = halted_words w; halter = halter_halted w.halter n } in record {
         mine = Halts (halter_halted r n);
         same = refl;
         does = record {
@@ -362,133 +386,3 @@ module _ {T : Type 0} where
         moves = stays k u [] homes lies;
         tells = refl;
       }))
-
-  finds_claims : (k : Shape T) (w : World T) (r : ReceiverRecord T) → get_elem? w.receivers r.number ≡ some r → KeepsRule k w → FindsClaims r (word_at w.words claim_word)
-  finds_claims k w r at K =
-      let was = K.received r.number r at in let count = K.claim in let taken = taken_claimed k w r.number r at K in (
-        last_look_le (mark_start k) w.words 0 r.looks claim_word (omega arith) was.looks,
-        omega arith,
-        λ told. (let t = was.told told in let e = t.1 in (t.0, omega arith)),
-      )
-
-  pub receiver_looks_at_claims : (k : Shape T) {slots : ℕ} (id : ℕ) (me : Sitting T) → IsReceiver (end_of me) → MayLoad k slots id me claim_word ReceiverLookedAtClaims
-  receiver_looks_at_claims k {slots = slots} id me is =
-      let r = receiver_of me.0.ends in let kind = ReceiverLooksAtClaims r.number in
-      along_receiver (λ m. MayLoad k slots id m claim_word ReceiverLookedAtClaims) me is
-      (by_end k slots id kind (λ xs. xs) me.0.pasts (Receives r) me.1 claim_word (λ n. n) (ReceiverLookedAtClaims (step slots claim_word 0 0 none) (as_receiver r me.1))
-      (adds_nothing ring_ends _ kind (λ n. refl))
-      (λ w at K small homes lies. let q = claims_looked r (word_at w.words claim_word) in record {
-        mine = Receives q;
-        same = refl;
-        does = receiver_learns k kind w r q claim_word at refl (r, at, refl);
-        hand_after = me.1;
-        moves = look_moves k w r.number r q me.1 homes at refl refl K lies;
-        tells = (refl, finds_claims k w r at K);
-      }))
-
-  finds_next : (k : Shape T) (w : World T) (r : ReceiverRecord T) → get_elem? w.receivers r.number ≡ some r → KeepsRule k w → FindsNext k r (word_at w.words (mark_word k (length r.received)))
-  finds_next k w r at K =
-      let all = marked_claimed k w r.number r at K in let was = K.received r.number r at in let a = above k w K r.number (handler_inside k w r.number r at K) in let c = was.count in
-      ((λ told. let t = (was.told told).1 in omega arith), omega arith)
-
-  looks_at_next : (k : Shape T) (slots id : ℕ) (me : Sitting T) (room : ℕ) → IsReceiver (end_of me) → upstreams_of k.upstreams (receiver_of me.0.ends).number ≡ []
-      → MayLoad k slots id me (mark_word k (length (receiver_of me.0.ends).received)) (ReceiverLookedAtMark k room)
-  looks_at_next k slots id me room is first =
-      let r = receiver_of me.0.ends in let i = mark_word k (length r.received) in let kind = ReceiverLooksAtMark r.number room in
-      along_receiver (λ m. MayLoad k slots id m i (ReceiverLookedAtMark k room)) me is
-      (by_end k slots id kind (λ xs. xs) me.0.pasts (Receives r) me.1 i (λ n. n) (ReceiverLookedAtMark k room (step slots i 0 0 none) (as_receiver r me.1))
-      (adds_nothing ring_ends _ kind (λ n. refl))
-      (λ w at K small homes lies. let found = word_at w.words i in let n = taken_at_mark k r found room in
-      let next = next_of k w r.number n r (offers_at_mark k w r.number room r at first K) in let q = mark_looked r found next.0 in record {
-        mine = Receives q;
-        same = refl;
-        does = receiver_learns k kind w r q i at refl (r, at, (first, next.0, next.1, refl));
-        hand_after = taken_by_poll k r next.0 ++ me.1;
-        moves = poll_moves k w r.number n r q next.0 me.1 homes at next.1 refl refl K lies;
-        tells = (next.0, next.1.count, refl, finds_next k w r at K);
-      }))
-
-  pub receiver_looks_at_mark : (k sh : Shape T) {slots : ℕ} (id : ℕ) (me : Sitting T) (i s room m : ℕ) → k ≡ sh → room ≡ m → s ≡ length (receiver_of me.0.ends).received → i ≡ mark_word sh s
-      → IsReceiver (end_of me) → upstreams_of sh.upstreams (receiver_of me.0.ends).number ≡ []
-      → MayLoad k slots id me i (ReceiverLookedAtMark sh m)
-  receiver_looks_at_mark k sh {slots = slots} id me i s room m same named next here is first =
-      subst (λ (p : Shape T). i ≡ mark_word p s → upstreams_of p.upstreams (receiver_of me.0.ends).number ≡ [] → MayLoad k slots id me i (ReceiverLookedAtMark p m)) same
-      (λ here first. subst (λ (j : ℕ). MayLoad k slots id me i (ReceiverLookedAtMark k j)) named
-      (subst (λ (j : ℕ). MayLoad k slots id me j (ReceiverLookedAtMark k room)) (sym (here ∙ ap (mark_word k) next))
-      (looks_at_next k slots id me room is first))) here first
-
-  -- what a look at an upstream's count finds
-  finds_events : (k : Shape T) (w : World T) (r : ReceiverRecord T) (u : ℕ) → get_elem? w.receivers r.number ≡ some r → Contains (upstreams_of k.upstreams r.number) u
-      → KeepsRule k w
-      → FindsEvents k r (count_word u) (word_at w.words (count_word u))
-  finds_events k w r u at has K =
-      let was = K.received r.number r at in let own = handler_inside k w r.number r at K in let inside = upstream_inside k K.shape.graph r.number u own has in
-      let o = receiver_of_handler k w K u inside in let a = o.2.count in let b = o.2.completed in let c = taken_claimed k w u o.0 o.1 K in
-      let d = above k w K r.number own in let e = was.count in (
-        last_look_le (mark_start k) w.words 0 r.looks (count_word u) (omega arith) was.looks,
-        was.after u has,
-        λ told. (let t = (was.told told).1 in omega arith),
-        omega arith,
-      )
-
-  looks_upstream : (k : Shape T) (slots id : ℕ) (me : Sitting T) (u room : ℕ) → IsReceiver (end_of me) → Contains (upstreams_of k.upstreams (receiver_of me.0.ends).number) u
-      → MayLoad k slots id me (count_word u) (ReceiverLookedAtCount k room)
-  looks_upstream k slots id me u room is has =
-      let r = receiver_of me.0.ends in let i = count_word u in let kind = ReceiverLooksAtCount r.number u room in
-      along_receiver (λ m. MayLoad k slots id m i (ReceiverLookedAtCount k room)) me is
-      (by_end k slots id kind (λ xs. xs) me.0.pasts (Receives r) me.1 i (λ n. n) (ReceiverLookedAtCount k room (step slots i 0 0 none) (as_receiver r me.1))
-      (adds_nothing ring_ends _ kind (λ n. refl))
-      (λ w at K small homes lies. let found = word_at w.words i in let n = taken_at_count k r i found room in
-      let inside = upstream_inside k K.shape.graph r.number u (handler_inside k w r.number r at K) has in
-      let next = next_of k w r.number n r (offers_at_count k w r.number i room r (omega arith) at K) in let q = receiver_looked r i found next.0 in record {
-        mine = Receives q;
-        same = refl;
-        does = receiver_learns k kind w r q i at refl (r, at, (has, next.0, next.1, refl));
-        hand_after = taken_by_poll k r next.0 ++ me.1;
-        moves = poll_moves k w r.number n r q next.0 me.1 homes at next.1 refl refl K lies;
-        tells = (next.0, next.1.count, refl, finds_events k w r u at has K);
-      }))
-
-  pub receiver_looks_at_count : (k sh : Shape T) {slots : ℕ} (id : ℕ) (me : Sitting T) (i u room m : ℕ) → k ≡ sh → room ≡ m → i ≡ count_word u → IsReceiver (end_of me)
-      → Contains (upstreams_of sh.upstreams (receiver_of me.0.ends).number) u
-      → MayLoad k slots id me i (ReceiverLookedAtCount sh m)
-  receiver_looks_at_count k sh {slots = slots} id me i u room m same named here is has =
-      subst (λ (p : Shape T). Contains (upstreams_of p.upstreams (receiver_of me.0.ends).number) u → MayLoad k slots id me i (ReceiverLookedAtCount p m)) same
-      (λ has. subst (λ (j : ℕ). MayLoad k slots id me i (ReceiverLookedAtCount k j)) named
-      (subst (λ (j : ℕ). MayLoad k slots id me j (ReceiverLookedAtCount k room)) (sym here) (looks_upstream k slots id me u room is has))) has
-
-  completes : (k : Shape T) (slots id : ℕ) (me : Sitting T) (n : ℕ) (rest : Hand T) → IsReceiver (end_of me)
-      → (receiver_of me.0.ends).completed ≤ n → n ≤ length (receiver_of me.0.ends).received → me.1 ≡ given_by_completion k (receiver_of me.0.ends) n ++ rest
-      → MayStore k slots id me (count_word (receiver_of me.0.ends).number) n (λ e m. ReceiverCompletes (receiver_of e.0).number m) (ReceiverCompleted k)
-  completes k slots id me n rest is rises taken hand =
-      let r = receiver_of me.0.ends in let i = count_word r.number in let kind = ReceiverCompletes r.number n in let given = given_by_completion k r n in
-      let Goal : Sitting T → Type 0 = λ x. MayStore k slots id x i n (λ e m. ReceiverCompletes (receiver_of e.0).number m) (ReceiverCompleted k) in
-      along_receiver Goal me is
-      (subst (λ (c : Hand T). Goal (seat_at (as_receiver r c) me.0.pasts)) (sym hand)
-      (by_end k slots id kind (λ xs. xs ++ kind ∷ []) me.0.pasts (Receives r) (given ++ rest) i (λ _. n)
-      (λ _. ReceiverCompleted k (step slots i n 0 none) (as_receiver r (given ++ rest)) n)
-      (adds_one ring_ends _ kind (λ n. refl))
-      (λ w at K small homes lies. let q = completed_to r n in let u : World T = record w { words = set w.words i n; receivers = set w.receivers r.number q } in record {
-        mine = Receives q;
-        same = refl;
-        does = record {
-          after = u;
-          happens = (r, at, (rises, taken, refl));
-          words = refl;
-          stands = set_here w.receivers r.number q (at_below w.receivers r.number r at);
-          others = but_receiver w u r q refl refl refl;
-        };
-        hand_after = rest;
-        moves = completion_moves k w r.number n r rest homes at rises taken K lies;
-        tells = ap (λ (c : Hand T). as_receiver q c) (sym (drop-append_seam given rest));
-      })))
-
-  pub receiver_completes : (k sh : Shape T) {slots : ℕ} (id : ℕ) (me : Sitting T) (i h n : ℕ) (rest : Hand T) → k ≡ sh → i ≡ count_word h → IsReceiver (end_of me)
-      → (receiver_of me.0.ends).number ≡ h → (receiver_of me.0.ends).completed ≤ n → n ≤ length (receiver_of me.0.ends).received
-      → me.1 ≡ given_by_completion sh (receiver_of me.0.ends) n ++ rest
-      → MayStore k slots id me i n (λ e m. ReceiverCompletes (receiver_of e.0).number m) (ReceiverCompleted sh)
-  receiver_completes k sh {slots = slots} id me i h n rest same here is own rises taken hand =
-      subst (λ (p : Shape T). me.1 ≡ given_by_completion p (receiver_of me.0.ends) n ++ rest
-      → MayStore k slots id me i n (λ e m. ReceiverCompletes (receiver_of e.0).number m) (ReceiverCompleted p)) same
-      (λ hand. subst (λ (j : ℕ). MayStore k slots id me j n (λ e m. ReceiverCompletes (receiver_of e.0).number m) (ReceiverCompleted k)) (sym (here ∙ ap count_word (sym own)))
-      (completes k slots id me n rest is rises taken hand)) hand

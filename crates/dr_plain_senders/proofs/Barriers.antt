@@ -9,9 +9,9 @@ use Rattle.dr_runs.specs.declared.look.Look.{Look}
 use Rattle.dr_runs.specs.Looks.{look, last_look, offered_by}
 use Rattle.dr_runs.proofs.Elements.{at_below, contains_none}
 use Rattle.dr_runs.proofs.Looks.{last_look_le, past_more}
+use Rattle.dr_lent.specs.declared.lent.Lent.{Lent}
 use Rattle.dr_plain_senders.specs.Meaning.Shape.{Shape, handlers_of}
 use Rattle.dr_plain_senders.specs.Meaning.Words.{count_word, mark_start, mark_word, in_word, is_there}
-use Rattle.dr_plain_senders.specs.declared.record.Lent.{Lent}
 use Rattle.dr_plain_senders.specs.declared.record.ReceiverRecord.{ReceiverRecord}
 use Rattle.dr_plain_senders.specs.Meaning.Records.{barrier_seen, marked_next, taken_at_mark, taken_at_count}
 use Rattle.dr_plain_senders.specs.Meaning.Rule.{World, ArePast, IsOut, IsOutWith, has_mark, KeepsRule}
@@ -28,7 +28,8 @@ offered_at f (v ∷ w ∷ us) u zero lt e = subst (λ (x : ℕ). least_of (f v �
 offered_at f (v ∷ w ∷ us) u (suc i) lt e = let r : offered_by 0 (map f (w ∷ us)) ≤ f u = offered_at f (w ∷ us) u i (omega arith) e in omega arith
 
 -- what is seen below the barrier of a handler is completed by each upstream
-pub below_upstream : {T : Type 0} (k : Shape T) (words : List ℕ) (h u : ℕ) (looks : List Look) → u < handlers_of k → ArePast k words looks → Contains (upstreams_of k.upstreams h) u
+pub below_upstream : {T : Type 0} (k : Shape T) (words : List ℕ) (h u : ℕ) (looks : List Look)
+    → u < handlers_of k → ArePast k words looks → Contains (upstreams_of k.upstreams h) u
     → barrier_seen k h looks ≤ word_at words (count_word u)
 below_upstream k words h u looks inside past up =
     let a = offered_at (λ u. last_look 0 looks (count_word u)) (upstreams_of k.upstreams h) u up.0 up.1 up.2 in
@@ -58,7 +59,8 @@ module _ {T : Type 0} where
   offers_at_count k w h i room r low at K =
       let was = K.received h r at in let found = word_at w.words i in let looks = r.looks ++ look i found ∷ [] in let n = taken_at_count k r i found room in
       let past : ArePast k w.words looks = past_more (mark_start k) w.words i found r.looks low (omega arith) was.looks in
-      let inside = handler_inside k w h r at K in let seen : barrier_seen k r.number looks ≡ barrier_seen k h looks = ap (λ (g : ℕ). barrier_seen k g looks) was.number in
+      let inside = handler_inside k w h r at K in
+      let seen : barrier_seen k r.number looks ≡ barrier_seen k h looks = ap (λ (g : ℕ). barrier_seen k g looks) was.number in
       let completed : (u : ℕ) → Contains (upstreams_of k.upstreams h) u → length r.received + n ≤ word_at w.words (count_word u) =
       λ u up. (let a = below_upstream k w.words h u looks (upstream_inside k K.shape.graph h u inside up) past up in let b = was.after u up in
       elim (cases_lt 0 n) [ inl some_one ↦ omega arith | inr none ↦ omega arith ]) in record {
@@ -66,7 +68,9 @@ module _ {T : Type 0} where
         out = λ j lt. elim (cases_lt 0 (length (upstreams_of k.upstreams h))) [
           | inl some_one ↦ out_by k w h (length r.received + j) (upstreams_of k.upstreams h) refl inside K
               (λ u up. (let a = completed u up in omega arith)) some_one
-          | inr none ↦ absurd (let z = nothing_offered n (length r.received) (upstreams_of k.upstreams h) (λ u. last_look 0 looks (count_word u)) (omega arith) (omega arith) in omega arith)
+          | inr none ↦ absurd
+              (let z = nothing_offered n (length r.received) (upstreams_of k.upstreams h)
+              (λ u. last_look 0 looks (count_word u)) (omega arith) (omega arith) in omega arith)
         ];
       }
 
@@ -77,7 +81,8 @@ module _ {T : Type 0} where
       let s = length r.received in let found = word_at w.words (mark_word k s) in let few = run_few k s found (in_word k s) in let pos = K.shape.some_slot in
       let inside : j < in_word k s = omega arith in let near = few_in_word k s in let size = near.1 in
       let room = above k w K h (handler_inside k w h r at K) in let was = K.received h r at in let c = was.count in let d = was.completed in
-      let there : has_mark k w (s + j) ≡ true = ap (λ (i : ℕ). is_there k (s + j) (word_at w.words i)) (same_word k s j inside) ∙ run_there k s found (in_word k s) j lt in
+      let there : has_mark k w (s + j) ≡ true =
+      ap (λ (i : ℕ). is_there k (s + j) (word_at w.words i)) (same_word k s j inside) ∙ run_there k s found (in_word k s) j lt in
       K.marks (s + j) (λ z e. taken_out k w h z r at (omega arith) K) (omega arith) there
 
   -- and so is claimed
@@ -89,7 +94,8 @@ module _ {T : Type 0} where
         | inr none ↦ (let taken = taken_claimed k w h r at K in omega arith)
       ]
 
-  pub offers_at_mark : (k : Shape T) (w : World T) (h room : ℕ) (r : ReceiverRecord T) → get_elem? w.receivers h ≡ some r → upstreams_of k.upstreams h ≡ [] → KeepsRule k w
+  pub offers_at_mark : (k : Shape T) (w : World T) (h room : ℕ) (r : ReceiverRecord T)
+      → get_elem? w.receivers h ≡ some r → upstreams_of k.upstreams h ≡ [] → KeepsRule k w
       → Offers k w h r (taken_at_mark k r (word_at w.words (mark_word k (length r.received))) room)
   offers_at_mark k w h room r at none K = record {
     completed = λ u up. absurd (contains_none u (subst (λ (xs : List ℕ). Contains xs u) none up));

@@ -56,7 +56,12 @@ module _ (T : Type 0) where
     marked = λ s x near. absurd (some-ne-none x.1.0 (sym x.1.1));
     sent = λ p r at. (let e : r ≡ fresh_sender p = sender_fresh 0 k.senders p r at ∙ (let z : 0 + p ≡ p = omega arith in ap fresh_sender z) in
         subst (λ (q : SenderRecord T). SenderKept k ws [] p q) (sym e)
-        (record { number = refl; own = λ i o there. absurd (some-ne-none o (sym there)); all = λ s t there mine. absurd (some-ne-none t (sym there)); looks = λ i x there. absurd (some-ne-none x (sym there)) }));
+        (record {
+          number = refl;
+          own = λ i o there. absurd (some-ne-none o (sym there));
+          all = λ s t there mine. absurd (some-ne-none t (sym there));
+          looks = λ i x there. absurd (some-ne-none x (sym there));
+        }));
     received = λ h r at. (let e : r ≡ fresh_receiver h = receiver_fresh 0 (handlers_of k) h r at ∙ (let z : 0 + h ≡ h = omega arith in ap fresh_receiver z) in
         subst (λ (q : ReceiverRecord T). ReceiverKept k ws [] h q) (sym e)
         (record {

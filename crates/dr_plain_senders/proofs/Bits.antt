@@ -1,11 +1,13 @@
 -- The marks in a word, bit by bit.
-use Rattle.std.proofs.Common.{◌≡◌, ◌≢◌, ℕ, zero, suc, ◌+◌, ◌-◌, ◌*◌, ◌/◌, ◌%◌, ◌^◌, ◌<◌, ◌≤◌, inl, inr, Bool, true, false, ◌==◌, if◌then◌else◌, min, sym, refl, ap, ◌∙◌, subst, arith, suc-mul}
+use Rattle.std.proofs.Common.{◌≡◌, ◌≢◌, ℕ, zero, suc, ◌+◌, ◌-◌, ◌*◌, ◌/◌, ◌%◌, ◌^◌, ◌<◌, ◌≤◌, inl, inr, Bool, true, false, ◌==◌, if◌then◌else◌, min}
+use Rattle.std.proofs.Common.{sym, refl, ap, ◌∙◌, subst, arith, suc-mul}
 use Rattle.std.specs.Prelude.{bit_xor, nat_lt}
 use Rattle.std.specs.Int.{bit_at, trailing_ones, trailing_zeros, bit_not, w64}
 use Rattle.std.specs.Int.Count.{trailing_of_zero}
 use Rattle.std.proofs.lemmas.Bool.{cases_lt, cases_eq, cases_Bool, eqb-true, eq-eqb, ne_eqb, lt-ltb, le-ltb}
 use Rattle.std.proofs.lemmas.Nat.{div-add-mod', div-mul-add, mod-mul-add, shr-shr, shr_le, pow_pos, pow-add}
-use Rattle.std.proofs.lemmas.Nat.Bits.{bit_at_xor, bit_at-lt, bit_at-zero, bit_at_mask_inside, bit_at_mask_below, bit_at_mask_above, bit_at_ones, bit_at_not, bit_at-trailing_ones, same_from_bits, ones_shr}
+use Rattle.std.proofs.lemmas.Nat.Bits.{bit_at_xor, bit_at-lt, bit_at-zero, bit_at_mask_inside, bit_at_mask_below, bit_at_mask_above, bit_at_ones}
+use Rattle.std.proofs.lemmas.Nat.Bits.{bit_at_not, bit_at-trailing_ones, same_from_bits, ones_shr}
 use Rattle.std.proofs.Math.Nat.{mod-lt, mod-eq_of_lt}
 use Rattle.std.proofs.Math.Pow.{pow_mono}
 use Rattle.dr_seq.specs.Rounds.{entry_of}
@@ -88,7 +90,8 @@ flip_else n i j ne =
 masks : (i n j : ℕ) → bit_at (2 ^ (i + 1) - 2 ^ i) j + bit_at (2 ^ (i + 1 + n) - 2 ^ (i + 1)) j ≡ bit_at (2 ^ (i + suc n) - 2 ^ i) j
 masks i n j =
     elim (cases_lt j i) [
-      | inl low ↦ sums _ _ _ 0 0 0 (bit_at_mask_below i (i + 1) j low) (bit_at_mask_below (i + 1) (i + 1 + n) j (omega arith)) (bit_at_mask_below i (i + suc n) j low) (omega arith)
+      | inl low ↦ sums _ _ _ 0 0 0 (bit_at_mask_below i (i + 1) j low)
+          (bit_at_mask_below (i + 1) (i + 1 + n) j (omega arith)) (bit_at_mask_below i (i + suc n) j low) (omega arith)
       | inr from ↦ elim (cases_eq j i) [
         | inl here ↦ sums _ _ _ 1 0 1 (bit_at_mask_inside i (i + 1) j (omega arith) (omega arith)) (bit_at_mask_below (i + 1) (i + 1 + n) j (omega arith))
             (bit_at_mask_inside i (i + suc n) j (omega arith) (omega arith)) (omega arith)
@@ -190,7 +193,8 @@ run_there k s word (suc n) i lt =
       | inr off ↦ absurd (let none : i < 0 = subst P off lt in omega arith)
     ]
 
-pub run_is : {T : Type 0} (k : Shape T) (s word n m : ℕ) → m ≤ n → ((i : ℕ) → i < m → is_there k (s + i) word ≡ true) → (m < n → is_there k (s + m) word ≡ false)
+pub run_is : {T : Type 0} (k : Shape T) (s word n m : ℕ) → m ≤ n
+    → ((i : ℕ) → i < m → is_there k (s + i) word ≡ true) → (m < n → is_there k (s + m) word ≡ false)
     → run_of k s word n ≡ m
 run_is k s word zero m le all stop = omega arith
 run_is k s word (suc n) zero le all stop =
@@ -206,7 +210,8 @@ run_is k s word (suc n) (suc m) le all stop =
 pub run_stops : {T : Type 0} (k : Shape T) (s word n : ℕ) → run_of k s word n < n → is_there k (s + run_of k s word n) word ≡ false
 run_stops k s word zero lt = absurd (omega arith)
 run_stops k s word (suc n) lt =
-    let P : Bool → Type 0 = λ b. (if b then suc (run_of k (s + 1) word n) else 0) < suc n → is_there k (s + (if b then suc (run_of k (s + 1) word n) else 0)) word ≡ false in
+    let P : Bool → Type 0 =
+    λ b. (if b then suc (run_of k (s + 1) word n) else 0) < suc n → is_there k (s + (if b then suc (run_of k (s + 1) word n) else 0)) word ≡ false in
     elim (cases_Bool (is_there k s word)) [
       | inl on ↦ subst P (sym on) (λ less. (let e : s + suc (run_of k (s + 1) word n) ≡ s + 1 + run_of k (s + 1) word n = omega arith in
           ap (λ (q : ℕ). is_there k q word) e ∙ run_stops k (s + 1) word n (omega arith))) lt
@@ -237,10 +242,13 @@ all_ones n lt high =
       λ i low. ap (λ (m : ℕ). bit_at m i) top ∙ bit_at_ones 64 i low,
     )
 
-low_ones : (n : ℕ) → n < 2 ^ 64 → (trailing_ones w64 n ≤ 64) × ((i : ℕ) → i < trailing_ones w64 n → bit_at n i ≡ 1) × (trailing_ones w64 n < 64 → bit_at n (trailing_ones w64 n) ≡ 0)
+low_ones : (n : ℕ) → n < 2 ^ 64
+    → (trailing_ones w64 n ≤ 64) × ((i : ℕ) → i < trailing_ones w64 n → bit_at n i ≡ 1) × (trailing_ones w64 n < 64 → bit_at n (trailing_ones w64 n) ≡ 0)
 low_ones n lt = elim (cases_lt (n + 1) (2 ^ 64)) [
   | inl less ↦ (let t = bit_at-trailing_ones w64 n less in (let a = t.0 in omega arith, t.2, λ below. t.1))
-  | inr top ↦ (let t = all_ones n lt (omega arith) in (let a = t.0 in omega arith, λ i below. t.1 i (let a = t.0 in omega arith), λ below. absurd (let a = t.0 in omega arith)))
+  | inr top ↦
+      (let t = all_ones n lt (omega arith) in
+      (let a = t.0 in omega arith, λ i below. t.1 i (let a = t.0 in omega arith), λ below. absurd (let a = t.0 in omega arith)))
 ]
 
 shifted_bit : (x b i : ℕ) → bit_at (x / 2 ^ b) i ≡ bit_at x (b + i)
@@ -253,12 +261,17 @@ Shows k s word x = (j : ℕ) → j < 64 → ((bit_at x j ≡ 1 → bit_at word j
 pub counted_run : {T : Type 0} (k : Shape T) (s word x : ℕ) → 0 < k.size → x < 2 ^ 64 → Shows k s word x
     → min (trailing_ones w64 (x / 2 ^ mark_bit k s)) (in_word k s) ≡ marked_from k s word
 counted_run k s word x pos lt shows =
-    let b = mark_bit k s in let y = x / 2 ^ b in let n = in_word k s in let small : y < 2 ^ 64 = (let a = shr_le x b in omega arith) in let t = low_ones y small in
+    let b = mark_bit k s in
+    let y = x / 2 ^ b in
+    let n = in_word k s in
+    let small : y < 2 ^ 64 = (let a = shr_le x b in omega arith) in
+    let t = low_ones y small in
     let run = trailing_ones w64 y in let low : b + n ≤ 64 = omega arith in
     let at : (i : ℕ) → i < n → mark_bit k (s + i) ≡ b + i = λ i less. next_bit k s i less in
     sym (run_is k s word n (min run n) (omega arith)
     (λ i less. there_bit k (s + i) word
-    (ap (bit_at word) (at i (omega arith)) ∙ (shows (b + i) (omega arith)).0 (sym (shifted_bit x b i) ∙ t.1 i (omega arith)) ∙ ap (λ (e : ℕ). e % 2) (sym (same_entry k s i (omega arith)))))
+    (ap (bit_at word) (at i (omega arith)) ∙ (shows (b + i) (omega arith)).0 (sym (shifted_bit x b i) ∙ t.1 i (omega arith))
+    ∙ ap (λ (e : ℕ). e % 2) (sym (same_entry k s i (omega arith)))))
     (λ less. let here : min run n ≡ run = omega arith in subst (λ (m : ℕ). is_there k (s + m) word ≡ false) (sym here)
     (absent_bit k (s + run) word (λ is. (shows (b + run) (omega arith)).1 (sym (shifted_bit x b run) ∙ t.2 (omega arith))
     (ap (bit_at word) (sym (at run (omega arith))) ∙ is ∙ ap (λ (e : ℕ). e % 2) (same_entry k s run (omega arith)))))))
@@ -270,11 +283,13 @@ odd_shows : (x b e q : ℕ) → e ≡ q + 1 → (q % 2 ≡ 0 → ⊥) → b < 2 
 odd_shows x b e q is odd lt flip = (λ one. omega arith, λ none same. omega arith)
 
 -- a word as it is in an even round, or with each bit flipped in an odd one, has a one where a mark of the round is there
-pub shows_word : {T : Type 0} (k : Shape T) (s word : ℕ) (is_even : Bool) → word < 2 ^ 64 → is_even ≡ (s / k.size % 2 == 0) → Shows k s word (if is_even then word else bit_not w64 word)
+pub shows_word : {T : Type 0} (k : Shape T) (s word : ℕ) (is_even : Bool) → word < 2 ^ 64
+    → is_even ≡ (s / k.size % 2 == 0) → Shows k s word (if is_even then word else bit_not w64 word)
 shows_word k s word true lt is j low =
     let even = eqb-true (s / k.size % 2) 0 (sym is) in even_shows (bit_at word j) (entry_of k.size s) (s / k.size) refl even (bit_at-lt word j)
 shows_word k s word false lt is j low =
-    odd_shows (bit_at (bit_not w64 word) j) (bit_at word j) (entry_of k.size s) (s / k.size) refl (λ even. let no = eq-eqb (s / k.size % 2) 0 even in cc) (bit_at-lt word j) (bit_at_not w64 word j lt low)
+    odd_shows (bit_at (bit_not w64 word) j) (bit_at word j) (entry_of k.size s) (s / k.size) refl
+    (λ even. let no = eq-eqb (s / k.size % 2) 0 even in cc) (bit_at-lt word j) (bit_at_not w64 word j lt low)
 
 product : (x y a b : ℕ) → a ≡ suc x → a * y ≡ b → x * y ≡ b - y
 product x y a b is total = let more = suc-mul x y in let same : a * y ≡ suc x * y = ap (λ (q : ℕ). q * y) is in omega arith

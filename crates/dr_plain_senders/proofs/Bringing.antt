@@ -1,5 +1,6 @@
 -- What the ends bring comes to its place, one after another.
-use Rattle.std.proofs.Common.{◌≡◌, ◌≢◌, ◌⊎◌, ℕ, zero, suc, ◌+◌, ◌-◌, ◌%◌, ◌<◌, ◌≤◌, inl, inr, Bool, true, false, ◌&&◌, not, List, [], ◌∷◌, ◌++◌, length, set, replicate}
+use Rattle.std.proofs.Common.{◌≡◌, ◌≢◌, ◌⊎◌, ℕ, zero, suc, ◌+◌, ◌-◌, ◌%◌, ◌<◌, ◌≤◌, inl, inr, Bool, true, false, ◌&&◌, not, List, [], ◌∷◌, ◌++◌}
+use Rattle.std.proofs.Common.{length, set, replicate}
 use Rattle.std.proofs.Common.{None, sym, refl, ap, ◌∙◌, subst, arith, length-set}
 use Rattle.std.specs.Bool.{MatchBool}
 use Rattle.std.specs.Prelude.{Option, is_some}
@@ -16,19 +17,20 @@ use Rattle.dr_seq.specs.Rounds.{is_marked}
 use Rattle.dr_seq.proofs.Apart.{slots_differ}
 use Rattle.dr_runs.proofs.Elements.{there, at_below}
 use Rattle.dr_runs.proofs.Lists.{map_there}
+use Rattle.dr_lent.specs.Rows.{cells_of}
+use Rattle.dr_lent.specs.Trades.{SamePlaces}
+use Rattle.dr_lent.proofs.Trades.{places_more}
 use Rattle.dr_plain_senders.specs.Meaning.Shape.{Shape}
 use Rattle.dr_plain_senders.specs.Meaning.Words.{cell_of}
 use Rattle.dr_plain_senders.specs.Meaning.Records.{Owns, is_published}
-use Rattle.dr_plain_senders.specs.declared.owned.Owned.{Owned}
 use Rattle.dr_plain_senders.specs.declared.record.Stage.{Stage}
 use Rattle.dr_plain_senders.specs.declared.record.SenderRecord.{SenderRecord}
 use Rattle.dr_plain_senders.specs.Calls.Ends.{SenderStand, SenderEnd, ReceiverEnd}
-use Rattle.dr_plain_senders.specs.Inside.Fits.{MarksFit, SenderFits, PartsFit, is_open, cells_of}
-use Rattle.dr_plain_senders.specs.Inside.Trades.{SamePlaces}
+use Rattle.dr_plain_senders.specs.Inside.Fits.{MarksFit, SenderFits, PartsFit}
+use Rattle.dr_plain_senders.specs.Inside.Owned.{Owned, is_open}
 use Rattle.dr_plain_senders.specs.Inside.Bringing.{IsOpenOf, HasCellOf, IsBroughtBy, AreBrought, AreTaken, AreHandsOf}
 use Rattle.dr_plain_senders.proofs.Places.{at_replicate}
 use Rattle.dr_plain_senders.proofs.Fitting.{no_lent}
-use Rattle.dr_plain_senders.proofs.Trading.{places_more}
 
 -- each place is that of one of as many sequences on
 pub window : (n c i : ℕ) → i < n → (q : ℕ) × (c ≤ q) × (q < c + n) × (q % n ≡ i)
@@ -48,27 +50,34 @@ module _ {T : Type 0} where
   -- one sequence more, which is open or not
   abbrev pub Brings : Bool → ℕ → List (Token T) → List (Token T) → List (Token T) → List (Token T) → List Bool → List Bool → Type 0
   Brings opens place own own' tokens tokens' brought brought' =
-      MatchBool opens ((t : Token T) × (get_elem? own place ≡ some t) × (own' ≡ set own place no_token) × (tokens' ≡ set tokens place t) × (brought' ≡ set brought place true))
+      MatchBool opens
+      ((t : Token T) × (get_elem? own place ≡ some t) × (own' ≡ set own place no_token)
+      × (tokens' ≡ set tokens place t) × (brought' ≡ set brought place true))
       ((own' ≡ own) × (tokens' ≡ tokens) × (brought' ≡ brought))
 
-  module _ (k : Shape T) (opened : ℕ → Bool) (first s place : ℕ) (own was own' tokens now next : List (Token T)) (brought marks marks' : List Bool) (low : first ≤ s)
+  module _ (k : Shape T) (opened : ℕ → Bool) (first s place : ℕ)
+      (own was own' tokens now next : List (Token T)) (brought marks marks' : List Bool) (low : first ≤ s)
       (near : s < first + k.size) (at : place ≡ cell_of k s) where
-    pub own_next : (opens : Bool) → SamePlaces k first s own was → Brings opens place was own' now next marks marks' → SamePlaces k first (s + 1) own own'
-    own_next true S B = places_more k first s own was own' no_token S low (B.2 ∙ ap (λ (i : ℕ). set was i no_token) at)
+    pub own_next : (opens : Bool) → SamePlaces k.size first s own was → Brings opens place was own' now next marks marks'
+        → SamePlaces k.size first (s + 1) own own'
+    own_next true S B = places_more k.size first s own was own' no_token S low (B.2 ∙ ap (λ (i : ℕ). set was i no_token) at)
     own_next false S B = record {
       count = ap length B.0 ∙ S.count;
       others = λ i none. ap (λ (xs : List (Token T)). get_elem? xs i) B.0 ∙ S.others i (λ q from to. none q from (omega arith));
     }
 
-    pub taken_next : (opens : Bool) → opens ≡ opened s → SamePlaces k first s own was → place < length now → place < length marks
+    pub taken_next : (opens : Bool) → opens ≡ opened s → SamePlaces k.size first s own was → place < length now → place < length marks
         → AreTaken k opened first s own tokens now brought marks → Brings opens place was own' now next marks marks'
         → AreTaken k opened first (s + 1) own tokens next brought marks'
     taken_next true is S inside within A B =
         let t = B.0 in
         let mine : get_elem? own (cell_of k s) ≡ some t =
-        sym (S.others (cell_of k s) (λ q from to. slots_differ k.size q s (λ (e : q ≡ s). omega arith) (omega arith) (omega arith))) ∙ ap (λ (i : ℕ). get_elem? was i) (sym at) ∙ B.1 in
-        let tokens_else : (i : ℕ) → i ≢ place → get_elem? next i ≡ get_elem? now i = λ i ne. ap (λ (xs : List (Token T)). get_elem? xs i) B.3 ∙ set_else now place i t ne in
-        let marks_else : (i : ℕ) → i ≢ place → get_elem? marks' i ≡ get_elem? marks i = λ i ne. ap (λ (xs : List Bool). get_elem? xs i) B.4 ∙ set_else marks place i true ne in
+        sym (S.others (cell_of k s) (λ q from to. slots_differ k.size q s (λ (e : q ≡ s). omega arith) (omega arith) (omega arith)))
+        ∙ ap (λ (i : ℕ). get_elem? was i) (sym at) ∙ B.1 in
+        let tokens_else : (i : ℕ) → i ≢ place → get_elem? next i ≡ get_elem? now i =
+        λ i ne. ap (λ (xs : List (Token T)). get_elem? xs i) B.3 ∙ set_else now place i t ne in
+        let marks_else : (i : ℕ) → i ≢ place → get_elem? marks' i ≡ get_elem? marks i =
+        λ i ne. ap (λ (xs : List Bool). get_elem? xs i) B.4 ∙ set_else marks place i true ne in
         record {
           count = ap length B.3 ∙ length-set now place t ∙ A.count;
           many = ap length B.4 ∙ length-set marks place true ∙ A.many;
@@ -76,13 +85,16 @@ module _ {T : Type 0} where
             | inl e ↦ (
                 let cell : cell_of k q ≡ place = ap (λ (n : ℕ). cell_of k n) e ∙ sym at in
                 let same : t ≡ u = some-injective t u (sym mine ∙ ap (λ (n : ℕ). get_elem? own (cell_of k n)) (sym e) ∙ there_q) in (
-                  ap (λ (xs : List (Token T)). get_elem? xs (cell_of k q)) B.3 ∙ ap (λ (i : ℕ). get_elem? (set now place t) i) cell ∙ set_here now place t inside
+                  ap (λ (xs : List (Token T)). get_elem? xs (cell_of k q)) B.3
+                      ∙ ap (λ (i : ℕ). get_elem? (set now place t) i) cell ∙ set_here now place t inside
                       ∙ ap (λ (x : Token T). some x) same,
-                  ap (λ (xs : List Bool). get_elem? xs (cell_of k q)) B.4 ∙ ap (λ (i : ℕ). get_elem? (set marks place true) i) cell ∙ set_here marks place true within,
+                  ap (λ (xs : List Bool). get_elem? xs (cell_of k q)) B.4
+                      ∙ ap (λ (i : ℕ). get_elem? (set marks place true) i) cell ∙ set_here marks place true within,
                 ))
             | inr ne ↦ (
                 let apart : cell_of k q ≢ place = λ (e : cell_of k q ≡ place). slots_differ k.size q s ne (omega arith) (omega arith) (e ∙ at) in
-                let before = A.here q u from (omega arith) so there_q in (tokens_else (cell_of k q) apart ∙ before.0, marks_else (cell_of k q) apart ∙ before.1))
+                let before = A.here q u from (omega arith) so there_q in
+                (tokens_else (cell_of k q) apart ∙ before.0, marks_else (cell_of k q) apart ∙ before.1))
           ];
           others = λ i none. (
               let apart : i ≢ place = λ (e : i ≡ place). none s low (omega arith) (sym is) (sym at ∙ sym e) in
@@ -103,7 +115,8 @@ module _ {T : Type 0} where
   -- the cell of one of the open sequences, or a place that stays
   taken_at : (k : Shape T) (opened : ℕ → Bool) (first upto : ℕ) (own tokens tokens' : List (Token T)) (brought brought' : List Bool)
       → AreTaken k opened first upto own tokens tokens' brought brought' → upto ≤ first + k.size → (i : ℕ) → i < k.size
-      → ((q : ℕ) × (first ≤ q) × (q < upto) × (opened q ≡ true) × (cell_of k q ≡ i)) ⊎ ((get_elem? tokens' i ≡ get_elem? tokens i) × (get_elem? brought' i ≡ get_elem? brought i))
+      → ((q : ℕ) × (first ≤ q) × (q < upto) × (opened q ≡ true) × (cell_of k q ≡ i))
+      ⊎ ((get_elem? tokens' i ≡ get_elem? tokens i) × (get_elem? brought' i ≡ get_elem? brought i))
   taken_at k opened first upto own tokens tokens' brought brought' A near i inside =
       let w = window k.size first i inside in let q = w.0 in let low = w.1 in let high = w.2 in
       let one : (p : ℕ) → first ≤ p → p < upto → cell_of k p ≡ i → p ≡ q = λ p from to at. elim (cases_eq p q) [
@@ -159,7 +172,8 @@ module _ {T : Type 0} where
   }
 
   -- one sender more has brought its cells
-  module _ (k : Shape T) (ss : List (SenderEnd T)) (e : SenderEnd T) (at : SenderStand T) (o : Owned) (end : ℕ) (own tokens tokens' : List (Token T)) (brought brought' : List Bool)
+  module _ (k : Shape T) (ss : List (SenderEnd T)) (e : SenderEnd T) (at : SenderStand T)
+      (o : Owned) (end : ℕ) (own tokens tokens' : List (Token T)) (brought brought' : List Bool)
       (F : SenderFits at o end own) (plan : at.plan ≡ k) (knows : at.knows ≡ e.knows) (cells : cells_of own ≡ e.cells)
       (A : AreTaken k (is_open o) (end - k.size) end own tokens tokens' brought brought') where
     open_inside : (s : ℕ) → is_open o s ≡ true → (end - k.size ≤ s) × (s < end)
@@ -231,7 +245,10 @@ module _ {T : Type 0} where
   handed_more left seen was now n m e parts H next fits put = let all = H.whole in let count = H.count in record {
     count = ap length put ∙ length-set was left parts ∙ H.count;
     whole = omega arith;
-    each = λ i x ps at here. (let here_set : get_elem? (set was left parts) (left + i) ≡ some ps = ap (λ (hs : List (List (Token T))). get_elem? hs (left + i)) (sym put) ∙ here in
+    each =
+        λ i x ps at here.
+        (let here_set : get_elem? (set was left parts) (left + i) ≡ some ps =
+        ap (λ (hs : List (List (Token T))). get_elem? hs (left + i)) (sym put) ∙ here in
         each_of i x ps at here_set);
   }
     where
@@ -239,7 +256,8 @@ module _ {T : Type 0} where
           → get_elem? (set was left parts) (left + i) ≡ some ps → PartsFit x.plan x.knows ps
       each_of zero x ps at here =
           let all = H.whole in let count = H.count in let z : left + 0 ≡ left = omega arith in
-          let same : parts ≡ ps = some-injective parts ps (sym (set_here was left parts (omega arith)) ∙ ap (λ (j : ℕ). get_elem? (set was left parts) j) (sym z) ∙ here) in
+          let same : parts ≡ ps =
+          some-injective parts ps (sym (set_here was left parts (omega arith)) ∙ ap (λ (j : ℕ). get_elem? (set was left parts) j) (sym z) ∙ here) in
           subst (λ (y : ReceiverEnd T × List (Token T)). PartsFit y.0.plan y.0.knows y.1) (λ j. (some-injective e x at j, same j)) fits
       each_of (suc i) x ps at here =
           let z : m + i ≡ left + suc i = omega arith in

@@ -1,5 +1,6 @@
 -- The machine replies to a claim as it is decided.
-use Rattle.std.proofs.Common.{◌≡◌, ℕ, zero, suc, ◌+◌, ◌-◌, ◌<◌, ◌≤◌, ◌⊎◌, inl, inr, Bool, true, false, ◌==◌, ◌||◌, List, [], ◌∷◌, length, get_or, sym, refl, ap, ◌∙◌, arith}
+use Rattle.std.proofs.Common.{◌≡◌, ℕ, zero, suc, ◌+◌, ◌-◌, ◌<◌, ◌≤◌, ◌⊎◌, inl, inr, Bool, true, false, ◌==◌, ◌||◌, List, [], ◌∷◌, length, get_or, sym}
+use Rattle.std.proofs.Common.{refl, ap, ◌∙◌, arith}
 use Rattle.std.specs.Prelude.{nat_lt, Contains}
 use Rattle.std.proofs.lemmas.Bool.{lt-ltb, le-ltb, lt-leb, leb-false, eq-eqb, ne_eqb}
 use Rattle.std.proofs.lemmas.List.{length-map}
@@ -66,7 +67,11 @@ module _ {T : Type 0} (k : Shape T) (w : World T) (K : KeepsRule k w) where
       inr (lt-leb k.senders p who, inr (is_good k n x.1, inr (x.2, inl (lt-ltb _ _ (omega arith), sym x.0))))
   claim_is_refused p n refusal who (inr (inr (inr x))) =
       let counts = x.2.0 in let F = x.2.1 in let all = claimed_now F.going in let i = F.before in let long = F.last in let among = F.among in
-      let here : i < length ends = omega arith in let count = final_at i here in let now = x.2.2 i (omega arith) in let behind = F.behind in let limit = F.limit in
+      let here : i < length ends = omega arith in
+      let count = final_at i here in
+      let now = x.2.2 i (omega arith) in
+      let behind = F.behind in
+      let limit = F.limit in
       let low : least_completed m ends ≤ get_or m.completed (get_or ends i 0) 0 =
       least_of-member (λ h. get_or m.completed h 0) ends (get_or ends i 0) (listed_at ends i here) in
       inr (lt-leb k.senders p who, inr (is_good k n x.1, inr (F.going, inr (le-ltb _ _ (omega arith), inl (lt-ltb _ _ (omega arith), sym x.0)))))
@@ -84,7 +89,8 @@ module _ {T : Type 0} (k : Shape T) (w : World T) (K : KeepsRule k w) where
       let room = counts_below m ends k.size (claims_now w + n) (let lt = some_one.1 in omega arith)
       (λ f has. let i = has.0 in let here = has.1 in let same = F.all in let count = final_at i here in let now = D.risen i (omega arith) in
       let left = F.room i (omega arith) in
-      let at : get_or m.completed f 0 ≡ get_or m.completed (get_or ends i 0) 0 = ap (λ (h : ℕ). get_or m.completed h 0) (sym has.2 ∙ same_place ends i f 0 here) in
+      let at : get_or m.completed f 0 ≡ get_or m.completed (get_or ends i 0) 0 =
+      ap (λ (h : ℕ). get_or m.completed h 0) (sym has.2 ∙ same_place ends i f 0 here) in
       omega arith) in
       le-ltb _ _ (omega arith)
 

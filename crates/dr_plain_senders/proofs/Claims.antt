@@ -1,5 +1,6 @@
 -- What a claim of a sender comes to.
-use Rattle.std.proofs.Common.{◌≡◌, ◌≢◌, ℕ, ◌+◌, ◌-◌, ◌<◌, ◌≤◌, inl, inr, Bool, true, false, if◌then◌else◌, List, [], ◌∷◌, ◌++◌, sym, refl, ap, ◌∙◌, subst, arith, append_assoc}
+use Rattle.std.proofs.Common.{◌≡◌, ◌≢◌, ℕ, ◌+◌, ◌-◌, ◌<◌, ◌≤◌, inl, inr, Bool, true, false, if◌then◌else◌, List, [], ◌∷◌, ◌++◌, sym, refl, ap, ◌∙◌}
+use Rattle.std.proofs.Common.{subst, arith, append_assoc}
 use Rattle.std.proofs.lemmas.List.{append-nil}
 use Rattle.std.specs.Prelude.{◌^◌, Ok, Err}
 use Rattle.std.proofs.lemmas.Bool.{eq-eqb, ne_eqb, le-leb, lt-leb}
@@ -55,12 +56,14 @@ module _ {T : Type 0} where
         ap (λ (x : SenderRecord T). last_look 0 x.looks (count_word f)) S.1 in omega arith);
   }
 
-  pub looked_first : (k : Shape T) (r q s : SenderRecord T) (c : ℕ) (counts : List ℕ) → q ≡ sender_looked r claim_word c → s ≡ sender_saw q (gate_looks k counts)
+  pub looked_first : (k : Shape T) (r q s : SenderRecord T) (c : ℕ) (counts : List ℕ)
+      → q ≡ sender_looked r claim_word c → s ≡ sender_saw q (gate_looks k counts)
       → s ≡ sender_saw r (first_looks k c counts)
   looked_first k r q s c counts first next = next ∙ ap (λ (x : SenderRecord T). sender_saw x (gate_looks k counts)) first
       ∙ ap (λ (xs : List Look). record r { looks = xs }) (append_assoc r.looks (look claim_word c ∷ []) (gate_looks k counts))
 
-  last_one : (r : SenderRecord T) (seen : List Look) (x : Look) → record (sender_saw r seen) { looks = (r.looks ++ seen) ++ x ∷ [] } ≡ sender_saw r (seen ++ x ∷ [])
+  last_one : (r : SenderRecord T) (seen : List Look) (x : Look)
+      → record (sender_saw r seen) { looks = (r.looks ++ seen) ++ x ∷ [] } ≡ sender_saw r (seen ++ x ∷ [])
   last_one r seen x = ap (λ (xs : List Look). record r { looks = xs }) (append_assoc r.looks seen (x ∷ []))
 
   pub hit : (r s t : SenderRecord T) (seen : List Look) (c hi n found : ℕ) → s ≡ sender_saw r seen → t ≡ after_exchange s c n found → found ≡ c
@@ -91,9 +94,11 @@ module _ {T : Type 0} where
     pub few : e.plan.limit ≤ 2 ^ 62
     pub size : IsSize e.plan.size
 
-  pub tried : (e a b e' : SenderStand T) (h : Hand T) (n c need found : ℕ) → HasLoaded e (sender_looked e.knows claim_word c) e.hand a → HasLoaded a b.knows a.hand b
+  pub tried : (e a b e' : SenderStand T) (h : Hand T) (n c need found : ℕ)
+      → HasLoaded e (sender_looked e.knows claim_word c) e.hand a → HasLoaded a b.knows a.hand b
       → Scans a.plan a.knows need b.knows true
-      → HasStored b (SenderClaims b.knows.number c n) (after_exchange b.knows c n found) h e' → IsCount e.plan n → c < 9223372036854775808 → c + n ≤ e.plan.limit
+      → HasStored b (SenderClaims b.knows.number c n) (after_exchange b.knows c n found) h e'
+      → IsCount e.plan n → c < 9223372036854775808 → c + n ≤ e.plan.limit
       → need ≡ c + n - e.plan.size → e.plan.limit ≤ 2 ^ 62 → IsSize e.plan.size
       → Tried e n c found e'
   tried e a b e' h n c need found A B S C counted low limit is few size =
@@ -113,7 +118,8 @@ module _ {T : Type 0} where
         size = size;
       }
 
-  pub claim_given : (e e' : SenderStand T) (n c hi found : ℕ) → Tried e n c found e' → found ≡ c → hi ≡ c + n - 1 → ClaimCall e n e' (Ok record { lo = c; hi = hi })
+  pub claim_given : (e e' : SenderStand T) (n c hi found : ℕ) → Tried e n c found e'
+      → found ≡ c → hi ≡ c + n - 1 → ClaimCall e n e' (Ok record { lo = c; hi = hi })
   claim_given e e' n c hi found T same last = record {
     stays = T.stays;
     counts = T.counted;
@@ -127,7 +133,8 @@ module _ {T : Type 0} where
     size = T.size;
   }
 
-  pub claim_halted : (e e' : SenderStand T) (n c found : ℕ) → Tried e n c found e' → found ≢ c → 9223372036854775808 ≤ found → ClaimCall e n e' (Err (Refused Halted))
+  pub claim_halted : (e e' : SenderStand T) (n c found : ℕ) → Tried e n c found e'
+      → found ≢ c → 9223372036854775808 ≤ found → ClaimCall e n e' (Err (Refused Halted))
   claim_halted e e' n c found T other high = record {
     stays = T.stays;
     counts = T.counted;
@@ -141,7 +148,8 @@ module _ {T : Type 0} where
     size = T.size;
   }
 
-  pub claim_contended : (e e' : SenderStand T) (n c found : ℕ) → Tried e n c found e' → found ≢ c → found < 9223372036854775808 → ClaimCall e n e' (Err Contended)
+  pub claim_contended : (e e' : SenderStand T) (n c found : ℕ) → Tried e n c found e'
+      → found ≢ c → found < 9223372036854775808 → ClaimCall e n e' (Err Contended)
   claim_contended e e' n c found T other low = record {
     stays = T.stays;
     counts = T.counted;
@@ -165,8 +173,10 @@ module _ {T : Type 0} where
       subst (λ (k : Shape T). IsEarlier k c (c + n) s t) plan (earlier hit s t (own.0, ap (λ (xs : List (Own T)). get_elem? xs own.0) list ∙ own.1))
 
   -- and what it took
-  pub claim_taken : (e a b b' : SenderStand T) (n c need found : ℕ) (claimed : Claimed) → HasLoaded e (sender_looked e.knows claim_word c) e.hand a → HasLoaded a b.knows a.hand b
-      → Scans a.plan a.knows need b.knows true → (laid : List (Laid T)) → LayIn b.plan c (exchanged c n found) laid → b'.hand ≡ taken_by_claim b.plan c laid ++ b.hand
+  pub claim_taken : (e a b b' : SenderStand T) (n c need found : ℕ) (claimed : Claimed)
+      → HasLoaded e (sender_looked e.knows claim_word c) e.hand a → HasLoaded a b.knows a.hand b
+      → Scans a.plan a.knows need b.knows true → (laid : List (Laid T))
+      → LayIn b.plan c (exchanged c n found) laid → b'.hand ≡ taken_by_claim b.plan c laid ++ b.hand
       → LayAsLent b.plan b.knows c laid → found ≡ c → claimed.lo ≡ c → ClaimTakes e n b' (Ok claimed)
   claim_taken e a b b' n c need found claimed A B S laid L hand O hit lo =
       let plan : b.plan ≡ e.plan = B.0.1 ∙ A.0.1 in
@@ -174,7 +184,8 @@ module _ {T : Type 0} where
       let same : b.hand ≡ e.hand = B.2 ∙ A.2 in
       let all : exchanged c n found ≡ n = ap (λ (x : Bool). if x then n else 0) (eq-eqb found c hit) in
       let lay : LayIn e.plan c n laid = subst (λ (k : Shape T). LayIn k c n laid) plan (subst (λ (m : ℕ). LayIn b.plan c m laid) all L) in
-      subst (λ (q : ℕ). (xs : List (Laid T)) × LayIn e.plan q n xs × (b'.hand ≡ taken_by_claim e.plan q xs ++ e.hand) × LayAsLent e.plan e.knows q xs) (sym lo) (
+      subst (λ (q : ℕ). (xs : List (Laid T)) × LayIn e.plan q n xs × (b'.hand ≡ taken_by_claim e.plan q xs ++ e.hand) × LayAsLent e.plan e.knows q xs)
+      (sym lo) (
         laid,
         lay,
         hand ∙ (λ i. taken_by_claim (plan i) c laid ++ same i),

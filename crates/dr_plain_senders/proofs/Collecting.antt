@@ -1,5 +1,6 @@
 -- A sender's tokens and slots, as rows are taken one after another.
-use Rattle.std.proofs.Common.{◌≡◌, ℕ, zero, suc, ◌+◌, ◌-◌, ◌*◌, ◌<◌, ◌≤◌, inl, inr, List, [], ◌∷◌, ◌++◌, length, map, set, drop, sym, refl, ap, ◌∙◌, subst, arith, append_assoc, length-set}
+use Rattle.std.proofs.Common.{◌≡◌, ℕ, zero, suc, ◌+◌, ◌-◌, ◌*◌, ◌<◌, ◌≤◌, inl, inr, List, [], ◌∷◌, ◌++◌, length, map, set, drop, sym, refl, ap, ◌∙◌}
+use Rattle.std.proofs.Common.{subst, arith, append_assoc, length-set}
 use Rattle.std.proofs.lemmas.Bool.{cases_eq}
 use Rattle.std.proofs.lemmas.List.{append-nil, length-append}
 use Rattle.std.proofs.Math.Nat.{mul-suc}
@@ -12,6 +13,7 @@ use Rattle.dr_cells.specs.Hold.{held}
 use Rattle.dr_seq.proofs.Apart.{slots_differ}
 use Rattle.dr_runs.proofs.Elements.{there}
 use Rattle.dr_runs.proofs.Lists.{past_end, map_there}
+use Rattle.dr_lent.proofs.Lists.{drop_seam, drop_at}
 use Rattle.dr_plain_senders.specs.Meaning.Shape.{Shape}
 use Rattle.dr_plain_senders.specs.Meaning.Words.{cell_of, lanes_of}
 use Rattle.dr_plain_senders.specs.Meaning.Lying.{Laid, unlent, lent, kept_of}
@@ -20,8 +22,6 @@ use Rattle.dr_plain_senders.specs.Inside.Hands.{with_hand}
 use Rattle.dr_plain_senders.specs.Inside.Rows.{row, blank_row, blank_rows, IsWholeOf, AreCollected, first_in, events_in, HaveThoseOf}
 use Rattle.dr_plain_senders.specs.Inside.Seats.{Hand, LayIn, IsOfRound, taken_by_claim}
 use Rattle.dr_plain_senders.specs.Inside.Finishing.{value_of}
-use Rattle.dr_plain_senders.proofs.Taken.{drop_seam}
-use Rattle.dr_plain_senders.proofs.Trading.{drop_at}
 use Rattle.dr_plain_senders.proofs.Rowing.{row_count}
 
 -- one row more
@@ -76,7 +76,8 @@ module _ {T K : Type 0} (e : EndOf T K) (k : Shape T) (first n : ℕ) (laid : Li
       let count = L.count in let t = there laid (s - first) (omega arith) in let later : s - first + 1 ≡ s + 1 - first = omega arith in
       let others : Hand T = drop (lanes_of k * n) e.hand in let blank : Hand T = blank_rows k first (s - first) in
       let left : Hand T = taken_by_claim k (s + 1) (drop (s - first + 1) laid) in
-      let hand : drop (lanes_of k) now.hand ++ blank_row k s ≡ taken_by_claim k (s + 1) (drop (s + 1 - first) laid) ++ (others ++ blank_rows k first (s + 1 - first)) =
+      let hand : drop (lanes_of k) now.hand ++ blank_row k s
+      ≡ taken_by_claim k (s + 1) (drop (s + 1 - first) laid) ++ (others ++ blank_rows k first (s + 1 - first)) =
       ap (λ (h : Hand T). drop (lanes_of k) h ++ blank_row k s) (front s now t.0 t.1 C)
       ∙ ap (λ (h : Hand T). h ++ blank_row k s) (drop_seam (row k s t.0) (left ++ (others ++ blank)) (lanes_of k) (row_count k s t.0))
       ∙ append_assoc left (others ++ blank) (blank_row k s)
@@ -99,7 +100,8 @@ module _ {T : Type 0} where
   kept_event k s (lent l) = refl
 
   -- the first in hand is what is kept of the row that is next
-  pub row_event : {K : Type 0} (e : EndOf T K) (k : Shape T) (first n : ℕ) (laid : List (Laid T)) (L : LayIn k first n laid) (s : ℕ) (now : EndOf T K) → first ≤ s
+  pub row_event : {K : Type 0} (e : EndOf T K) (k : Shape T) (first n : ℕ) (laid : List (Laid T)) (L : LayIn k first n laid) (s : ℕ) (now : EndOf T K)
+      → first ≤ s
       → s < first + n → Collecting e k first n laid L s now → (a : Laid T) × (get_elem? laid (s - first) ≡ some a) × (first_in now.hand ≡ Some (value_of a))
   row_event e k first n laid L s now low lt C =
       let count = L.count in let t = there laid (s - first) (omega arith) in
@@ -113,8 +115,10 @@ module _ {T : Type 0} where
   pub have_none : (k : Shape T) (first : ℕ) (laid : List (Laid T)) (tokens : List (Token T)) → HaveLaid k first first laid tokens
   have_none k first laid tokens s a t low lt at_a at = absurd (omega arith)
 
-  pub have_more : (k : Shape T) (first s place : ℕ) (laid : List (Laid T)) (was now : List (Token T)) (t : Token T) (b : Laid T) → HaveLaid k first s laid was → first ≤ s
-      → s < first + k.size → place ≡ cell_of k s → place < length was → get_elem? laid (s - first) ≡ some b → held t.hold ≡ Some (value_of b) → now ≡ set was place t
+  pub have_more : (k : Shape T) (first s place : ℕ) (laid : List (Laid T)) (was now : List (Token T)) (t : Token T) (b : Laid T)
+      → HaveLaid k first s laid was → first ≤ s
+      → s < first + k.size → place ≡ cell_of k s → place < length was
+      → get_elem? laid (s - first) ≡ some b → held t.hold ≡ Some (value_of b) → now ≡ set was place t
       → HaveLaid k first (s + 1) laid now
   have_more k first s place laid was now t b H low near is inside there_b holds new q a u from to at_a at =
       let c = cell_of k s in let put : now ≡ set was c t = new ∙ ap (λ (i : ℕ). set was i t) is in elim (cases_eq q s) [
@@ -123,7 +127,9 @@ module _ {T : Type 0} where
             let one : b ≡ a = some-injective b a (sym there_b ∙ ap (λ (n : ℕ). get_elem? laid (n - first)) (sym e) ∙ at_a) in
             ap (λ (x : Token T). held x.hold) (sym same) ∙ holds ∙ ap (λ (x : Laid T). Some (value_of x)) one)
         | inr ne ↦ H q a u from (omega arith) at_a
-            (sym (ap (λ (xs : List (Token T)). get_elem? xs (cell_of k q)) put ∙ set_else was c (cell_of k q) t (slots_differ k.size q s ne (omega arith) (omega arith))) ∙ at)
+            (sym (ap (λ (xs : List (Token T)). get_elem? xs (cell_of k q)) put
+            ∙ set_else was c (cell_of k q) t (slots_differ k.size q s ne (omega arith) (omega arith)))
+            ∙ at)
       ]
 
   -- the rows that a claim took have the events that lay there
@@ -137,7 +143,8 @@ module _ {T : Type 0} where
       ∙ (λ i. kept_event k c a i ∷ events_in (lanes_of k) (length laid) (drop_seam (row k c a) left (lanes_of k) (row_count k c a) i))
       ∙ ap (λ (os : List (Option T)). Some (value_of a) ∷ os) (events_of k (c + 1) laid others)
 
-  events_there : (k : Shape T) (first n i : ℕ) (laid : List (Laid T)) (others hand : Hand T) (a : Laid T) → length laid ≡ n → hand ≡ taken_by_claim k first laid ++ others
+  events_there : (k : Shape T) (first n i : ℕ) (laid : List (Laid T)) (others hand : Hand T) (a : Laid T)
+      → length laid ≡ n → hand ≡ taken_by_claim k first laid ++ others
       → get_elem? laid i ≡ some a → get_elem? (events_in (lanes_of k) n hand) i ≡ some (Some (value_of a))
   events_there k first n i laid others hand a count is at =
       (λ j. get_elem? (events_in (lanes_of k) (sym count j) (is j)) i) ∙ ap (λ (os : List (Option T)). get_elem? os i) (events_of k first laid others)
@@ -169,7 +176,9 @@ module _ {T : Type 0} where
               ∙ ap (λ (n : ℕ). get_elem? (set was c t) (cell_of k n)) e ∙ set_here was c t (omega arith)) ∙ at) in
               subst (λ (n : ℕ). IsWholeOf k n u) (sym e) (subst (λ (x : Token T). IsWholeOf k s x) same all))
           | inr ne ↦ C.whole q u from (omega arith)
-              (sym (ap (λ (xs : List (Token T)). get_elem? xs (cell_of k q)) put ∙ set_else was c (cell_of k q) t (slots_differ k.size q s ne (omega arith) (omega arith))) ∙ at)
+              (sym (ap (λ (xs : List (Token T)). get_elem? xs (cell_of k q)) put
+              ∙ set_else was c (cell_of k q) t (slots_differ k.size q s ne (omega arith) (omega arith)))
+              ∙ at)
         ];
         others = λ i none. ap (λ (xs : List (Token T)). get_elem? xs i) put ∙ set_else was c i t (λ (e : i ≡ c). none s low (omega arith) (sym e))
             ∙ C.others i (λ q from to. none q from (omega arith));

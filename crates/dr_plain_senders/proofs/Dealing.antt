@@ -1,66 +1,20 @@
--- The tokens of a row's cells, dealt one after another.
-use Rattle.std.proofs.Common.{◌≡◌, ℕ, suc, ◌+◌, ◌*◌, ◌<◌, ◌≤◌, inl, inr, List, ◌∷◌, length, set, replicate, refl, sym, ap, ◌∙◌, arith, length-set, suc-mul}
-use Rattle.std.proofs.lemmas.Bool.{cases_eq}
+-- A new ring's tokens, in the slots of their lanes.
+use Rattle.std.proofs.Common.{◌≡◌, ℕ, suc, ◌*◌, ◌≤◌, List, length, replicate, sym, ap, ◌∙◌, arith, suc-mul}
 use Rattle.std.proofs.lemmas.List.{length-replicate}
-use mathlib.Core.Option.{some, some-injective}
+use mathlib.Core.Option.{some}
 use lib.ListN.{get_elem?}
 use denote.RawPtr.{Ptr}
-use Rattle.atomic_table.proofs.Lists.{set_here, set_else}
 use Rattle.dr_cells.specs.declared.token.Token.{Token}
 use Rattle.dr_cells.specs.Hold.{whole}
 use Rattle.dr_cells.specs.Tokens.{token_at, no_token}
-use Rattle.dr_runs.proofs.Elements.{there, at_below}
+use Rattle.dr_runs.proofs.Elements.{there}
+use Rattle.dr_lent.specs.Rows.{IsDealt}
 use Rattle.dr_plain_senders.specs.Meaning.Shape.{Shape, handlers_of}
 use Rattle.dr_plain_senders.specs.Meaning.Words.{slots_of}
-use Rattle.dr_plain_senders.specs.Inside.Making.{AreFirst, IsDealt}
+use Rattle.dr_plain_senders.specs.Inside.Making.{AreFirst}
 use Rattle.dr_plain_senders.proofs.Places.{in_replicate}
 
 module _ {T : Type 0} where
-  -- the first cells of a row are dealt, and these are left
-  pub record Dealt (p : Ptr) (n place : ℕ) (events left : List T) (before tokens : List (Token T)) : Type 0 where
-    pub count : length tokens ≡ length before
-    pub many : place + length left ≡ n
-    pub rest : (j : ℕ) → get_elem? left j ≡ get_elem? events (place + j)
-    pub each : (i : ℕ) (x : T) → i < place → get_elem? events i ≡ some x → get_elem? tokens i ≡ some (token_at p i (whole x))
-    pub behind : (i : ℕ) → place ≤ i → get_elem? tokens i ≡ get_elem? before i
-
-  pub dealt_none : (p : Ptr) (n : ℕ) (events : List T) (tokens : List (Token T)) → length events ≡ n → Dealt p n 0 events events tokens tokens
-  dealt_none p n events tokens many = record {
-    count = refl;
-    many = omega arith;
-    rest = λ j. (let e : j ≡ 0 + j = omega arith in ap (λ (m : ℕ). get_elem? events m) e);
-    each = λ i x lt at. absurd (omega arith);
-    behind = λ i le. refl;
-  }
-
-  pub dealt_more : (p : Ptr) (n place : ℕ) (events left left' : List T) (before tokens tokens' : List (Token T)) (t : Token T) (x : T) → n ≤ length before
-      → Dealt p n place events left before tokens
-      → left ≡ x ∷ left' → t ≡ token_at p place (whole x) → tokens' ≡ set tokens place t → Dealt p n (place + 1) events left' before tokens'
-  dealt_more p n place events left left' before tokens tokens' t x room D is token put =
-      let length_is = ap length is in let count = D.count in let many = D.many in record {
-        count = ap length put ∙ length-set tokens place t ∙ D.count;
-        many = omega arith;
-        rest = λ j. (let e : place + suc j ≡ place + 1 + j = omega arith in
-            ap (λ (xs : List T). get_elem? xs (suc j)) (sym is) ∙ D.rest (suc j) ∙ ap (λ (m : ℕ). get_elem? events m) e);
-        each = λ i y lt at. ap (λ (xs : List (Token T)). get_elem? xs i) put ∙ elim (cases_eq i place) [
-          | inl e ↦ (
-              let here : get_elem? events place ≡ some x = (let z : place ≡ place + 0 = omega arith in ap (λ (m : ℕ). get_elem? events m) z) ∙ sym (D.rest 0) ∙ ap (λ (xs : List T). get_elem? xs 0) is in
-              let same : x ≡ y = some-injective x y (sym here ∙ ap (λ (m : ℕ). get_elem? events m) (sym e) ∙ at) in
-              ap (λ (m : ℕ). get_elem? (set tokens place t) m) e ∙ set_here tokens place t (omega arith) ∙ ap (λ (s : Token T). some s) token
-              ∙ (λ j. some (token_at p (sym e j) (whole (same j)))))
-          | inr ne ↦ set_else tokens place i t ne ∙ D.each i y (omega arith) at
-        ];
-        behind = λ i le. ap (λ (xs : List (Token T)). get_elem? xs i) put ∙ set_else tokens place i t (λ (same : i ≡ place). omega arith) ∙ D.behind i (omega arith);
-      }
-
-  pub all_dealt : (p : Ptr) (n place : ℕ) (events left : List T) (before tokens : List (Token T)) → place ≡ n → length events ≡ n → Dealt p n place events left before tokens
-      → IsDealt p n events before tokens
-  all_dealt p n place events left before tokens done many D = record {
-    count = D.count;
-    each = λ i x at. (let below = at_below events i x at in D.each i x (omega arith) at);
-    others = λ i le. D.behind i (omega arith);
-  }
-
   -- there is a slot for each cell
   pub slot_each : (k : Shape T) (n : ℕ) (tokens : List (Token T)) → tokens ≡ replicate (slots_of k) no_token → n ≡ k.size → n ≤ length tokens
   slot_each k n tokens blank size =
@@ -68,8 +22,8 @@ module _ {T : Type 0} where
       let least : k.size ≤ suc (handlers_of k) * k.size = omega (arith, suc-mul (handlers_of k) k.size) in omega arith
 
   -- a new ring's tokens
-  pub are_first : (k : Shape T) (p : Ptr) (n : ℕ) (events : List T) (before tokens : List (Token T)) → before ≡ replicate (slots_of k) no_token → k.strip ≡ p → n ≡ k.size
-      → length events ≡ k.size → k.begun ≡ events → IsDealt p n events before tokens → AreFirst k tokens
+  pub are_first : (k : Shape T) (p : Ptr) (n : ℕ) (events : List T) (before tokens : List (Token T)) → before ≡ replicate (slots_of k) no_token
+      → k.strip ≡ p → n ≡ k.size → length events ≡ k.size → k.begun ≡ events → IsDealt p n events before tokens → AreFirst k tokens
   are_first k p n events before tokens blank strip size many begun D =
       let none : Token T = no_token in record {
         count = D.count ∙ ap length blank ∙ length-replicate (slots_of k) none;

@@ -9,19 +9,19 @@ use Rattle.dr_cells.specs.declared.token.Token.{Token}
 use Rattle.dr_runs.specs.declared.counts.HandlerCounts.{HandlerCounts}
 use Rattle.dr_runs.specs.Gathering.{IsInView}
 use Rattle.dr_runs.specs.Seats.{end_of}
+use Rattle.dr_lent.specs.Rows.{cells_of, AreAllWhole}
 use Rattle.dr_plain_senders.specs.Meaning.Shape.{Shape, handlers_of}
 use Rattle.dr_plain_senders.specs.Meaning.Words.{claimed_in}
-use Rattle.dr_plain_senders.specs.declared.owned.Owned.{Owned}
+use Rattle.dr_plain_senders.specs.Inside.Owned.{Owned}
 use Rattle.dr_plain_senders.specs.Calls.Plans.{IsPlan}
 use Rattle.dr_plain_senders.specs.Calls.Ends.{SenderEnd, ReceiverEnd, HalterStand}
 use Rattle.dr_plain_senders.specs.Calls.Settling.{AreAllEnds, GivesBack, handler_counts}
 use Rattle.dr_plain_senders.specs.Inside.Seats.{Sitting, ring_ends, IsSender, IsReceiver, IsHalter}
 use Rattle.dr_plain_senders.specs.Inside.Stations.{sender_stand, receiver_stand, halter_stand}
 use Rattle.dr_plain_senders.specs.Inside.Views.{sender_end, receiver_end}
-use Rattle.dr_plain_senders.specs.Inside.Fits.{cells_of}
 use Rattle.dr_plain_senders.specs.Inside.Gathering.{sender_known, receiver_known, halter_known}
 use Rattle.dr_plain_senders.specs.Inside.Bringing.{AreTogether}
-use Rattle.dr_plain_senders.specs.Inside.Finishing.{TookAll, AreAllWhole, AreWide, AreRows, AreBack}
+use Rattle.dr_plain_senders.specs.Inside.Finishing.{TookAll, AreWide, AreRows, AreBack}
 use Rattle.dr_plain_senders.specs.Inside.Leaving.{BelongsSender, BelongsReceiver, BelongsHalter}
 use Rattle.dr_plain_senders.proofs.Gathering.{own_sender, own_receiver, own_halter}
 use Rattle.dr_plain_senders.proofs.Finished.{Ended, ended, wide, are_rows, all_whole, gives_back}
@@ -70,7 +70,8 @@ module _ {T : Type 0} where
       own_halter me t is (ap (λ (e : HalterStand T). e.knows) same) (ap (λ (e : HalterStand T). e.past) same) (ap (λ (e : HalterStand T). e.stored) same)
 
   -- All ends are together, and their seat took what lies in the slots.
-  module _ {k : Shape T} {me me' : Sitting T} {found : ℕ} {ss : List (SenderEnd T)} {rs : List (ReceiverEnd T)} {t : HalterStand T} {counts : List HandlerCounts}
+  module _ {k : Shape T} {me me' : Sitting T} {found : ℕ} {ss : List (SenderEnd T)}
+      {rs : List (ReceiverEnd T)} {t : HalterStand T} {counts : List HandlerCounts}
       {hands : List (List (Token T))} {tokens : List (Token T)} {brought : List Bool} (A : AreTogether k me.0 ss rs t counts hands tokens brought)
       (X : TookAll k me found me') where
     all_ended : Ended k X.ran.world ss rs t X.laid

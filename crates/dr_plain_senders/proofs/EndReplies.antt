@@ -7,7 +7,8 @@ use Rattle.std.proofs.lemmas.Bool.Decides.{nat_tests}
 use Rattle.dr_meaning.specs.declared.refusal.Refusal.{Refusal}
 use Rattle.dr_meaning.specs.declared.refusal.Refusal.TheVariants.{NotClaimed}
 use Rattle.dr_meaning.specs.Meaning.Refusals.{WriteTests, PublishTests, sequence_causes, write_causes, publish_causes, NoneHolds, IsFirst}
-use Rattle.dr_meaning.specs.Calls.Ends.{Verdict, MayHold, MayFail, IsAnswerOf, write_tests, publish_tests, end_sequence_tests, WriteAnswers, PublishAnswers, as_end}
+use Rattle.dr_meaning.specs.Calls.Ends.{Verdict, MayHold, MayFail, IsAnswerOf, write_tests, publish_tests, end_sequence_tests, WriteAnswers}
+use Rattle.dr_meaning.specs.Calls.Ends.{PublishAnswers, as_end}
 
 -- less is known of the same tests
 abbrev Weaker : List (Verdict × Refusal) → List (Verdict × Refusal) → Type 0
@@ -44,13 +45,17 @@ module _ (E : Type 0) where
 
   -- of a write to a smaller one an end tells nothing
   write_weaker : (s : ℕ) (tests : WriteTests Verdict) → nat_le (2 ^ 62) s ≡ false → Weaker (write_causes tests) (write_causes (write_tests {E = E} None s))
-  write_weaker s tests below = (refl, (λ h. tt), (λ h. refl), (refl, (λ h. tt), (λ h. below), (refl, (λ h. tt), (λ h. refl), (refl, (λ h. tt), (λ h. refl), tt))))
+  write_weaker s tests below =
+      (refl, (λ h. tt), (λ h. refl), (refl, (λ h. tt), (λ h. below), (refl, (λ h. tt), (λ h. refl), (refl, (λ h. tt), (λ h. refl), tt))))
 
-  write_decided : (s : ℕ) (tests : WriteTests Verdict) (result : Result (Unit {0}) Refusal) (past : Bool) → nat_le (2 ^ 62) s ≡ past → (past ≡ true → result ≡ Err NotClaimed)
+  write_decided : (s : ℕ) (tests : WriteTests Verdict) (result : Result (Unit {0}) Refusal) (past : Bool)
+      → nat_le (2 ^ 62) s ≡ past → (past ≡ true → result ≡ Err NotClaimed)
       → IsAnswerOf (write_causes tests) (as_end result) → WriteAnswers {E = E} None s (as_end result)
   write_decided s tests result true is beyond answer = rw (beyond refl) (inr (refl, inl (tt, refl)))
-  write_decided s tests (Ok done) false is beyond answer = weaker_none (write_causes tests) (write_causes (write_tests {E = E} None s)) (write_weaker s tests is) answer
-  write_decided s tests (Err refusal) false is beyond answer = weaker_first refusal (write_causes tests) (write_causes (write_tests {E = E} None s)) (write_weaker s tests is) answer
+  write_decided s tests (Ok done) false is beyond answer =
+      weaker_none (write_causes tests) (write_causes (write_tests {E = E} None s)) (write_weaker s tests is) answer
+  write_decided s tests (Err refusal) false is beyond answer =
+      weaker_first refusal (write_causes tests) (write_causes (write_tests {E = E} None s)) (write_weaker s tests is) answer
 
   pub write_answers : (s : ℕ) (tests : WriteTests Verdict) (result : Result (Unit {0}) Refusal) → (2 ^ 62 ≤ s → result ≡ Err NotClaimed)
       → IsAnswerOf (write_causes tests) (as_end result) → WriteAnswers {E = E} None s (as_end result)
@@ -81,7 +86,8 @@ module _ (E : Type 0) where
     ),
   )
 
-  publish_decided : (lo hi : ℕ) (tests : PublishTests Verdict) (result : Result (Unit {0}) Refusal) (past bad : Bool) → nat_le (2 ^ 62) hi ≡ past → nat_lt hi lo ≡ bad
+  publish_decided : (lo hi : ℕ) (tests : PublishTests Verdict) (result : Result (Unit {0}) Refusal) (past bad : Bool)
+      → nat_le (2 ^ 62) hi ≡ past → nat_lt hi lo ≡ bad
       → tests.bad_count ≡ (publish_tests {E = E} None lo hi).bad_count → (bad ≡ false → past ≡ true → result ≡ Err NotClaimed)
       → IsAnswerOf (publish_causes lo hi tests) (as_end result) → PublishAnswers {E = E} None lo hi (as_end result)
   publish_decided lo hi tests result true false is order same beyond answer = rw (beyond refl refl) (inr (refl, inr (order, inl (tt, refl))))
@@ -93,14 +99,17 @@ module _ (E : Type 0) where
       | inr rest ↦ absurd (true≢false (sym order ∙ subst MayFail same rest.0))
     ]
   ]
-  publish_decided lo hi tests (Ok done) false bad is order same beyond answer = weaker_none (publish_causes lo hi tests) (publish_causes lo hi (publish_tests {E = E} None lo hi))
+  publish_decided lo hi tests (Ok done) false bad is order same beyond answer =
+      weaker_none (publish_causes lo hi tests) (publish_causes lo hi (publish_tests {E = E} None lo hi))
       (publish_weaker lo hi tests same is) answer
   publish_decided lo hi tests (Err refusal) false bad is order same beyond answer = weaker_first refusal (publish_causes lo hi tests)
       (publish_causes lo hi (publish_tests {E = E} None lo hi)) (publish_weaker lo hi tests same is) answer
 
-  pub publish_answers : (lo hi : ℕ) (tests : PublishTests Verdict) (result : Result (Unit {0}) Refusal) → tests.bad_count ≡ (publish_tests {E = E} None lo hi).bad_count
+  pub publish_answers : (lo hi : ℕ) (tests : PublishTests Verdict) (result : Result (Unit {0}) Refusal)
+      → tests.bad_count ≡ (publish_tests {E = E} None lo hi).bad_count
       → (lo ≤ hi → 2 ^ 62 ≤ hi → result ≡ Err NotClaimed)
       → IsAnswerOf (publish_causes lo hi tests) (as_end result) → PublishAnswers {E = E} None lo hi (as_end result)
   publish_answers lo hi tests result same beyond answer =
       publish_decided lo hi tests result (nat_le (2 ^ 62) hi) (nat_lt hi lo) refl refl same
-      (λ good past. beyond (let order : lo ≤ hi = grind (arith, nat_tests, good) in order) (let above : 2 ^ 62 ≤ hi = grind (arith, nat_tests, past) in above)) answer
+      (λ good past. beyond (let order : lo ≤ hi = grind (arith, nat_tests, good) in order) (let above : 2 ^ 62 ≤ hi = grind (arith, nat_tests, past) in above))
+      answer

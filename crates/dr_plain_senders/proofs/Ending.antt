@@ -1,7 +1,7 @@
 -- The seat that stands for all ends takes what lies in the slots, and the ring is over.
-use Rattle.std.proofs.Common.{◌≡◌, ◌⊎◌, ℕ, zero, suc, ◌+◌, ◌-◌, ◌*◌, ◌<◌, ◌≤◌, inl, inr, Bool, true, false, ◌&&◌, if◌then◌else◌, List, [], ◌∷◌, map}
+use Rattle.std.proofs.Common.{◌≡◌, ◌⊎◌, ℕ, zero, suc, ◌+◌, ◌-◌, ◌*◌, ◌<◌, ◌≤◌, inl, inr, Bool, true, false, if◌then◌else◌, List, [], ◌∷◌, map}
 use Rattle.std.proofs.Common.{length, get_or, set, drop, Option, Some, None, sym, refl, ap, ◌∙◌, subst, arith}
-use Rattle.std.proofs.lemmas.Bool.{cases_lt, cases_Bool, lt-ltb, le-ltb, le-leb, lt-leb}
+use Rattle.std.proofs.lemmas.Bool.{cases_lt, cases_Bool}
 use mathlib.Core.Option.{some, none, some-injective, some-ne-none}
 use mathlib.Core.Option as maybe
 use lib.ListN.{get_elem?}
@@ -17,10 +17,14 @@ use Rattle.dr_runs.proofs.Seats.{each_map}
 use Rattle.dr_runs.proofs.Lists.{at_map}
 use Rattle.dr_runs.proofs.Elements.{there, at_below}
 use Rattle.dr_runs.proofs.Stretches.{Apart, AreHome, take_all, take_carried, take_valid, at_either, apart_both}
+use Rattle.dr_lent.specs.declared.lent.Lent.{Lent}
+use Rattle.dr_lent.proofs.Lanes.{other_lane, slots_apart}
+use Rattle.dr_lent.specs.Slots.{is_in_hand}
+use Rattle.dr_lent.proofs.InHand.{free_of}
+use Rattle.dr_lent.proofs.Lists.{first_or}
 use Rattle.dr_plain_senders.specs.Meaning.Shape.{Shape}
 use Rattle.dr_plain_senders.specs.Meaning.Words.{claim_word, keeping_lane, lane_of, slot_of}
 use Rattle.dr_plain_senders.specs.Meaning.Lying.{Laid, unlent, lent, token_of, placed, LiesIn, LiesBy}
-use Rattle.dr_plain_senders.specs.declared.record.Lent.{Lent}
 use Rattle.dr_plain_senders.specs.declared.record.Stage.{Stage}
 use Rattle.dr_plain_senders.specs.declared.record.SenderRecord.{SenderRecord}
 use Rattle.dr_plain_senders.specs.declared.record.ReceiverRecord.{ReceiverRecord}
@@ -31,40 +35,10 @@ use Rattle.dr_plain_senders.specs.Calls.Ends.{SenderEnd, ReceiverEnd, HalterStan
 use Rattle.dr_plain_senders.specs.Calls.Settling.{handler_counts}
 use Rattle.dr_plain_senders.specs.Inside.Seats.{Hand, Sitting, ring_ends, Stands, exchange, Ruled, IsOver}
 use Rattle.dr_plain_senders.specs.Inside.Gathering.{sender_known, receiver_known, halter_known}
-use Rattle.dr_plain_senders.specs.Inside.Finishing.{is_in_hand, parts_left, row_left, rows_left, HasAllEnds, TookAll}
+use Rattle.dr_plain_senders.specs.Inside.Finishing.{parts_left, row_left, rows_left, HasAllEnds, TookAll}
 use Rattle.dr_plain_senders.proofs.Facts.{cases_option}
-use Rattle.dr_plain_senders.proofs.Lanes.{other_lane, slots_apart}
 use Rattle.dr_plain_senders.proofs.Seats.{kept_of}
 use Rattle.dr_plain_senders.proofs.Gathering.{knows_of_sender, knows_of, InOneRun, in_one_run, senders_are, receivers_are}
-
--- what a handler has not in hand
-pub free_of : (c : HandlerCounts) (s : ℕ) → is_in_hand c s ≡ false → (s < c.completed) ⊎ (c.taken ≤ s)
-free_of c s free = elim (cases_lt s c.completed) [
-  | inl lt ↦ inl lt
-  | inr ge ↦ elim (cases_lt s c.taken) [
-    | inl lt ↦ absurd (let held : is_in_hand c s ≡ true = (λ i. le-leb c.completed s ge i && lt-ltb s c.taken lt i) in let z : true ≡ false = sym held ∙ free in cc)
-    | inr over ↦ inr over
-  ]
-]
-
-and_false : (b : Bool) → (b && false) ≡ false
-and_false true = refl
-and_false false = refl
-
--- and what it has
-pub held_of : (c : HandlerCounts) (s : ℕ) → is_in_hand c s ≡ true → (c.completed ≤ s) × (s < c.taken)
-held_of c s held = elim (cases_lt s c.completed) [
-  | inl lt ↦ absurd (let z : true ≡ false = sym held ∙ rw (lt-leb c.completed s lt) refl in cc)
-  | inr ge ↦ elim (cases_lt s c.taken) [
-    | inl lt ↦ (ge, lt)
-    | inr over ↦ absurd (let z : true ≡ false = sym held ∙ rw (le-ltb s c.taken over) (and_false _) in cc)
-  ]
-]
-
--- an element of a list with one more in front
-first_or : {A : Type 0} (y : A) (ys : List A) (j : ℕ) (x : A) → get_elem? (y ∷ ys) j ≡ some x → (y ≡ x) ⊎ ((i : ℕ) × (get_elem? ys i ≡ some x))
-first_or y ys zero x at = inl (some-injective y x at)
-first_or y ys (suc j) x at = inr (j, at)
 
 module _ {T : Type 0} where
   -- Where each slot of what is left is.
@@ -82,7 +56,8 @@ module _ {T : Type 0} where
   part_later k h c counts q l x P = let e : h + 1 + P.by ≡ h + suc P.by = (let n = P.by in omega arith) in
       record { by = suc P.by; count = P.count; counted = P.counted; free = P.free; is = ap (λ (n : ℕ). placed k (lane_of n) q (lent l)) (sym e) ∙ P.is }
 
-  at_parts : (k : Shape T) (h : ℕ) (counts : List HandlerCounts) (q : ℕ) (l : Lent T) (j : ℕ) (x : ℕ × Token T) → get_elem? (parts_left k h counts q l) j ≡ some x
+  at_parts : (k : Shape T) (h : ℕ) (counts : List HandlerCounts) (q : ℕ) (l : Lent T) (j : ℕ) (x : ℕ × Token T)
+      → get_elem? (parts_left k h counts q l) j ≡ some x
       → IsPart k h counts q l x
   at_parts k h [] q l j x at = absurd (some-ne-none x (sym at))
   at_parts k h (c ∷ counts) q l j x at =
@@ -102,7 +77,8 @@ module _ {T : Type 0} where
   abbrev IsOfRow : Shape T → List HandlerCounts → ℕ → Laid T → ℕ × Token T → Type 0
   IsOfRow k counts q a x = (placed k keeping_lane q a ≡ x) ⊎ ((l : Lent T) × (a ≡ lent l) × IsPart k 0 counts q l x)
 
-  at_row : (k : Shape T) (counts : List HandlerCounts) (q : ℕ) (a : Laid T) (j : ℕ) (x : ℕ × Token T) → get_elem? (row_left k counts q a) j ≡ some x → IsOfRow k counts q a x
+  at_row : (k : Shape T) (counts : List HandlerCounts) (q : ℕ) (a : Laid T) (j : ℕ) (x : ℕ × Token T)
+      → get_elem? (row_left k counts q a) j ≡ some x → IsOfRow k counts q a x
   at_row k counts q (unlent y) j x at = elim (first_or (placed k keeping_lane q (unlent y)) [] j x at) [
     | inl is ↦ inl is
     | inr t ↦ absurd (some-ne-none x (sym t.1))
@@ -128,7 +104,8 @@ module _ {T : Type 0} where
   row_later k counts q o laid x R = let e : q + 1 + R.at ≡ q + suc R.at = (let n = R.at in omega arith) in
       record { at = suc R.at; what = R.what; laid_at = R.laid_at; is = subst (λ (n : ℕ). IsOfRow k counts n R.what x) e R.is }
 
-  at_rows : (k : Shape T) (counts : List HandlerCounts) (q : ℕ) (laid : List (Option (Laid T))) (j : ℕ) (x : ℕ × Token T) → get_elem? (rows_left k counts q laid) j ≡ some x
+  at_rows : (k : Shape T) (counts : List HandlerCounts) (q : ℕ) (laid : List (Option (Laid T))) (j : ℕ) (x : ℕ × Token T)
+      → get_elem? (rows_left k counts q laid) j ≡ some x
       → IsOfRows k counts q laid x
   at_rows k counts q [] j x at = absurd (some-ne-none x (sym at))
   at_rows k counts q (None ∷ laid) j x at = row_later k counts q None laid x (at_rows k counts (q + 1) laid j x at)
@@ -148,7 +125,7 @@ module _ {T : Type 0} where
           | inl held ↦ subst P (sym held) after
           | inr free ↦ subst P (sym free) (
             λ j y at (e : y.0 ≡ slot_of k (lane_of h) q). (let M = at_parts k (h + 1) cs q l j y at in let n = M.by in
-                other_lane k (lane_of (h + 1 + M.by)) (lane_of h) q q some_slot (λ (z : lane_of (h + 1 + M.by) ≡ lane_of h). omega arith)
+                other_lane k.size (lane_of (h + 1 + M.by)) (lane_of h) q q some_slot (λ (z : lane_of (h + 1 + M.by) ≡ lane_of h). omega arith)
                 (ap (λ (x : ℕ × Token T). x.0) M.is ∙ e)),
             after,
           )
@@ -158,7 +135,7 @@ module _ {T : Type 0} where
     apart_row q (unlent x) = (λ j y at. absurd (some-ne-none y (sym at)), tt)
     apart_row q (lent l) = (
       λ j y at (e : y.0 ≡ slot_of k keeping_lane q). (let M = at_parts k 0 counts q l j y at in let n = M.by in
-          other_lane k (lane_of (0 + M.by)) keeping_lane q q some_slot (λ (z : lane_of (0 + M.by) ≡ keeping_lane). omega arith)
+          other_lane k.size (lane_of (0 + M.by)) keeping_lane q q some_slot (λ (z : lane_of (0 + M.by) ≡ keeping_lane). omega arith)
           (ap (λ (x : ℕ × Token T). x.0) M.is ∙ e)),
       apart_parts 0 counts q l,
     )
@@ -171,7 +148,7 @@ module _ {T : Type 0} where
         (λ i x at j y at_y (e : y.0 ≡ x.0). (
         let X = lane_in k counts q a x (at_row k counts q a i x at) in let M = at_rows k counts (q + 1) laid j y at_y in let n = M.at in
         let Y = lane_in k counts (q + 1 + M.at) M.what y M.is in let b = at_below laid M.at (Some M.what) M.laid_at in
-        slots_apart k Y.0 X.0 (q + 1 + M.at) q some_slot (omega arith) (omega arith) (inr (λ (z : q + 1 + M.at ≡ q). omega arith)) (Y.1 ∙ e ∙ sym X.1)))
+        slots_apart k.size Y.0 X.0 (q + 1 + M.at) q some_slot (omega arith) (omega arith) (inr (λ (z : q + 1 + M.at ≡ q). omega arith)) (Y.1 ∙ e ∙ sym X.1)))
 
   -- What lies in each cell.
   abbrev IsOpenAt : Shape T → List (Stage T) → ℕ → Type 0
@@ -248,7 +225,11 @@ module _ {T : Type 0} where
     home_of : (q : ℕ) (a : Laid T) (x : ℕ × Token T) → LiesIn k receivers stages homes q a → IsOfRow k counts_in q a x → get_elem? homes x.0 ≡ some (some x.1)
     home_of q a x I (inl is) = subst (λ (y : ℕ × Token T). get_elem? homes y.0 ≡ some (some y.1)) is I.keeps
     home_of q a x I (inr t) =
-        let l = t.0 in let P = t.2 in let h = P.by in let of = at_map (λ (r : ReceiverRecord T). handler_counts r) receivers h P.count P.counted in let r = of.0 in
+        let l = t.0 in
+        let P = t.2 in
+        let h = P.by in
+        let of = at_map (λ (r : ReceiverRecord T). handler_counts r) receivers h P.count P.counted in
+        let r = of.0 in
         let completed = ap (λ (c : HandlerCounts). c.completed) of.2 in let taken = ap (λ (c : HandlerCounts). c.taken) of.2 in
         let laid_lent = subst (λ (b : Laid T). LiesIn k receivers stages homes q b) t.1 I in let from = laid_lent.laid in
         let s = from.0 in let at_q = from.1 in
@@ -270,13 +251,16 @@ module _ {T : Type 0} (k : Shape T) where
   in_ends : (v : View (EndRecord T) (Step T)) (x : Known (EndRecord T) (Step T)) (I : IsInView ring_ends v x) → get_elem? v.ends I.0 ≡ some x.knows
   in_ends v x I = ends_at v.ends v.pasts I.0 (x.knows, x.past) I.1
 
-  module _ (st : State (Token T) (View (EndRecord T) (Step T))) (R : seats.Ruled (exchange k) st) (id : ℕ) (v : View (EndRecord T) (Step T)) (at : get_elem? st.views id ≡ some v)
+  module _ (st : State (Token T) (View (EndRecord T) (Step T))) (R : seats.Ruled (exchange k) st)
+      (id : ℕ) (v : View (EndRecord T) (Step T)) (at : get_elem? st.views id ≡ some v)
       (ss : List (SenderEnd T)) (rs : List (ReceiverEnd T)) (t : HalterStand T) (H : HasAllEnds v ss rs t) (plan : k ≡ t.plan) where
     ran_of : ViewRan (exchange k) v
     ran_of = let seen = Saw (exchange k) R.reached.steps in record {
       world = R.world;
       reached = R.reached;
-      each = each_map seen (λ e past. seen e past × Stands R.world e) v.ends v.pasts (λ j e past in_v was. (was, (R.each_end id v at j e in_v).1)) (R.each_past id v at);
+      each =
+          each_map seen (λ e past. seen e past × Stands R.world e) v.ends v.pasts
+          (λ j e past in_v was. (was, (R.each_end id v at j e in_v).1)) (R.each_past id v at);
     }
 
     in_run_of : InOneRun k R.world R.reached.steps ss rs t
@@ -290,7 +274,8 @@ module _ {T : Type 0} (k : Shape T) where
     seat_of x I seat view here e first same =
         ap (λ (p : ℕ × ℕ). p.0) (sym (R.each_end seat view here 0 e first).0 ∙ ap R.place same ∙ (R.each_end id v at I.0 x.knows (in_ends v x I)).0)
 
-    none_but : (seat : ℕ) (view : View (EndRecord T) (Step T)) → get_elem? st.views seat ≡ some view → (e : EndRecord T) → get_elem? view.ends 0 ≡ some e → seat ≡ id
+    none_but : (seat : ℕ) (view : View (EndRecord T) (Step T)) → get_elem? st.views seat ≡ some view
+        → (e : EndRecord T) → get_elem? view.ends 0 ≡ some e → seat ≡ id
     none_but seat view here (Halts r) first = seat_of (halter_known t) H.halter seat view here (Halts r) first refl
     none_but seat view here (Sends r) first =
         let stands : get_elem? R.world.senders r.number ≡ some r = (R.each_end seat view here 0 (Sends r) first).1 in
@@ -301,7 +286,8 @@ module _ {T : Type 0} (k : Shape T) where
         let stands : get_elem? R.world.receivers r.number ≡ some r = (R.each_end seat view here 0 (Receives r) first).1 in
         let are = receivers_are k R.world R.reached.steps ss rs t (kept_of k R.world R.reached) plan H.all in_run_of in
         let m = at_map knows_of rs r.number r (ap (λ (xs : List (ReceiverRecord T)). get_elem? xs r.number) (sym are) ∙ stands) in
-        seat_of (receiver_known m.0) (H.receivers r.number m.0 m.1) seat view here (Receives r) first (ap (λ (q : ReceiverRecord T). 2 * q.number + 2) (sym m.2))
+        seat_of (receiver_known m.0) (H.receivers r.number m.0 m.1) seat view here
+        (Receives r) first (ap (λ (q : ReceiverRecord T). 2 * q.number + 2) (sym m.2))
 
     is_empty : (ends : List (EndRecord T)) → ((e : EndRecord T) → get_elem? ends 0 ≡ some e → ⊥) → ends ≡ []
     is_empty [] none_there = refl
@@ -313,16 +299,21 @@ module _ {T : Type 0} (k : Shape T) where
       | inr x ↦ is_empty view.ends (λ e first. x.0 (none_but seat view x.1 e first))
     ]
 
-  pub takes_all : (slots id : ℕ) (me : Sitting T) (ss : List (SenderEnd T)) (rs : List (ReceiverEnd T)) (t : HalterStand T) → HasAllEnds me.0 ss rs t → k ≡ t.plan
+  pub takes_all : (slots id : ℕ) (me : Sitting T) (ss : List (SenderEnd T)) (rs : List (ReceiverEnd T)) (t : HalterStand T)
+      → HasAllEnds me.0 ss rs t → k ≡ t.plan
       → Allows (Ruled k) slots id me claim_word (λ n. n) (TookAll k me)
   unfolding ran_of
   takes_all slots id me ss rs t H plan st rule len at small = elim rule [
     | inl R ↦ (
-        let w = R.world in let K = kept_of k w R.reached in let c = length w.stages in let F = lay k w.receivers w.stages st.homes R.lies c k.size (omega arith) (omega arith) in
+        let w = R.world in
+        let K = kept_of k w R.reached in
+        let c = length w.stages in
+        let F = lay k w.receivers w.stages st.homes R.lies c k.size (omega arith) (omega arith) in
         let counts = map (λ (r : ReceiverRecord T). handler_counts r) w.receivers in let xs : Hand T = rows_left k counts c F.laid in (
           no_view,
           take_all xs,
-          take_valid st.homes me.1 xs (let n = F.count in apart_rows k K.shape.some_slot counts c F.laid (omega arith)) (all_home k w.receivers w.stages st.homes c k.size F),
+          take_valid st.homes me.1 xs (let n = F.count in apart_rows k K.shape.some_slot counts c F.laid (omega arith))
+              (all_home k w.receivers w.stages st.homes c k.size F),
           inr (over_now st R id me.0 at ss rs t H plan),
           record {
             ran = ran_of st R id me.0 at ss rs t H plan;
@@ -332,5 +323,7 @@ module _ {T : Type 0} (k : Shape T) where
             hand = take_carried me.1 xs;
           },
         ))
-    | inr over ↦ absurd (some-ne-none (Halts t.knows) (sym (ap (λ (es : List (EndRecord T)). get_elem? es H.halter.0) (sym (over id me.0 at)) ∙ in_ends me.0 (halter_known t) H.halter)))
+    | inr over ↦ absurd
+        (some-ne-none (Halts t.knows)
+        (sym (ap (λ (es : List (EndRecord T)). get_elem? es H.halter.0) (sym (over id me.0 at)) ∙ in_ends me.0 (halter_known t) H.halter)))
   ]

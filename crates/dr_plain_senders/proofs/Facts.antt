@@ -23,7 +23,8 @@ cases_option (Some a) = inr (a, refl)
 pub none_or_some : {A : Type 0} (o : Option A) (a : A) → o ≡ None → o ≡ Some a → ⊥
 none_or_some o a none some_one = let e : ◌≡◌ {A = Option _} None (Some a) = sym none ∙ some_one in absurd (cc)
 
-pub upstream_inside : {T : Type 0} (k : Shape T) → IsGraph k.upstreams → (h u : ℕ) → h < handlers_of k → Contains (upstreams_of k.upstreams h) u → u < handlers_of k
+pub upstream_inside : {T : Type 0} (k : Shape T) → IsGraph k.upstreams → (h u : ℕ)
+    → h < handlers_of k → Contains (upstreams_of k.upstreams h) u → u < handlers_of k
 upstream_inside k graph h u lt has = let l : u < h = graph.layered h u has in omega arith
 
 module _ {T : Type 0} where
@@ -48,7 +49,8 @@ module _ {T : Type 0} where
       ]
 
   -- what the final handlers leave room for is no more than a round ahead of any handler
-  pub ahead_of_all : (k : Shape T) (w : World T) (n : ℕ) → KeepsRule k w → Room k w.words n → (h : ℕ) → h < handlers_of k → n ≤ k.size + word_at w.words (count_word h)
+  pub ahead_of_all : (k : Shape T) (w : World T) (n : ℕ) → KeepsRule k w → Room k w.words n
+      → (h : ℕ) → h < handlers_of k → n ≤ k.size + word_at w.words (count_word h)
   ahead_of_all k w n K room h lt =
       let g : IsGated k.upstreams nobody (λ h. word_at w.words (count_word h)) h =
       K.shape.graph.gate nobody (λ h. word_at w.words (count_word h)) (orderly k w K) h lt refl in
@@ -70,7 +72,8 @@ module _ {T : Type 0} where
       let o = receiver_of_handler k w K h inside in let a = o.2.count in let b = o.2.completed in taken_out k w h s o.0 o.1 (omega arith) K
 
   -- what is not published is not taken, so its cell is its own
-  pub near_open : (k : Shape T) (w : World T) (s : ℕ) (t : Stage T) → get_elem? w.stages s ≡ some t → t.lent ≡ None → KeepsRule k w → length w.stages ≤ s + k.size
+  pub near_open : (k : Shape T) (w : World T) (s : ℕ) (t : Stage T)
+      → get_elem? w.stages s ≡ some t → t.lent ≡ None → KeepsRule k w → length w.stages ≤ s + k.size
   near_open k w s t at unshown K =
       let some_one = K.shape.graph.some in let a = above k w K 0 some_one in
       elim (cases_lt s (word_at w.words (count_word 0))) [

@@ -15,12 +15,16 @@ use Rattle.dr_runs.specs.declared.view.View.{View}
 use Rattle.dr_runs.specs.Gathering.{ViewRan}
 use Rattle.dr_runs.proofs.Elements.{there, at_below}
 use Rattle.dr_runs.proofs.Lists.{at_map, map_there}
+use Rattle.dr_lent.specs.Rows.{cells_of, AreAllWhole}
+use Rattle.dr_lent.specs.declared.lent.Lent.{Lent}
+use Rattle.dr_lent.proofs.Lanes.{cell_later}
+use Rattle.dr_lent.specs.Slots.{is_in_hand}
+use Rattle.dr_lent.proofs.InHand.{held_of}
 use Rattle.dr_plain_senders.specs.Meaning.Shape.{Shape, handlers_of}
 use Rattle.dr_plain_senders.specs.Meaning.Words.{cell_of, lane_of}
 use Rattle.dr_plain_senders.specs.Meaning.Records.{Owns}
 use Rattle.dr_plain_senders.specs.Meaning.Lying.{Laid, unlent, lent, part_of, IsLaid}
 use Rattle.dr_plain_senders.specs.Meaning.Rule.{World, IsOutWith, KeepsRule}
-use Rattle.dr_plain_senders.specs.declared.record.Lent.{Lent}
 use Rattle.dr_plain_senders.specs.declared.record.Stage.{Stage}
 use Rattle.dr_plain_senders.specs.declared.record.SenderRecord.{SenderRecord}
 use Rattle.dr_plain_senders.specs.declared.record.ReceiverRecord.{ReceiverRecord}
@@ -28,26 +32,24 @@ use Rattle.dr_plain_senders.specs.declared.record.EndRecord.{EndRecord}
 use Rattle.dr_plain_senders.specs.declared.record.Step.{Step}
 use Rattle.dr_plain_senders.specs.Calls.Ends.{SenderEnd, ReceiverEnd, HalterStand, EndPlace}
 use Rattle.dr_plain_senders.specs.Calls.Settling.{AreAllEnds, GivesBack, handler_counts}
-use Rattle.dr_plain_senders.specs.Inside.Fits.{cells_of}
 use Rattle.dr_plain_senders.specs.Inside.Seats.{Hand, exchange, IsOfRound}
 use Rattle.dr_plain_senders.specs.Inside.Bringing.{AreBrought, AreHandsOf}
-use Rattle.dr_plain_senders.specs.Inside.Finishing.{is_in_hand, rows_left, AreLaid, HasAllEnds, AreAllWhole, AreWide, whole_of, AreRows, AreBack}
+use Rattle.dr_plain_senders.specs.Inside.Finishing.{rows_left, AreLaid, HasAllEnds, AreWide, whole_of, AreRows, AreBack}
 use Rattle.dr_plain_senders.proofs.Facts.{none_or_some, near_open, owned}
-use Rattle.dr_plain_senders.proofs.Lanes.{cell_later}
 use Rattle.dr_plain_senders.proofs.Moving.{one_lent, laid_lent, token_later}
 use Rattle.dr_plain_senders.proofs.Places.{one_value}
 use Rattle.dr_plain_senders.proofs.Seats.{kept_of}
 use Rattle.dr_plain_senders.proofs.Owners.{AllOwned, owned_since}
 use Rattle.dr_plain_senders.proofs.Gathering.{knows_of_sender, knows_of, in_one_run, senders_are, receivers_are}
 use Rattle.dr_plain_senders.proofs.Bringing.{window}
-use Rattle.dr_plain_senders.proofs.Ending.{held_of}
 
 some_of : {A : Type 0} (a b : A) → ◌≡◌ {A = Option A} (Some a) (Some b) → a ≡ b
 some_of a b e = cc
 
 module _ {T : Type 0} where
   -- the ends of a ring are together in a world
-  pub record Ended (k : Shape T) (w : World T) (ss : List (SenderEnd T)) (rs : List (ReceiverEnd T)) (t : HalterStand T) (laid : List (Option (Laid T))) : Type 0 where
+  pub record Ended (k : Shape T) (w : World T) (ss : List (SenderEnd T))
+      (rs : List (ReceiverEnd T)) (t : HalterStand T) (laid : List (Option (Laid T))) : Type 0 where
     pub rule : KeepsRule k w
     pub owned_all : AllOwned w
     pub senders : w.senders ≡ map knows_of_sender ss
@@ -56,7 +58,8 @@ module _ {T : Type 0} where
     pub plan : k ≡ t.plan
     pub laid_is : AreLaid k w.stages laid
 
-  pub ended : (k : Shape T) (v : View (EndRecord T) (Step T)) (ss : List (SenderEnd T)) (rs : List (ReceiverEnd T)) (t : HalterStand T) (laid : List (Option (Laid T)))
+  pub ended : (k : Shape T) (v : View (EndRecord T) (Step T)) (ss : List (SenderEnd T))
+      (rs : List (ReceiverEnd T)) (t : HalterStand T) (laid : List (Option (Laid T)))
       → HasAllEnds v ss rs t → (V : ViewRan (exchange k) v) → k ≡ t.plan → AreLaid k V.world.stages laid → Ended k V.world ss rs t laid
   ended k v ss rs t laid H V plan L =
       let w = V.world in let R = V.reached in let K = kept_of k w R in let one = in_one_run k v ss rs t H V in record {
@@ -96,7 +99,8 @@ module _ {T : Type 0} where
   counts_of [] = refl
   counts_of (e ∷ es) = ap (λ (cs : List HandlerCounts). handler_counts e.knows ∷ cs) (counts_of es)
 
-  module _ (k : Shape T) (w : World T) (ss : List (SenderEnd T)) (rs : List (ReceiverEnd T)) (t : HalterStand T) (laid : List (Option (Laid T))) (E : Ended k w ss rs t laid) where
+  module _ (k : Shape T) (w : World T) (ss : List (SenderEnd T)) (rs : List (ReceiverEnd T))
+      (t : HalterStand T) (laid : List (Option (Laid T))) (E : Ended k w ss rs t laid) where
     abbrev count_now : ℕ
     count_now = length w.stages
 
@@ -109,20 +113,27 @@ module _ {T : Type 0} where
     near s x at none = near_open k w s x at none E.rule
 
     cell_next : (q s : ℕ) → q ≡ k.size + s → cell_of k q ≡ cell_of k s
-    cell_next q s at = ap (λ (n : ℕ). cell_of k n) at ∙ cell_later k s
+    cell_next q s at = ap (λ (n : ℕ). cell_of k n) at ∙ cell_later k.size s
 
     laid_open : (s : ℕ) (x : Stage T) → get_elem? w.stages s ≡ some x → x.lent ≡ None → get_elem? laid (s + k.size - count_now) ≡ some None
     laid_open s x at none =
-        let b = at_below w.stages s x at in let n = near s x at none in let all = E.laid_is.count in let o = there laid (s + k.size - count_now) (omega arith) in go o.0 o.1
+        let b = at_below w.stages s x at in
+        let n = near s x at none in
+        let all = E.laid_is.count in
+        let o = there laid (s + k.size - count_now) (omega arith) in go o.0 o.1
       where
         go : (o : Option (Laid T)) → get_elem? laid (s + k.size - count_now) ≡ some o → get_elem? laid (s + k.size - count_now) ≡ some None
         go None here = here
         go (Some a) here = let n = near s x at none in
-            absurd (not_laid k w.stages (count_now + (s + k.size - count_now)) s x a (E.laid_is.laid_there (s + k.size - count_now) a here) (omega arith) at none)
+            absurd (not_laid k w.stages (count_now + (s + k.size - count_now)) s x a
+            (E.laid_is.laid_there (s + k.size - count_now) a here) (omega arith) at none)
 
     laid_out : (s : ℕ) (x : Stage T) (l : Lent T) → get_elem? w.stages s ≡ some x → x.lent ≡ Some l → count_now ≤ s + k.size
         → get_elem? laid (s + k.size - count_now) ≡ some (Some (lent l))
-    laid_out s x l at out le = let b = at_below w.stages s x at in let all = E.laid_is.count in let o = there laid (s + k.size - count_now) (omega arith) in go o.0 o.1
+    laid_out s x l at out le =
+        let b = at_below w.stages s x at in
+        let all = E.laid_is.count in
+        let o = there laid (s + k.size - count_now) (omega arith) in go o.0 o.1
       where
         go : (o : Option (Laid T)) → get_elem? laid (s + k.size - count_now) ≡ some o → get_elem? laid (s + k.size - count_now) ≡ some (Some (lent l))
         go None here = absurd (
@@ -130,7 +141,8 @@ module _ {T : Type 0} where
             let one = one_value w.stages s x y.1 at (ap (λ (n : ℕ). get_elem? w.stages n) (sym same) ∙ y.3) in
             none_or_some x.lent l (ap (λ (z : Stage T). z.lent) one ∙ y.4) out)
         go (Some a) here = here ∙ ap (λ (z : Laid T). some (Some z))
-            (laid_lent k w.stages (count_now + (s + k.size - count_now)) s l a (E.laid_is.laid_there (s + k.size - count_now) a here) (omega arith) (x, at, out))
+            (laid_lent k w.stages (count_now + (s + k.size - count_now)) s l a
+            (E.laid_is.laid_there (s + k.size - count_now) a here) (omega arith) (x, at, out))
 
     module _ (tokens : List (Token T)) (brought : List Bool) (B : AreBrought k ss tokens brought) where
       -- whose open sequence a brought cell is of
@@ -143,7 +155,7 @@ module _ {T : Type 0} where
             x,
             elim (cases_eq (count_now + i) (k.size + s)) [
               | inl e ↦ e
-              | inr ne ↦ absurd (slots_differ k.size (count_now + i) (k.size + s) ne (omega arith) (omega arith) (sym by.cell ∙ sym (cell_later k s)))
+              | inr ne ↦ absurd (slots_differ k.size (count_now + i) (k.size + s) ne (omega arith) (omega arith) (sym by.cell ∙ sym (cell_later k.size s)))
             ],
             st.1,
             by.opened.2,
@@ -158,7 +170,10 @@ module _ {T : Type 0} where
 
       marked_laid : (i : ℕ) (a : Laid T) → get_elem? laid i ≡ some (Some a) → get_elem? brought (cell_of k (count_now + i)) ≡ some false
       marked_laid i a at =
-          let all = E.laid_is.count in let b = at_below laid i (Some a) at in let many = B.many in let inside : cell_of k (count_now + i) < k.size = mod-lt (count_now + i) E.rule.shape.some_slot in
+          let all = E.laid_is.count in
+          let b = at_below laid i (Some a) at in
+          let many = B.many in
+          let inside : cell_of k (count_now + i) < k.size = mod-lt (count_now + i) E.rule.shape.some_slot in
           let m = there brought (cell_of k (count_now + i)) (omega arith) in go m.0 m.1
         where
           go : (b : Bool) → get_elem? brought (cell_of k (count_now + i)) ≡ some b → get_elem? brought (cell_of k (count_now + i)) ≡ some false
@@ -166,23 +181,33 @@ module _ {T : Type 0} where
           go true here = let all = E.laid_is.count in let b = at_below laid i (Some a) at in
               absurd (let y = brought_open i (omega arith) here in not_laid k w.stages (count_now + i) y.0 y.1 a (E.laid_is.laid_there i a at) y.2 y.3 y.4)
 
-      module _ (counts : List HandlerCounts) (hands : List (List (Token T))) (counted : counts ≡ map (λ (e : ReceiverEnd T). handler_counts e.knows) rs) (H : AreHandsOf rs hands) where
-        part_held : (i : ℕ) (l : Lent T) → get_elem? laid i ≡ some (Some (lent l)) → (h : ℕ) (c : HandlerCounts) (parts : List (Token T)) → get_elem? counts h ≡ some c
+      module _ (counts : List HandlerCounts) (hands : List (List (Token T)))
+          (counted : counts ≡ map (λ (e : ReceiverEnd T). handler_counts e.knows) rs) (H : AreHandsOf rs hands) where
+        part_held : (i : ℕ) (l : Lent T) → get_elem? laid i ≡ some (Some (lent l))
+            → (h : ℕ) (c : HandlerCounts) (parts : List (Token T)) → get_elem? counts h ≡ some c
             → get_elem? hands h ≡ some parts → is_in_hand c (count_now + i - k.size) ≡ true
             → get_elem? parts (cell_of k (count_now + i)) ≡ some (part_of k (count_now + i) (lent l))
         part_held i l at h c parts at_c at_h in_hand =
             let m = at_map (λ (e : ReceiverEnd T). handler_counts e.knows) rs h c (ap (λ (cs : List HandlerCounts). get_elem? cs h) (sym counted) ∙ at_c) in
             let e = m.0 in let r = e.knows in let both = held_of c (count_now + i - k.size) in_hand in let s = count_now + i - k.size in
-            let done = ap (λ (x : HandlerCounts). x.completed) m.2 in let taken = ap (λ (x : HandlerCounts). x.taken) m.2 in let from = both.0 in let to = both.1 in
+            let done = ap (λ (x : HandlerCounts). x.completed) m.2 in
+            let taken = ap (λ (x : HandlerCounts). x.taken) m.2 in
+            let from = both.0 in
+            let to = both.1 in
             let K = E.rule.received h r (ap (λ (xs : List (ReceiverRecord T)). get_elem? xs h) E.receivers ∙ map_there knows_of rs h e m.1) in
-            let is = E.laid_is.laid_there i (lent l) at in let at_q = is.1 in let same : is.0 ≡ s = omega arith in let whole_q : count_now + i ≡ k.size + s = omega arith in
+            let is = E.laid_is.laid_there i (lent l) at in
+            let at_q = is.1 in
+            let same : is.0 ≡ s = omega arith in
+            let whole_q : count_now + i ≡ k.size + s = omega arith in
             let x = there r.received s (omega arith) in
             let one = one_lent w.stages s x.0 l (K.beginning s x.0 x.1) (subst (λ (n : ℕ). IsOutWith w.stages n l) same is.2) in
             let plan : e.plan ≡ k = ap (λ (y : EndPlace T). y.1) (E.all.each_receiver h e m.1) ∙ sym E.plan in
             let fit = (H.each h e parts m.1 at_h).held s x.0 (omega arith) x.1 in
-            ap (λ (n : ℕ). get_elem? parts n) (cell_next (count_now + i) s whole_q) ∙ subst (λ (p : Shape T). get_elem? parts (cell_of p s) ≡ some (part_of p s (lent x.0))) plan fit
+            ap (λ (n : ℕ). get_elem? parts n) (cell_next (count_now + i) s whole_q)
+            ∙ subst (λ (p : Shape T). get_elem? parts (cell_of p s) ≡ some (part_of p s (lent x.0))) plan fit
             ∙ ap (λ (y : Lent T). some (part_of k s (lent y))) one
-            ∙ sym (ap (λ (n : ℕ). some (part_of k n (lent l))) whole_q ∙ ap (λ (y : Token T). some y) (token_later k E.rule.shape.some_slot (lane_of h) s (lent l)))
+            ∙ sym (ap (λ (n : ℕ). some (part_of k n (lent l))) whole_q
+            ∙ ap (λ (y : Token T). some y) (token_later k E.rule.shape.some_slot (lane_of h) s (lent l)))
 
         -- all that is to come back
         pub are_rows : (hand others : Hand T) → hand ≡ rows_left k (map (λ (r : ReceiverRecord T). handler_counts r) w.receivers) count_now laid ++ others
@@ -251,7 +276,8 @@ module _ {T : Type 0} where
             published = λ p s e x l at own out le. (
                 let st = own_stage p s e x at own in let i = s + k.size - count_now in let place : count_now + i ≡ k.size + s = omega arith in
                 let back = X.back i (lent l) (laid_out s x l st.1 out le) in
-                event_at (cell_of k s) l.event (whole_of k (count_now + i) (lent l)) (ap (λ (n : ℕ). get_elem? tokens' n) (sym (cell_next (count_now + i) s place)) ∙ back) refl);
+                event_at (cell_of k s) l.event (whole_of k (count_now + i) (lent l))
+                (ap (λ (n : ℕ). get_elem? tokens' n) (sym (cell_next (count_now + i) s place)) ∙ back) refl);
             held = λ p s e x at own none. (
                 let st = own_stage p s e x at own in let n = near s x st.1 none in let b = at_below w.stages s x st.1 in
                 let i = s + k.size - count_now in let place : count_now + i ≡ k.size + s = omega arith in

@@ -10,17 +10,18 @@ use Rattle.dr_seq.specs.Stamped.{stamped}
 use Rattle.dr_seq.proofs.Stamped.{marked-in, marked-out, length-stamped}
 use Rattle.dr_plain_senders.specs.Meaning.Shape.{Shape}
 use Rattle.dr_plain_senders.specs.Meaning.Records.{Owns, fresh_stage, fresh_own, is_published}
-use Rattle.dr_plain_senders.specs.declared.owned.Owned.{Owned}
 use Rattle.dr_plain_senders.specs.declared.record.Stage.{Stage}
 use Rattle.dr_plain_senders.specs.declared.record.Own.{Own}
 use Rattle.dr_plain_senders.specs.declared.record.SenderRecord.{SenderRecord}
 use Rattle.dr_plain_senders.specs.Calls.Ends.{SenderStand}
 use Rattle.dr_plain_senders.specs.Calls.Finds.{IsEarlier}
-use Rattle.dr_plain_senders.specs.Inside.Fits.{MarksFit, SenderFits, is_open}
+use Rattle.dr_plain_senders.specs.Inside.Fits.{MarksFit, SenderFits}
+use Rattle.dr_plain_senders.specs.Inside.Owned.{Owned, after_claim, is_open, wiped}
 use Rattle.atomic_table.proofs.Lists.{at_longer}
 use Rattle.dr_plain_senders.proofs.Places.{more_right, more_cases}
 use Rattle.dr_plain_senders.proofs.KeepsClaims.{fresh_at, fresh_there}
 use Rattle.dr_plain_senders.proofs.Owning.{marked_was}
+use Rattle.dr_plain_senders.proofs.Wiped.{wiped_count, wiped_was, wiped_beside}
 
 pub no_lent : {X : Type 0} (o : Option X) → is_some o ≡ false → o ≡ None
 no_lent None e = refl
@@ -81,7 +82,8 @@ module _ {T : Type 0} (r q : SenderRecord T) (c n : ℕ) (grown : q.own ≡ r.ow
 
   pub whence : (s : ℕ) (t : Stage T) → Owns q s t → Whence s t
   whence s t own =
-      elim (more_cases r.own (fresh_own r.number c n) own.0 (record { sequence = s; stage = t }) (ap (λ (xs : List (Own T)). get_elem? xs own.0) (sym grown) ∙ own.1)) [
+      elim (more_cases r.own (fresh_own r.number c n) own.0 (record { sequence = s; stage = t })
+      (ap (λ (xs : List (Own T)). get_elem? xs own.0) (sym grown) ∙ own.1)) [
         | inl old ↦ inr (own.0, old)
         | inr x ↦ (let d = fresh_at r.number c n x.0 (record { sequence = s; stage = t }) x.2 in
             let at : c + x.0 ≡ s = ap (λ (o : Own T). o.sequence) d.1 in let lt = d.0 in inl (omega arith, omega arith, sym (ap (λ (o : Own T). o.stage) d.1)))
@@ -107,14 +109,23 @@ module _ {T : Type 0} (r q : SenderRecord T) (c n : ℕ) (grown : q.own ≡ r.ow
         let len = F.claims in let e = earlier s t owned in let below = e.0 in let near = e.1 (no_lent t.lent hidden) in
         marked-out o.claimed c n s (omega arith) (omega arith) (λ j lt eq. omega arith)
 
-    unpublished_new : (s : ℕ) → c ≤ s → is_marked o.published s ≡ false
-    unpublished_new s low = elim (cases_Bool (is_marked o.published s)) [
-      | inl marked ↦ absurd (let y = F.published s marked in let e = earlier s y.0 y.1 in let below = e.0 in omega arith)
+    abbrev anew : Owned
+    anew = after_claim o c n
+
+    -- one that still has its mark is written and published as before
+    pub same_row : (xs : List ℕ) → length xs ≡ k.size → (s : ℕ) → s < c → is_marked claimed_marks s ≡ true → is_marked (wiped xs c n) s ≡ is_marked xs s
+    same_row xs count s lt marked = let len = F.claims in wiped_beside o.claimed xs c n s (omega arith) (omega arith) (omega arith) lt marked
+
+    unpublished_new : (s : ℕ) → c ≤ s → is_marked anew.published s ≡ false
+    unpublished_new s low = elim (cases_Bool (is_marked anew.published s)) [
+      | inl marked ↦ absurd (let len = F.shows in let was = wiped_was o.published c n s (omega arith) marked in
+          let y = F.published s was in let e = earlier s y.0 y.1 in let below = e.0 in omega arith)
       | inr unmarked ↦ unmarked
     ]
 
     -- what has no mark then is published, and its cell is claimed again
-    old_now : (s : ℕ) (t : Stage T) → Owns r s t → is_marked claimed_marks s ≡ false → (is_published t ≡ true) × ((z : ℕ) × (u : Stage T) × Owns q z u × (s + k.size ≤ z))
+    old_now : (s : ℕ) (t : Stage T) → Owns r s t → is_marked claimed_marks s ≡ false
+        → (is_published t ≡ true) × ((z : ℕ) × (u : Stage T) × Owns q z u × (s + k.size ≤ z))
     old_now s t owned m = let len = F.claims in let e = earlier s t owned in let below = e.0 in
         elim (cases_Bool (is_marked o.claimed s)) [
           | inr unmarked ↦ (let x = F.old s t owned unmarked in (x.0, (x.1.0, x.1.1, kept x.1.0 x.1.1 x.1.2, x.1.3)))
@@ -131,45 +142,45 @@ module _ {T : Type 0} (r q : SenderRecord T) (c n : ℕ) (grown : q.own ≡ r.ow
         ]
 
     -- a sender's marks once it claimed n from c on
-    pub marks_claimed : MarksFit k q (record o { claimed = claimed_marks })
+    pub marks_claimed : MarksFit k q anew
     marks_claimed =
-        let len = F.claims in let same : length claimed_marks ≡ length o.claimed = length-stamped (entry_of (length o.claimed)) o.claimed c n in record {
+        let len = F.claims in let same : length claimed_marks ≡ length o.claimed = length-stamped (entry_of (length o.claimed)) o.claimed c n in
+        let writes = F.writes in let shows = F.shows in record {
           claims = same ∙ F.claims;
-          writes = F.writes;
-          shows = F.shows;
+          writes = wiped_count o.written c n ∙ F.writes;
+          shows = wiped_count o.published c n ∙ F.shows;
           own = λ s m. elim (marked_was o.claimed c n s (omega arith) m) [
             | inl within ↦ (fresh_stage r.number, own_new s within.0 within.1)
             | inr was ↦ (let x = F.own s was in (x.0, kept s x.0 x.1))
           ];
-          written = λ s m. (let x = F.written s m in (x.0, kept s x.0 x.1));
-          published = λ s m. (let x = F.published s m in (x.0, kept s x.0 x.1));
+          written = λ s m. (let x = F.written s (wiped_was o.written c n s (omega arith) m) in (x.0, kept s x.0 x.1));
+          published = λ s m. (let x = F.published s (wiped_was o.published c n s (omega arith) m) in (x.0, kept s x.0 x.1));
           old = λ s t own m. elim (whence s t own) [
             | inl x ↦ absurd (let yes = here s x.0 x.1 in cc)
             | inr owned ↦ old_now s t owned m
           ];
           shown = λ s t own m. elim (whence s t own) [
             | inl x ↦ ap is_published x.2 ∙ sym (unpublished_new s x.0)
-            | inr owned ↦ F.shown s t owned (before s (earlier s t owned).0 m)
+            | inr owned ↦ (let lt = (earlier s t owned).0 in F.shown s t owned (before s lt m) ∙ sym (same_row o.published F.shows s lt m))
           ];
         }
 
     -- what was open stays open, what is claimed is open, and nothing else
-    pub open_before : (s : ℕ) → s < c → is_open o s ≡ is_open (record o { claimed = claimed_marks }) s
-    open_before s lt = elim (cases_Bool (is_marked o.claimed s)) [
-      | inl marked ↦ (let own = F.own s marked in elim (cases_Bool (is_published own.0)) [
-        | inl shown ↦ (let hides : not (is_marked o.published s) ≡ false = ap not (sym (F.shown s own.0 own.1 marked) ∙ shown) in
-            closed (is_marked o.claimed s) (not (is_marked o.published s)) hides ∙ sym (closed (is_marked claimed_marks s) (not (is_marked o.published s)) hides))
-        | inr hidden ↦ ap (λ (b : Bool). b && not (is_marked o.published s)) (sym (keeps_mark s own.0 own.1 hidden))
-      ])
-      | inr unmarked ↦ (let still : is_marked claimed_marks s ≡ false = elim (cases_Bool (is_marked claimed_marks s)) [
-        | inl now ↦ absurd (let was = before s lt now in cc)
-        | inr not_now ↦ not_now
-      ] in ap (λ (b : Bool). b && not (is_marked o.published s)) (unmarked ∙ sym still))
+    pub open_before : (s : ℕ) → s < c → is_open o s ≡ is_open anew s
+    open_before s lt = elim (cases_Bool (is_marked claimed_marks s)) [
+      | inl still ↦ (λ i. (before s lt still ∙ sym still) i && not (sym (same_row o.published F.shows s lt still) i))
+      | inr gone ↦ was_closed s lt gone ∙ sym (ap (λ (b : Bool). b && not (is_marked anew.published s)) gone)
     ]
       where
-        closed : (a b : Bool) → b ≡ false → (a && b) ≡ false
-        closed true b e = e
-        closed false b e = refl
+        -- one that lost its mark was not open
+        was_closed : (s : ℕ) → s < c → is_marked claimed_marks s ≡ false → is_open o s ≡ false
+        was_closed s lt gone = elim (cases_Bool (is_marked o.claimed s)) [
+          | inl marked ↦ (let own = F.own s marked in elim (cases_Bool (is_published own.0)) [
+            | inl shown ↦ (λ i. marked i && not ((sym (F.shown s own.0 own.1 marked) ∙ shown) i))
+            | inr hidden ↦ absurd (let same = keeps_mark s own.0 own.1 hidden in cc)
+          ])
+          | inr unmarked ↦ ap (λ (b : Bool). b && not (is_marked o.published s)) unmarked
+        ]
 
-    pub open_here : (s : ℕ) → c ≤ s → s < c + n → is_open (record o { claimed = claimed_marks }) s ≡ true
+    pub open_here : (s : ℕ) → c ≤ s → s < c + n → is_open anew s ≡ true
     open_here s low high = (λ i. here s low high i && not (unpublished_new s low i))

@@ -10,6 +10,7 @@ use Rattle.atomic_table.specs.Table.{opening as table_opening}
 use Rattle.dr_runs.proofs.Lists.{at_map, map_there}
 use Rattle.dr_runs.proofs.Elements.{at_below}
 use Rattle.dr_runs.proofs.Cuts.{ruled_fresh}
+use Rattle.dr_lent.proofs.Lanes.{inside_lanes}
 use Rattle.dr_plain_senders.specs.Meaning.Shape.{Shape, IsShape, handlers_of}
 use Rattle.dr_plain_senders.specs.Meaning.Words.{words_of, cell_of, slot_of, lanes_of}
 use Rattle.dr_plain_senders.specs.declared.record.SenderRecord.{SenderRecord}
@@ -23,7 +24,6 @@ use Rattle.dr_cells.specs.Hold.{whole}
 use Rattle.dr_cells.specs.Tokens.{token_at, no_token}
 use Rattle.dr_plain_senders.specs.Meaning.Lying.{unlent, Lies}
 use Rattle.dr_plain_senders.specs.Inside.Making.{AreFirst}
-use Rattle.dr_plain_senders.proofs.Lanes.{inside_lanes}
 use Rattle.dr_plain_senders.proofs.Places.{more_cases}
 use Rattle.dr_plain_senders.proofs.Beginning.{sender_fresh, receiver_fresh, senders_count, receivers_count}
 
@@ -81,8 +81,9 @@ module _ {T : Type 0} where
             keeps = map_there (λ (c : Token T). some c) cs (slot_of k 0 q) (token_at k.strip q (whole x.0)) (ap (λ (j : ℕ). get_elem? cs j) none ∙ x.1)
                 ∙ ap (λ (j : ℕ). some (some (token_at k.strip j (whole x.0)))) (sym here);
             parts = λ h r at away. (
-                let inside : suc h < lanes_of k = (let b = at_below (fresh_receivers {T = T} 0 (handlers_of k)) h r at in let e = receivers_count T 0 (handlers_of k) in omega arith) in
-                let b = inside_lanes k (suc h) q some_slot inside in
+                let inside : suc h < lanes_of k =
+                (let b = at_below (fresh_receivers {T = T} 0 (handlers_of k)) h r at in let e = receivers_count T 0 (handlers_of k) in omega arith) in
+                let b = inside_lanes k.size (lanes_of k) (suc h) q some_slot inside in
                 let far : k.size ≤ slot_of k (suc h) q = (let m : k.size ≤ suc h * k.size = omega (arith, suc-mul h k.size) in omega arith) in
                 map_there (λ (c : Token T). some c) cs (slot_of k (suc h) q) no_token (F.parts (slot_of k (suc h) q) far b));
           },
@@ -90,6 +91,7 @@ module _ {T : Type 0} where
   }
 
   -- a new ring keeps the rule
-  pub ruled_new : (k : Shape T) (ws : List ℕ) (cs : List (Token T)) → ws ≡ replicate (words_of k) 0 → AreFirst k cs → IsShape k → Ruled {T = T} k (table_opening ws cs (all_ends k))
+  pub ruled_new : (k : Shape T) (ws : List ℕ) (cs : List (Token T)) → ws ≡ replicate (words_of k) 0
+      → AreFirst k cs → IsShape k → Ruled {T = T} k (table_opening ws cs (all_ends k))
   ruled_new k ws cs is F shape =
       inl (ruled_fresh (exchange k) (fresh_ends k) (index k.senders) ws cs (sym is) (lies_fresh k cs F shape.some_slot) shape (stands_fresh k))

@@ -33,7 +33,8 @@ use Rattle.dr_plain_senders.proofs.Settling.{settles}
 
 module _ {T : Type 0} where
   abbrev pub Moments : (Shape T → List (Step T) → Transcript T → World T → Type 0) → Type 0
-  Moments P = (k : Shape T) (steps : List (Step T)) (entries : Transcript T) (w : World T) → IsShape k → Runs k steps entries (new_world k) w → P k steps entries w
+  Moments P =
+      (k : Shape T) (steps : List (Step T)) (entries : Transcript T) (w : World T) → IsShape k → Runs k steps entries (new_world k) w → P k steps entries w
 
   abbrev pub knows_of_sender : SenderEnd T → SenderRecord T
   knows_of_sender e = e.knows
@@ -75,7 +76,8 @@ module _ {T : Type 0} where
   }
 
   -- each of them is in the run that came to them
-  pub record InOneRun (k : Shape T) (w : World T) (steps : List (Step T)) (ss : List (SenderEnd T)) (rs : List (ReceiverEnd T)) (t : HalterStand T) : Type 0 where
+  pub record InOneRun (k : Shape T) (w : World T) (steps : List (Step T))
+      (ss : List (SenderEnd T)) (rs : List (ReceiverEnd T)) (t : HalterStand T) : Type 0 where
     pub sends : (p : ℕ) (e : SenderEnd T) → get_elem? ss p ≡ some e → InRun (exchange k) w steps (sender_known e)
     pub receives : (h : ℕ) (e : ReceiverEnd T) → get_elem? rs h ≡ some e → InRun (exchange k) w steps (receiver_known e)
     pub halts : InRun (exchange k) w steps (halter_known t)
@@ -91,14 +93,16 @@ module _ {T : Type 0} where
       }
 
   -- the records of the world that the run came to
-  pub senders_are : (k : Shape T) (w : World T) (steps : List (Step T)) (ss : List (SenderEnd T)) (rs : List (ReceiverEnd T)) (t : HalterStand T) → KeepsRule k w
+  pub senders_are : (k : Shape T) (w : World T) (steps : List (Step T)) (ss : List (SenderEnd T)) (rs : List (ReceiverEnd T)) (t : HalterStand T)
+      → KeepsRule k w
       → k ≡ t.plan → AreAllEnds ss rs t → InOneRun k w steps ss rs t → w.senders ≡ map knows_of_sender ss
   senders_are k w steps ss rs t K plan A R =
       same_lists w.senders (map knows_of_sender ss) (K.inlets ∙ ap (λ (p : Shape T). p.senders) plan ∙ sym A.senders ∙ sym (length-map ss knows_of_sender))
       (λ p r at. (let m = at_map knows_of_sender ss p r at in let number : m.0.knows.number ≡ p = ap (λ (x : EndPlace T). x.2) (A.each_sender p m.0 m.1) in
       ap (λ (n : ℕ). get_elem? w.senders n) (sym number) ∙ (R.sends p m.0 m.1).stands ∙ ap (λ (x : SenderRecord T). some x) m.2))
 
-  pub receivers_are : (k : Shape T) (w : World T) (steps : List (Step T)) (ss : List (SenderEnd T)) (rs : List (ReceiverEnd T)) (t : HalterStand T) → KeepsRule k w
+  pub receivers_are : (k : Shape T) (w : World T) (steps : List (Step T)) (ss : List (SenderEnd T)) (rs : List (ReceiverEnd T)) (t : HalterStand T)
+      → KeepsRule k w
       → k ≡ t.plan → AreAllEnds ss rs t → InOneRun k w steps ss rs t → w.receivers ≡ map knows_of rs
   receivers_are k w steps ss rs t K plan A R =
       same_lists w.receivers (map knows_of rs) (K.outlets ∙ ap (λ (p : Shape T). length p.upstreams) plan ∙ sym A.receivers ∙ sym (length-map rs knows_of))

@@ -1,5 +1,6 @@
 -- What a claim leaves of a sender's fields, and what its caller sees.
-use Rattle.std.proofs.Common.{◌≡◌, ℕ, zero, suc, ◌+◌, ◌-◌, ◌*◌, ◌^◌, ◌<◌, ◌≤◌, ◌⊎◌, inl, inr, Bool, true, false, not, ◌&&◌, if◌then◌else◌, List, [], ◌∷◌, ◌++◌, map, drop, get_or, replicate, sym, refl, ap, ◌∙◌, subst, arith}
+use Rattle.std.proofs.Common.{◌≡◌, ℕ, zero, suc, ◌+◌, ◌-◌, ◌*◌, ◌^◌, ◌<◌, ◌≤◌, ◌⊎◌, inl, inr, Bool, true, false, not, ◌&&◌, if◌then◌else◌, List, []}
+use Rattle.std.proofs.Common.{◌∷◌, ◌++◌, map, drop, get_or, replicate, sym, refl, ap, ◌∙◌, subst, arith}
 use Rattle.std.specs.Prelude.{None, Some, Option, Result}
 use Rattle.std.proofs.lemmas.Bool.{cases_Bool, cases_lt}
 use Rattle.std.proofs.Math.Nat.{mod-lt}
@@ -10,6 +11,8 @@ use lib.ListN.{get_elem?}
 use Rattle.dr_cells.specs.declared.token.Token.{Token}
 use Rattle.dr_cells.specs.Hold.{held}
 use Rattle.dr_meaning.specs.declared.command.Claimed.{Claimed}
+use Rattle.dr_lent.specs.Rows.{cells_of}
+use Rattle.dr_lent.proofs.Lists.{drop_seam}
 use Rattle.dr_plain_senders.specs.declared.claiming.ClaimFault.{ClaimFault}
 use Rattle.dr_seq.specs.Rounds.{is_marked}
 use Rattle.dr_seq.proofs.Apart.{slots_differ}
@@ -19,23 +22,23 @@ use Rattle.dr_plain_senders.specs.Meaning.Shape.{Shape}
 use Rattle.dr_plain_senders.specs.Meaning.Words.{cell_of, lanes_of}
 use Rattle.dr_plain_senders.specs.Meaning.Lying.{Laid, unlent, lent}
 use Rattle.dr_plain_senders.specs.Meaning.Records.{Owns, fresh_stage, fresh_own}
-use Rattle.dr_plain_senders.specs.declared.owned.Owned.{Owned}
 use Rattle.dr_plain_senders.specs.declared.record.Stage.{Stage}
 use Rattle.dr_plain_senders.specs.declared.record.Own.{Own}
 use Rattle.dr_plain_senders.specs.declared.record.SenderRecord.{SenderRecord}
 use Rattle.dr_plain_senders.specs.Calls.Ends.{SenderStand}
 use Rattle.dr_plain_senders.specs.Calls.Finds.{IsEarlier}
 use Rattle.dr_plain_senders.specs.Calls.Sending.{GainsCells, ClaimCall}
-use Rattle.dr_plain_senders.specs.Inside.Fits.{SenderFits, is_open, cells_of, written_in, writes_of}
+use Rattle.dr_plain_senders.specs.Inside.Fits.{SenderFits, written_in, writes_of}
+use Rattle.dr_plain_senders.specs.Inside.Owned.{Owned, after_claim, is_open}
 use Rattle.dr_plain_senders.specs.Inside.Hands.{with_hand}
 use Rattle.dr_plain_senders.specs.Inside.Rows.{blank_rows, AreCollected}
 use Rattle.dr_plain_senders.specs.Inside.Seats.{Hand, LayIn, LayAsLent, IsOfRound, taken_by_claim}
 use Rattle.dr_plain_senders.specs.Inside.Finishing.{value_of}
-use Rattle.dr_plain_senders.proofs.Taken.{drop_seam}
 use Rattle.dr_plain_senders.proofs.Collecting.{rows_count, HaveLaid}
 use Rattle.dr_plain_senders.proofs.Owning.{marked_was}
+use Rattle.dr_plain_senders.proofs.Wiped.{wiped_none}
 use Rattle.dr_plain_senders.proofs.Opened.{open_later}
-use Rattle.dr_plain_senders.proofs.Fitting.{no_lent, own_new, whence, claimed_marks, marks_claimed, open_before, open_here}
+use Rattle.dr_plain_senders.proofs.Fitting.{no_lent, own_new, whence, marks_claimed, same_row, open_before, open_here}
 
 pub first_of : (a b : Bool) → (a && b) ≡ true → a ≡ true
 first_of true b e = refl
@@ -80,7 +83,8 @@ was_begun k q (unlent x) of first = of.1
 was_begun k q (lent l) of first = absurd (omega arith)
 
 -- once what a claim took is collected, the rows of its sequences are behind all others
-pub hand_after : {T : Type 0} → (k : Shape T) (lo m n : ℕ) (laid : List (Laid T)) (hand hand1 : Hand T) → LayIn k lo n laid → hand1 ≡ taken_by_claim k lo laid ++ hand → m ≡ n
+pub hand_after : {T : Type 0} → (k : Shape T) (lo m n : ℕ) (laid : List (Laid T)) (hand hand1 : Hand T)
+    → LayIn k lo n laid → hand1 ≡ taken_by_claim k lo laid ++ hand → m ≡ n
     → drop (lanes_of k * m) hand1 ++ blank_rows k lo m ≡ hand ++ blank_rows k lo n
 hand_after k lo m n laid hand hand1 L is same =
     ap (λ (x : ℕ). drop (lanes_of k * x) hand1 ++ blank_rows k lo x) same
@@ -93,7 +97,7 @@ module _ {T : Type 0} (e : SenderStand T) (o : Owned) (end lo n : ℕ) (tokens t
     (earlier : (s : ℕ) (t : Stage T) → Owns e.knows s t → IsEarlier e.plan lo (lo + n) s t) (q : SenderRecord T)
     (grown : q.own ≡ e.knows.own ++ fresh_own e.knows.number lo n) where
   abbrev now : Owned
-  now = record o { claimed = claimed_marks e.knows q lo n grown e.plan o F.marks some_one few earlier }
+  now = after_claim o lo n
 
   same_open : (s : ℕ) → s < lo → is_open o s ≡ is_open now s
   same_open = open_before e.knows q lo n grown e.plan o F.marks some_one few earlier
@@ -102,7 +106,8 @@ module _ {T : Type 0} (e : SenderStand T) (o : Owned) (end lo n : ℕ) (tokens t
   still_near : (s : ℕ) → is_open o s ≡ true → lo + n ≤ s + e.plan.size
   still_near s opened =
       let claimed = first_of (is_marked o.claimed s) (not (is_marked o.published s)) opened in let own = F.marks.own s claimed in
-      let hidden = F.marks.shown s own.0 own.1 claimed ∙ unhidden (is_marked o.published s) (second_of (is_marked o.claimed s) (not (is_marked o.published s)) opened) in
+      let hidden =
+      F.marks.shown s own.0 own.1 claimed ∙ unhidden (is_marked o.published s) (second_of (is_marked o.claimed s) (not (is_marked o.published s)) opened) in
       (earlier s own.0 own.1).1 (no_lent own.0.lent hidden)
 
   open_below : (s : ℕ) → is_open o s ≡ true → (s < end) × (s < lo)
@@ -113,7 +118,7 @@ module _ {T : Type 0} (e : SenderStand T) (o : Owned) (end lo n : ℕ) (tokens t
   -- what it has open now is of the stretch, or was open
   open_now : (s : ℕ) → is_open now s ≡ true → lo ≤ s → s < lo + n
   open_now s opened low = let len = F.marks.claims in
-      elim (marked_was o.claimed lo n s (omega arith) (first_of (is_marked now.claimed s) (not (is_marked o.published s)) opened)) [
+      elim (marked_was o.claimed lo n s (omega arith) (first_of (is_marked now.claimed s) (not (is_marked now.published s)) opened)) [
         | inl within ↦ within.1
         | inr was ↦ absurd (let own = F.marks.own s was in let below = (earlier s own.0 own.1).0 in omega arith)
       ]
@@ -178,13 +183,17 @@ module _ {T : Type 0} (e : SenderStand T) (o : Owned) (end lo n : ℕ) (tokens t
 
   -- nothing of the stretch is written, and what was written before stays so
   none_written : (s : ℕ) → lo ≤ s → written_in e.plan now tokens' s ≡ None
-  none_written s ge = unready (is_open now s) (is_marked o.written s) (get_or (cells_of tokens') (cell_of e.plan s) None) (inr (unwritten s ge))
+  none_written s ge = let len = F.marks.writes in
+      unready (is_open now s) (is_marked now.written s) (get_or (cells_of tokens') (cell_of e.plan s) None)
+      (inr (wiped_none o.written lo n s (omega arith) (unwritten s ge)))
 
   still_written : (s : ℕ) → written_in e.plan now tokens' s ≡ written_in e.plan o tokens s
   still_written s = elim (cases_lt s lo) [
     | inl lt ↦ elim (cases_Bool (is_open o s)) [
-      | inl opened ↦ (λ i. if sym (same_open s lt) i && is_marked o.written s then lies_still s lt opened i else None)
-      | inr closed ↦ unready (is_open now s) (is_marked o.written s) (get_or (cells_of tokens') (cell_of e.plan s) None) (inl (sym (same_open s lt) ∙ closed))
+      | inl opened ↦ (let still = first_of (is_marked now.claimed s) (not (is_marked now.published s)) (sym (same_open s lt) ∙ opened) in
+          let same = same_row e.knows q lo n grown e.plan o F.marks some_one few earlier o.written F.marks.writes s lt still in
+          (λ i. if sym (same_open s lt) i && same i then lies_still s lt opened i else None))
+      | inr closed ↦ unready (is_open now s) (is_marked now.written s) (get_or (cells_of tokens') (cell_of e.plan s) None) (inl (sym (same_open s lt) ∙ closed))
           ∙ sym (unready (is_open o s) (is_marked o.written s) (get_or (cells_of tokens) (cell_of e.plan s) None) (inl closed))
     ]
     | inr ge ↦ none_written s ge
@@ -211,7 +220,10 @@ module _ {T : Type 0} (e : SenderStand T) (o : Owned) (end lo n : ℕ) (tokens t
       → GainsCells e.plan e.knows lo n (cells_of tokens) (cells_of tokens')
   gains_cells laid L O H = let f : Token T → Option T = λ x. held x.hold in record {
     gained = λ s low lt. (let size : 0 < e.plan.size = omega arith in let inside : cell_of e.plan s < e.plan.size = mod-lt s size in
-        let many = collected.count in let count = F.count in let t = there tokens' (cell_of e.plan s) (omega arith) in let W = collected.whole s t.0 low lt t.1 in
+        let many = collected.count in
+        let count = F.count in
+        let t = there tokens' (cell_of e.plan s) (omega arith) in
+        let W = collected.whole s t.0 low lt t.1 in
         let more = L.count in let a = there laid (s - lo) (omega arith) in let at : lo + (s - lo) ≡ s = omega arith in
         let same : value_of a.0 ≡ W.0 = some_of (value_of a.0) W.0 (sym (H s a.0 t.0 low lt a.1 t.1) ∙ ap f W.1) in (
           W.0,
@@ -225,7 +237,8 @@ module _ {T : Type 0} (e : SenderStand T) (o : Owned) (end lo n : ℕ) (tokens t
   }
 
 -- the call as a caller sees it, whatever is in hand
-pub bare_call : {T : Type 0} → (e e1 e2 : SenderStand T) (hand : Hand T) (n : ℕ) (result : Result Claimed ClaimFault) → ClaimCall e n e1 result → e2 ≡ with_hand e1 hand
+pub bare_call : {T : Type 0} → (e e1 e2 : SenderStand T) (hand : Hand T) (n : ℕ) (result : Result Claimed ClaimFault)
+    → ClaimCall e n e1 result → e2 ≡ with_hand e1 hand
     → ClaimCall (record e { hand = [] }) n (record e2 { hand = [] }) result
 bare_call e e1 e2 hand n result C is =
     subst (λ (x : SenderStand _). ClaimCall (record e { hand = [] }) n (record x { hand = [] }) result) (sym is) (record {

@@ -1,5 +1,6 @@
 -- Once a ring is halted, nothing more is claimed.
-use Rattle.std.proofs.Common.{◌≡◌, ◌≢◌, ℕ, true, ◌==◌, if◌then◌else◌, Bool, List, [], ◌∷◌, length, set, sym, ap, ◌∙◌, subst, arith, length-set, get_or-set_same, get_or-set_other}
+use Rattle.std.proofs.Common.{◌≡◌, ◌≢◌, ℕ, true, ◌==◌, if◌then◌else◌, Bool, List, [], ◌∷◌, length, set, sym, ap, ◌∙◌, subst, arith, length-set}
+use Rattle.std.proofs.Common.{get_or-set_same, get_or-set_other}
 use Rattle.std.proofs.lemmas.Bool.{ne_eqb, leb-true}
 use Rattle.dr_meaning.specs.Meaning.Transcript.{Transcript}
 use Rattle.dr_plain_senders.specs.Meaning.Shape.{Shape}
@@ -7,8 +8,10 @@ use Rattle.dr_plain_senders.specs.Meaning.Words.{claim_word, is_halted, halted_f
 use Rattle.dr_plain_senders.specs.declared.record.Stage.{Stage}
 use Rattle.dr_plain_senders.specs.declared.record.SenderRecord.{SenderRecord}
 use Rattle.dr_plain_senders.specs.declared.record.Step.{Step}
-use Rattle.dr_plain_senders.specs.declared.record.Step.TheVariants.{SenderLooksAtClaims, SenderLooksAtCount, SenderClaims, SenderPublishes, SenderLooksAtMark, SenderHalts}
-use Rattle.dr_plain_senders.specs.declared.record.Step.TheVariants.{ReceiverLooksAtClaims, ReceiverLooksAtMark, ReceiverLooksAtCount, ReceiverCompletes, HalterHalts}
+use Rattle.dr_plain_senders.specs.declared.record.Step.TheVariants.{SenderLooksAtClaims, SenderLooksAtCount, SenderClaims, SenderPublishes}
+use Rattle.dr_plain_senders.specs.declared.record.Step.TheVariants.{SenderLooksAtMark, SenderHalts}
+use Rattle.dr_plain_senders.specs.declared.record.Step.TheVariants.{ReceiverLooksAtClaims, ReceiverLooksAtMark, ReceiverLooksAtCount}
+use Rattle.dr_plain_senders.specs.declared.record.Step.TheVariants.{ReceiverCompletes, HalterHalts}
 use Rattle.dr_plain_senders.specs.Meaning.Records.{published, sender_looked, SeesRoom}
 use Rattle.dr_plain_senders.specs.Meaning.Rule.{World, KeepsRule}
 use Rattle.dr_plain_senders.specs.Meaning.Steps.{Happens, PublishesOne, sender_knows, sender_claims}
@@ -21,7 +24,8 @@ module _ {T : Type 0} where
   abbrev pub HaltedAt : ℕ → World T → Type 0
   HaltedAt n w = (is_halted (word_at w.words claim_word) ≡ true) × (length w.stages ≡ n)
 
-  other_word : (w : World T) (i v : ℕ) → i ≢ claim_word → is_halted (word_at w.words claim_word) ≡ true → is_halted (word_at (set w.words i v) claim_word) ≡ true
+  other_word : (w : World T) (i v : ℕ) → i ≢ claim_word → is_halted (word_at w.words claim_word) ≡ true
+      → is_halted (word_at (set w.words i v) claim_word) ≡ true
   other_word w i v ne is = ap is_halted (get_or-set_other w.words i claim_word v 0 (λ (e : claim_word ≡ i). ne (sym e))) ∙ is
 
   -- an exchange finds another number than it expects
@@ -44,8 +48,10 @@ module _ {T : Type 0} where
 
   halted_one : (k : Shape T) (p n s : ℕ) (event : T) (w u : World T) → PublishesOne k p s event w u → KeepsRule k w → HaltedAt n w → HaltedAt n u
   halted_one k p n s event w u H K is =
-      subst (HaltedAt n) (sym H.2.3.2)
-      (other_word w (mark_word k s) (flipped (word_at w.words (mark_word k s)) (mark_bit k s) 1) (λ e. omega arith) is.0, same_stages w.stages s n (published H.2.3.0 H.2.0) is.1)
+      subst (HaltedAt n) (sym H.2.3.2) (
+        other_word w (mark_word k s) (flipped (word_at w.words (mark_word k s)) (mark_bit k s) 1) (λ e. omega arith) is.0,
+        same_stages w.stages s n (published H.2.3.0 H.2.0) is.1,
+      )
 
   pub halted_step : (k : Shape T) (s : Step T) (w u : World T) (n : ℕ) → Happens k s w u → KeepsRule k w → HaltedAt n w → HaltedAt n u
   halted_step k (SenderLooksAtClaims p) w u n H K is = subst (HaltedAt n) (sym H.2) is
@@ -60,6 +66,7 @@ module _ {T : Type 0} where
   halted_step k (ReceiverCompletes h m) w u n H K is = subst (HaltedAt n) (sym H.2.2) (other_word w (count_word h) m (λ e. omega arith) is.0, is.1)
   halted_step k HalterHalts w u n H K is = subst (HaltedAt n) (sym H) (halted_more k w K, is.1)
 
-  pub halted_runs : (k : Shape T) (steps : List (Step T)) (es : Transcript T) (w u : World T) (n : ℕ) → Runs k steps es w u → KeepsRule k w → HaltedAt n w → HaltedAt n u
+  pub halted_runs : (k : Shape T) (steps : List (Step T)) (es : Transcript T) (w u : World T) (n : ℕ)
+      → Runs k steps es w u → KeepsRule k w → HaltedAt n w → HaltedAt n u
   halted_runs k [] es w u n R K is = subst (HaltedAt n) R.1 is
   halted_runs k (s ∷ steps) es w u n R K is = halted_runs k steps R.1 R.0 u n R.4 (keeps_step k s w R.0 R.2 K) (halted_step k s w R.0 n R.2 K is)

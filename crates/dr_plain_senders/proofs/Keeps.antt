@@ -9,8 +9,10 @@ use Rattle.dr_plain_senders.specs.Meaning.Shape.{Shape}
 use Rattle.dr_plain_senders.specs.Meaning.Words.{claim_word, count_word, mark_word}
 use Rattle.dr_plain_senders.specs.declared.record.SenderRecord.{SenderRecord}
 use Rattle.dr_plain_senders.specs.declared.record.Step.{Step}
-use Rattle.dr_plain_senders.specs.declared.record.Step.TheVariants.{SenderLooksAtClaims, SenderLooksAtCount, SenderClaims, SenderPublishes, SenderLooksAtMark, SenderHalts}
-use Rattle.dr_plain_senders.specs.declared.record.Step.TheVariants.{ReceiverLooksAtClaims, ReceiverLooksAtMark, ReceiverLooksAtCount, ReceiverCompletes, HalterHalts}
+use Rattle.dr_plain_senders.specs.declared.record.Step.TheVariants.{SenderLooksAtClaims, SenderLooksAtCount, SenderClaims, SenderPublishes}
+use Rattle.dr_plain_senders.specs.declared.record.Step.TheVariants.{SenderLooksAtMark, SenderHalts}
+use Rattle.dr_plain_senders.specs.declared.record.Step.TheVariants.{ReceiverLooksAtClaims, ReceiverLooksAtMark, ReceiverLooksAtCount}
+use Rattle.dr_plain_senders.specs.declared.record.Step.TheVariants.{ReceiverCompletes, HalterHalts}
 use Rattle.dr_plain_senders.specs.Meaning.Records.{sender_looked, SeesRoom}
 use Rattle.dr_plain_senders.specs.Meaning.Rule.{World, KeepsRule}
 use Rattle.dr_plain_senders.specs.Meaning.Steps.{Happens, PublishesOne, PublishesAll, sender_knows, sender_claims}
@@ -38,7 +40,8 @@ module _ {T : Type 0} where
   keeps_one k p s event w u H K = subst (KeepsRule k) (sym H.2.3.2) (keeps_publishes k w p s H.2.1.0 H.0 H.2.0 H.2.3.0 H.1 H.2.1.1 H.2.2 K)
 
   -- what each publication of one event keeps, one of many does
-  pub along_all : (k : Shape T) (p : ℕ) (P : World T → Type 0) → ((s : ℕ) (event : T) (w u : World T) → PublishesOne k p s event w u → KeepsRule k w → P w → P u)
+  pub along_all : (k : Shape T) (p : ℕ) (P : World T → Type 0)
+      → ((s : ℕ) (event : T) (w u : World T) → PublishesOne k p s event w u → KeepsRule k w → P w → P u)
       → (s : ℕ) (events : List T) (w u : World T) → PublishesAll k p s events w u → KeepsRule k w → P w → P u
   along_all k p P one s [] w u A K x = subst P (sym A) x
   along_all k p P one s (event ∷ events) w u A K x =

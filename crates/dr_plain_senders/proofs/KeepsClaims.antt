@@ -1,5 +1,6 @@
 -- A sender that looks or claims keeps the rule, and so does a halt.
-use Rattle.std.proofs.Common.{◌≡◌, ℕ, zero, suc, ◌+◌, ◌<◌, inl, inr, false, List, ◌++◌, length, set, replicate, sym, ap, ◌∙◌, subst, arith, length-set, get_or-set_same, get_or-set_other}
+use Rattle.std.proofs.Common.{◌≡◌, ℕ, zero, suc, ◌+◌, ◌<◌, inl, inr, false, List, ◌++◌, length, set, replicate, sym, ap, ◌∙◌, subst, arith}
+use Rattle.std.proofs.Common.{length-set, get_or-set_same, get_or-set_other}
 use Rattle.std.proofs.lemmas.List.{length-append, length-replicate}
 use mathlib.Core.Option.{some, some-injective, some-ne-none}
 use lib.ListN.{get_elem?}
@@ -15,14 +16,16 @@ use Rattle.dr_plain_senders.specs.Meaning.Records.{fresh_stage, fresh_own, sende
 use Rattle.dr_plain_senders.specs.Meaning.Rule.{World, ArePast, SenderKept, KeepsRule, IsOut}
 use Rattle.dr_plain_senders.specs.Meaning.Steps.{sender_knows, sender_claims, halted_words}
 use Rattle.atomic_table.proofs.Lists.{at_longer}
-use Rattle.dr_plain_senders.proofs.Places.{word_at, more_right, more_cases, at_replicate, in_replicate, claimed_low, halted_low, claimed_halted, halted_rises, is_halted_from, Rises, rises_set, past_rises}
+use Rattle.dr_plain_senders.proofs.Places.{word_at, more_right, more_cases, at_replicate, in_replicate, claimed_low, halted_low, claimed_halted}
+use Rattle.dr_plain_senders.proofs.Places.{halted_rises, is_halted_from, Rises, rises_set, past_rises}
 use Rattle.dr_runs.proofs.Looks.{past_more, last_look_le}
 use Rattle.dr_plain_senders.proofs.Facts.{handler_inside, none_or_some}
 use Rattle.dr_plain_senders.proofs.Stays.{Lasts, out_lasts, room_stays, receiver_stays, sender_stays}
 
 module _ {T : Type 0} where
   -- a sender's record changes
-  sender_changes : (k : Shape T) (w : World T) (p : ℕ) (r : SenderRecord T) → SenderKept k w.words w.stages p r → KeepsRule k w → KeepsRule k (sender_knows w p r)
+  sender_changes : (k : Shape T) (w : World T) (p : ℕ) (r : SenderRecord T)
+      → SenderKept k w.words w.stages p r → KeepsRule k w → KeepsRule k (sender_knows w p r)
   sender_changes k w p r now K = record {
     shape = K.shape;
     wide = K.wide;
@@ -43,7 +46,13 @@ module _ {T : Type 0} where
       → KeepsRule k (sender_knows w p (sender_looked r i (word_at w.words i)))
   keeps_sender_looks k w p i r low at K = let was = K.sent p r at in
       sender_changes k w p (sender_looked r i (word_at w.words i))
-      (record { number = was.number; own = was.own; all = was.all; looks = past_more (mark_start k) w.words i (word_at w.words i) r.looks low (omega arith) was.looks }) K
+      (record {
+        number = was.number;
+        own = was.own;
+        all = was.all;
+        looks = past_more (mark_start k) w.words i (word_at w.words i) r.looks low (omega arith) was.looks;
+      })
+      K
 
   -- it looks at a mark
   pub keeps_mark_found : (k : Shape T) (w : World T) (p s found : ℕ) (r : SenderRecord T) → get_elem? w.senders p ≡ some r → KeepsRule k w
@@ -74,7 +83,8 @@ module _ {T : Type 0} where
       fresh_there p (suc c) n i (omega arith) ∙ ap (λ (s : ℕ). let o : Own T = record { sequence = s; stage = fresh_stage p } in some o) z
 
   -- what is claimed now, its sender has
-  claimed_own : (r : SenderRecord T) (p c n s i : ℕ) (t : Stage T) → r.number ≡ p → c + i ≡ s → get_elem? (replicate n (fresh_stage p)) i ≡ some t → Owns (claimed_from r c n) s t
+  claimed_own : (r : SenderRecord T) (p c n s i : ℕ) (t : Stage T) → r.number ≡ p → c + i ≡ s
+      → get_elem? (replicate n (fresh_stage p)) i ≡ some t → Owns (claimed_from r c n) s t
   claimed_own r p c n s i t number at new =
       let inside = at_below (replicate n (fresh_stage p)) i t new in let len = length-replicate n (fresh_stage {T = T} p) in
       let fresh : fresh_stage r.number ≡ t = ap fresh_stage number ∙ at_replicate n (fresh_stage p) t i new in (
@@ -108,7 +118,8 @@ module _ {T : Type 0} where
         claim = ap claimed_in here ∙ claimed_low (c + n) (omega arith) ∙ sym longer;
         limit = omega arith;
         room = λ f final. (let i = final_inside k.upstreams f final in let a = room.completed f final in
-            let b = last_look_le (mark_start k) w.words 0 r.looks (count_word f) (omega arith) was.looks in let e = stays (count_word f) (omega arith) in omega arith);
+            let b = last_look_le (mark_start k) w.words 0 r.looks (count_word f) (omega arith) was.looks in
+            let e = stays (count_word f) (omega arith) in omega arith);
         marks = λ s free near there. out_lasts w.stages more lasts s
             (K.marks s (λ z e. old_out z (free z e)) (omega arith) (ap (is_there k s) (sym (stays (mark_word k s) (omega arith))) ∙ there));
         marked = λ s x near. ap (is_there k s) (stays (mark_word k s) (omega arith)) ∙ K.marked s (old_out s x) (omega arith);
@@ -168,7 +179,10 @@ module _ {T : Type 0} where
       }
 
   halt_rises : (k : Shape T) (w : World T) → KeepsRule k w → Rises k w.words (halted_words w)
-  halt_rises k w K = let n = word_at w.words claim_word in let wide = K.wide in rises_set k w.words claim_word (halted_from n) (omega arith) (λ _. halted_rises n)
+  halt_rises k w K =
+      let n = word_at w.words claim_word in
+      let wide = K.wide in
+      rises_set k w.words claim_word (halted_from n) (omega arith) (λ _. halted_rises n)
 
   halt_here : (k : Shape T) (w : World T) → KeepsRule k w → word_at (halted_words w) claim_word ≡ halted_from (word_at w.words claim_word)
   halt_here k w K = let n = word_at w.words claim_word in let wide = K.wide in get_or-set_same w.words claim_word (halted_from n) 0 (omega arith)
@@ -196,4 +210,6 @@ module _ {T : Type 0} where
       let n = word_at w.words claim_word in let us = halted_words w in let rises = halt_rises k w K in let here = halt_here k w K in
       halting k w w.senders (halter_halted w.halter n) K.inlets
       (λ p x there. sender_stays k w.words us w.stages w.stages p x rises (λ s t old _. old) (λ s t old _. old) (K.sent p x there))
-      (past_more (mark_start k) us claim_word (halted_from n) w.halter.looks (omega arith) (omega arith) (past_rises k w.words us w.halter.looks rises K.halter)) K
+      (past_more (mark_start k) us claim_word (halted_from n) w.halter.looks (omega arith)
+      (omega arith) (past_rises k w.words us w.halter.looks rises K.halter))
+      K

@@ -1,14 +1,15 @@
 -- A sender that publishes keeps the rule.
-use Rattle.std.proofs.Common.{◌≡◌, ◌≢◌, ℕ, ◌+◌, ◌-◌, ◌/◌, ◌%◌, ◌<◌, ◌≤◌, inl, inr, Bool, true, false, if◌then◌else◌, List, length, set, None, sym, refl, ap, ◌∙◌, subst, arith, length-set, get_or-set_same, get_or-set_other}
+use Rattle.std.proofs.Common.{◌≡◌, ◌≢◌, ℕ, ◌+◌, ◌-◌, ◌/◌, ◌%◌, ◌<◌, ◌≤◌, inl, inr, Bool, true, false, if◌then◌else◌, List, length, set, None, sym}
+use Rattle.std.proofs.Common.{refl, ap, ◌∙◌, subst, arith, length-set, get_or-set_same, get_or-set_other}
 use Rattle.std.proofs.lemmas.Bool.{cases_eq, eq-eqb, ne_eqb, cases_lt}
 use mathlib.Core.Option.{some}
 use lib.ListN.{get_elem?}
 use Rattle.atomic_table.proofs.Lists.{at_set, set_here}
 use Rattle.dr_runs.proofs.Elements.{at_below, each_set}
 use Rattle.dr_runs.proofs.Lists.{at_map, map_there}
+use Rattle.dr_lent.specs.declared.lent.Lent.{Lent}
 use Rattle.dr_plain_senders.specs.Meaning.Shape.{Shape}
 use Rattle.dr_plain_senders.specs.Meaning.Words.{claim_word, claimed_in, is_halted, count_word, mark_start, mark_word, mark_bit, flipped, is_there}
-use Rattle.dr_plain_senders.specs.declared.record.Lent.{Lent}
 use Rattle.dr_plain_senders.specs.declared.record.Stage.{Stage}
 use Rattle.dr_plain_senders.specs.declared.record.Own.{Own}
 use Rattle.dr_plain_senders.specs.declared.record.SenderRecord.{SenderRecord}
@@ -23,7 +24,8 @@ use Rattle.dr_plain_senders.proofs.Stays.{Lasts, room_stays, receiver_stays, sen
 use Rattle.dr_plain_senders.proofs.Brought.{own_brought}
 
 -- two sequences in one cell, each less than a round behind what is claimed, and no two rounds beyond it, are one or follow one another
-another_cell : {T : Type 0} (k : Shape T) (z s c : ℕ) → z ≢ s → z ≢ k.size + s → s < c → c ≤ s + k.size → c ≤ z + k.size → z < k.size + c → z % k.size ≡ s % k.size → ⊥
+another_cell : {T : Type 0} (k : Shape T) (z s c : ℕ) → z ≢ s → z ≢ k.size + s → s < c
+    → c ≤ s + k.size → c ≤ z + k.size → z < k.size + c → z % k.size ≡ s % k.size → ⊥
 another_cell k z s c ne beyond inside near close low e = elim (cases_lt z (s + k.size)) [
   | inl less ↦ own_slot k z s ne (omega arith) less e
   | inr more ↦ (let q = z - k.size in let is : k.size + q ≡ z = omega arith in let pos : 0 < k.size = omega arith in
@@ -52,7 +54,8 @@ flips_else k words s z wide ne =
     ]
 
 -- the mark of the next sequence in the cell is not there
-flips_next : {T : Type 0} (k : Shape T) (words : List ℕ) (s : ℕ) → 0 < k.size → mark_word k s < length words → is_there k s (word_at words (mark_word k s)) ≡ false
+flips_next : {T : Type 0} (k : Shape T) (words : List ℕ) (s : ℕ) → 0 < k.size
+    → mark_word k s < length words → is_there k s (word_at words (mark_word k s)) ≡ false
     → is_there k (k.size + s) (word_at (flips k words s) (mark_word k (k.size + s))) ≡ false
 flips_next k words s pos wide off =
     let same : mark_word k (k.size + s) ≡ mark_word k s = ap (λ (x : ℕ). mark_start k + x / 64) (later_slot k.size s pos) in
@@ -92,16 +95,19 @@ module _ {T : Type 0} where
   ]
 
   -- a cell that is free once a sequence more is published was free, but where that is the one before it in the cell
-  free_before : (k : Shape T) (stages : List (Stage T)) (s : ℕ) (t : Stage T) (l : Lent T) (z : ℕ) → z ≢ k.size + s → IsFree k (set stages s (published l t)) z → IsFree k stages z
+  free_before : (k : Shape T) (stages : List (Stage T)) (s : ℕ) (t : Stage T) (l : Lent T) (z : ℕ)
+      → z ≢ k.size + s → IsFree k (set stages s (published l t)) z → IsFree k stages z
   free_before k stages s t l z ne free q e = out_before stages s t l q (λ (same : q ≡ s). ne (e ∙ ap (λ (x : ℕ). k.size + x) same)) (free q e)
 
   -- once a mark is flipped, whoever finds it finds its sequence published
-  publishes_marks : (k : Shape T) (w : World T) (s : ℕ) (t : Stage T) (l : Lent T) → get_elem? w.stages s ≡ some t → mark_word k s < length w.words → t.lent ≡ None → KeepsRule k w
+  publishes_marks : (k : Shape T) (w : World T) (s : ℕ) (t : Stage T) (l : Lent T)
+      → get_elem? w.stages s ≡ some t → mark_word k s < length w.words → t.lent ≡ None → KeepsRule k w
       → (z : ℕ) → IsFree k (set w.stages s (published l t)) z → length w.stages ≤ z + k.size → is_there k z (word_at (flips k w.words s) (mark_word k z)) ≡ true
       → IsOut (set w.stages s (published l t)) z
   publishes_marks k w s t l here wide unshown K z free close there =
       let pos = K.shape.some_slot in let inside = at_below w.stages s t here in let near = near_open k w s t here unshown K in
-      let off = hidden_absent k w s inside (λ x. none_or_some t.lent x.0 unshown (ap (λ (y : Stage T). y.lent) (one_value w.stages s t x.1.0 here x.1.1) ∙ x.1.2)) K in
+      let off = hidden_absent k w s inside
+      (λ x. none_or_some t.lent x.0 unshown (ap (λ (y : Stage T). y.lent) (one_value w.stages s t x.1.0 here x.1.1) ∙ x.1.2)) K in
       elim (cases_eq z s) [
         | inl same ↦ subst (IsOut (set w.stages s (published l t))) (sym same) (out_new w.stages s t l here)
         | inr ne ↦ elim (cases_eq z (k.size + s)) [
@@ -119,15 +125,18 @@ module _ {T : Type 0} where
       ]
 
   -- and of what is published the mark is there
-  publishes_marked : (k : Shape T) (w : World T) (s : ℕ) (t : Stage T) (l : Lent T) → get_elem? w.stages s ≡ some t → mark_word k s < length w.words → t.lent ≡ None → KeepsRule k w
+  publishes_marked : (k : Shape T) (w : World T) (s : ℕ) (t : Stage T) (l : Lent T)
+      → get_elem? w.stages s ≡ some t → mark_word k s < length w.words → t.lent ≡ None → KeepsRule k w
       → (z : ℕ) → IsOut (set w.stages s (published l t)) z → length w.stages ≤ z + k.size → is_there k z (word_at (flips k w.words s) (mark_word k z)) ≡ true
   publishes_marked k w s t l here wide unshown K z x close =
       let near = near_open k w s t here unshown K in let inside = at_below w.stages s t here in
-      let off = hidden_absent k w s inside (λ x. none_or_some t.lent x.0 unshown (ap (λ (y : Stage T). y.lent) (one_value w.stages s t x.1.0 here x.1.1) ∙ x.1.2)) K in
+      let off = hidden_absent k w s inside
+      (λ x. none_or_some t.lent x.0 unshown (ap (λ (y : Stage T). y.lent) (one_value w.stages s t x.1.0 here x.1.1) ∙ x.1.2)) K in
       elim (cases_eq z s) [
         | inl same ↦ ap (λ (q : ℕ). is_there k q (word_at (flips k w.words s) (mark_word k q))) same ∙ flips_here k w.words s wide off
         | inr ne ↦ (
-            let below : z < length w.stages = (let b = at_below (set w.stages s (published l t)) z x.1.0 x.1.1 in let n = length-set w.stages s (published l t) in omega arith) in
+            let below : z < length w.stages =
+            (let b = at_below (set w.stages s (published l t)) z x.1.0 x.1.1 in let n = length-set w.stages s (published l t) in omega arith) in
             flips_else k w.words s z wide (own_slot k z s ne (omega arith) (omega arith)) ∙ K.marked z (out_before w.stages s t l z ne x) close)
       ]
 
@@ -135,7 +144,11 @@ module _ {T : Type 0} where
       → get_elem? r.own i ≡ some record { sequence = s; stage = t } → t.lent ≡ None → KeepsRule k w
       → KeepsRule k (sender_publishes k w p r s t l)
   keeps_publishes k w p s i r t l at has unshown K =
-      let was = K.sent p r at in let word = mark_word k s in let v = flipped (word_at w.words word) (mark_bit k s) 1 in let us = set w.words word v in let more = set w.stages s (published l t) in
+      let was = K.sent p r at in
+      let word = mark_word k s in
+      let v = flipped (word_at w.words word) (mark_bit k s) 1 in
+      let us = set w.words word v in
+      let more = set w.stages s (published l t) in
       let pos = K.shape.some_slot in let wide = K.wide in
       let own = owned k w p r s i t at has K in let inside : s < length w.stages = at_below w.stages s t own.1 in
       let high : word < length w.words = (let m = mark_inside k s pos in omega arith) in
@@ -170,11 +183,14 @@ module _ {T : Type 0} where
                   subst (λ (x : Own T). (x.stage.owner ≡ p) × (get_elem? more x.sequence ≡ some x.stage)) m.2
                   (brought_own p s t (published l) w.stages m.0 inside own.0 own.1 (was.own j m.0 m.1)));
               all = λ z u there mine. elim (at_set w.stages s z (published l t) u there) [
-                | inl e ↦ (let x = own_brought r s t (published l) (i, has) in (x.0, x.1 ∙ (λ j. let o : Own T = record { sequence = sym e.0 j; stage = e.1 j } in some o)))
+                | inl e ↦
+                    (let x = own_brought r s t (published l) (i, has) in
+                    (x.0, x.1 ∙ (λ j. let o : Own T = record { sequence = sym e.0 j; stage = e.1 j } in some o)))
                 | inr old ↦ (let x = was.all z u old.1 mine in (
                   x.0,
                   map_there (own_after s (published l)) r.own x.0 (record { sequence = z; stage = u }) x.1
-                      ∙ ap (λ (b : Bool). let o : Own T = record { sequence = z; stage = u } in some (if b then record o { stage = published l u } else o)) (ne_eqb z s old.0),
+                      ∙ ap (λ (b : Bool). let o : Own T = record { sequence = z; stage = u } in some (if b then record o { stage = published l u } else o))
+                      (ne_eqb z s old.0),
                 ))
               ];
               looks = past_rises k w.words us r.looks rises was.looks;

@@ -1,5 +1,6 @@
 -- Each step of a receiver keeps the rule.
-use Rattle.std.proofs.Common.{◌≡◌, ◌≢◌, ℕ, ◌<◌, ◌≤◌, inl, inr, true, ◌==◌, List, [], ◌∷◌, ◌++◌, length, set, sym, refl, ap, ◌∙◌, subst, arith, length-set, get_or-set_same, get_or-set_other}
+use Rattle.std.proofs.Common.{◌≡◌, ◌≢◌, ℕ, ◌<◌, ◌≤◌, inl, inr, true, ◌==◌, List, [], ◌∷◌, ◌++◌, length, set, sym, refl, ap, ◌∙◌, subst, arith}
+use Rattle.std.proofs.Common.{length-set, get_or-set_same, get_or-set_other}
 use Rattle.std.proofs.lemmas.Bool.{eqb-true, or_cases, and_parts}
 use Rattle.std.proofs.lemmas.List.{length-append}
 use mathlib.Core.Option.{some}
@@ -9,12 +10,13 @@ use Rattle.dr_runs.specs.declared.look.Look.{Look}
 use Rattle.dr_runs.specs.Looks.{look, last_look}
 use Rattle.dr_runs.proofs.Elements.{each_set}
 use Rattle.dr_runs.proofs.Looks.{last_look_more, last_look_else, past_more}
+use Rattle.dr_lent.specs.declared.lent.Lent.{Lent}
 use Rattle.dr_plain_senders.specs.Meaning.Shape.{Shape, handlers_of}
 use Rattle.dr_plain_senders.specs.Meaning.Words.{claim_word, claimed_in, is_halted, count_word, mark_start, mark_word, is_there}
-use Rattle.dr_plain_senders.specs.declared.record.Lent.{Lent}
 use Rattle.dr_plain_senders.specs.declared.record.MarkLook.{MarkLook}
 use Rattle.dr_plain_senders.specs.declared.record.ReceiverRecord.{ReceiverRecord}
-use Rattle.dr_plain_senders.specs.Meaning.Records.{mark_look, receiver_looked, tells_drained, claims_looked, taken_at_mark, mark_looked, taken_at_count, completed_to}
+use Rattle.dr_plain_senders.specs.Meaning.Records.{mark_look, receiver_looked, tells_drained, claims_looked, taken_at_mark, mark_looked}
+use Rattle.dr_plain_senders.specs.Meaning.Records.{taken_at_count, completed_to}
 use Rattle.dr_plain_senders.specs.Meaning.Rule.{World, ArePast, IsOutWith, ReceiverKept, KeepsRule}
 use Rattle.dr_plain_senders.specs.Meaning.Steps.{receiver_knows, AreNext}
 use Rattle.dr_plain_senders.proofs.Places.{word_at, more_cases, Rises, rises_set, past_rises}
@@ -65,8 +67,10 @@ module _ {T : Type 0} where
   }) K
 
   -- a receiver takes its next events
-  takes_kept : (k : Shape T) (w : World T) (h n : ℕ) (r : ReceiverRecord T) (lents : List (Lent T)) (marks : List MarkLook) (looks : List Look) → get_elem? w.receivers h ≡ some r
-      → Offers k w h r n → AreNext w r n lents → ArePast k w.words looks → claimed_in (last_look 0 looks claim_word) ≡ claimed_in (last_look 0 r.looks claim_word) → KeepsRule k w
+  takes_kept : (k : Shape T) (w : World T) (h n : ℕ) (r : ReceiverRecord T) (lents : List (Lent T)) (marks : List MarkLook) (looks : List Look)
+      → get_elem? w.receivers h ≡ some r
+      → Offers k w h r n → AreNext w r n lents → ArePast k w.words looks
+      → claimed_in (last_look 0 looks claim_word) ≡ claimed_in (last_look 0 r.looks claim_word) → KeepsRule k w
       → KeepsRule k (receiver_knows w h (record r { received = r.received ++ lents; marks = marks; looks = looks }))
   takes_kept k w h n r lents marks looks at O N past same K =
       let was = K.received h r at in let longer = length-append r.received lents in let count = N.count in
@@ -84,13 +88,16 @@ module _ {T : Type 0} where
         looks = past;
       }) K
 
-  pub keeps_mark_look : (k : Shape T) (w : World T) (h room : ℕ) (r : ReceiverRecord T) (lents : List (Lent T)) → get_elem? w.receivers h ≡ some r → upstreams_of k.upstreams h ≡ []
+  pub keeps_mark_look : (k : Shape T) (w : World T) (h room : ℕ) (r : ReceiverRecord T) (lents : List (Lent T))
+      → get_elem? w.receivers h ≡ some r → upstreams_of k.upstreams h ≡ []
       → AreNext w r (taken_at_mark k r (word_at w.words (mark_word k (length r.received))) room) lents → KeepsRule k w
       → KeepsRule k (receiver_knows w h (mark_looked r (word_at w.words (mark_word k (length r.received))) lents))
   keeps_mark_look k w h room r lents at none N K = let found = word_at w.words (mark_word k (length r.received)) in
-      takes_kept k w h (taken_at_mark k r found room) r lents (r.marks ++ mark_look (length r.received) found ∷ []) r.looks at (offers_at_mark k w h room r at none K) N (K.received h r at).looks refl K
+      takes_kept k w h (taken_at_mark k r found room) r lents (r.marks ++ mark_look (length r.received) found ∷ [])
+      r.looks at (offers_at_mark k w h room r at none K) N (K.received h r at).looks refl K
 
-  pub keeps_count_look : (k : Shape T) (w : World T) (h i room : ℕ) (r : ReceiverRecord T) (lents : List (Lent T)) → 0 < i → i < mark_start k → get_elem? w.receivers h ≡ some r
+  pub keeps_count_look : (k : Shape T) (w : World T) (h i room : ℕ) (r : ReceiverRecord T) (lents : List (Lent T))
+      → 0 < i → i < mark_start k → get_elem? w.receivers h ≡ some r
       → AreNext w r (taken_at_count k r i (word_at w.words i) room) lents → KeepsRule k w
       → KeepsRule k (receiver_knows w h (receiver_looked r i (word_at w.words i) lents))
   keeps_count_look k w h i room r lents pos low at N K = let found = word_at w.words i in let was = K.received h r at in
@@ -98,7 +105,8 @@ module _ {T : Type 0} where
       (past_more (mark_start k) w.words i found r.looks low (omega arith) was.looks)
       (ap claimed_in (last_look_else 0 r.looks i claim_word found (λ (e : i ≡ claim_word). omega arith))) K
 
-  pub keeps_completes : (k : Shape T) (w : World T) (h n : ℕ) (r : ReceiverRecord T) → get_elem? w.receivers h ≡ some r → r.completed ≤ n → n ≤ length r.received
+  pub keeps_completes : (k : Shape T) (w : World T) (h n : ℕ) (r : ReceiverRecord T)
+      → get_elem? w.receivers h ≡ some r → r.completed ≤ n → n ≤ length r.received
       → KeepsRule k w
       → KeepsRule k (record w { words = set w.words (count_word h) n; receivers = set w.receivers h (completed_to r n) })
   keeps_completes k w h n r at rise le K =

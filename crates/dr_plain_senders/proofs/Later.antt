@@ -17,17 +17,20 @@ use Rattle.dr_runs.specs.declared.look.Look.{Look}
 use Rattle.dr_runs.specs.Looks.{look, offered_by}
 use Rattle.dr_runs.specs.Polls.{handed}
 use Rattle.dr_runs.proofs.Elements.{there, at_below, value_at}
+use Rattle.dr_lent.specs.declared.lent.Lent.{Lent}
 use Rattle.dr_plain_senders.specs.Meaning.Shape.{Shape, handlers_of, ring_setup}
 use Rattle.dr_plain_senders.specs.Meaning.Words.{claim_word, claimed_in, count_word, mark_word, in_word, is_there, marked_from}
-use Rattle.dr_plain_senders.specs.declared.record.Lent.{Lent}
 use Rattle.dr_plain_senders.specs.declared.record.MarkLook.{MarkLook}
 use Rattle.dr_plain_senders.specs.declared.record.Stage.{Stage}
 use Rattle.dr_plain_senders.specs.declared.record.SenderRecord.{SenderRecord}
 use Rattle.dr_plain_senders.specs.declared.record.ReceiverRecord.{ReceiverRecord}
 use Rattle.dr_plain_senders.specs.declared.record.Step.{Step}
-use Rattle.dr_plain_senders.specs.declared.record.Step.TheVariants.{SenderLooksAtClaims, SenderLooksAtCount, SenderClaims, SenderPublishes, SenderLooksAtMark, SenderHalts}
-use Rattle.dr_plain_senders.specs.declared.record.Step.TheVariants.{ReceiverLooksAtClaims, ReceiverLooksAtMark, ReceiverLooksAtCount, ReceiverCompletes, HalterHalts}
-use Rattle.dr_plain_senders.specs.Meaning.Records.{fresh_stage, is_published, sender_looked, receiver_looked, claims_looked, mark_look, mark_looked, completed_to}
+use Rattle.dr_plain_senders.specs.declared.record.Step.TheVariants.{SenderLooksAtClaims, SenderLooksAtCount, SenderClaims, SenderPublishes}
+use Rattle.dr_plain_senders.specs.declared.record.Step.TheVariants.{SenderLooksAtMark, SenderHalts}
+use Rattle.dr_plain_senders.specs.declared.record.Step.TheVariants.{ReceiverLooksAtClaims, ReceiverLooksAtMark, ReceiverLooksAtCount}
+use Rattle.dr_plain_senders.specs.declared.record.Step.TheVariants.{ReceiverCompletes, HalterHalts}
+use Rattle.dr_plain_senders.specs.Meaning.Records.{fresh_stage, is_published, sender_looked, receiver_looked, claims_looked, mark_look, mark_looked}
+use Rattle.dr_plain_senders.specs.Meaning.Records.{completed_to}
 use Rattle.dr_plain_senders.specs.Meaning.Rule.{World, IsOut, KeepsRule}
 use Rattle.dr_plain_senders.specs.Meaning.Steps.{Happens, sender_knows, sender_claims}
 use Rattle.dr_plain_senders.specs.Meaning.Moments.{Runs, stage_at, picture_of}
@@ -311,7 +314,8 @@ module _ {T : Type 0} where
         | inr never ↦ no_more (front (picture_of k w)) upto s room (front_low k w upto (never (omega arith)))
       ]
 
-  pub hands_what_was_there : (k : Shape T) (steps : List (Step T)) (es : Transcript T) (w u : World T) → Runs k steps es w u → KeepsRule k w → HandsWhatWasThere k w u
+  pub hands_what_was_there : (k : Shape T) (steps : List (Step T)) (es : Transcript T) (w u : World T)
+      → Runs k steps es w u → KeepsRule k w → HandsWhatWasThere k w u
   hands_what_was_there k steps es w u R K h room r r' polled at there_is P =
       let seen = P.0 in let order = P.1 in let answer = polled_so k r room r' seen polled P.2 in let was = K.received h r at in let ups = ups_of k r in
       let s = length r.received in let n = length u.stages in let few : length u.stages ≤ n = omega arith in

@@ -1,13 +1,13 @@
 -- What is lent, as the tokens that are first in hand tell.
 use Rattle.std.proofs.Common.{◌≡◌, ℕ, zero, suc, ◌+◌, List, [], ◌∷◌, ◌++◌, length, drop, sym, refl, ap, ◌∙◌, append_assoc}
 use Rattle.dr_cells.specs.Hold.{Hold, blank, whole, part, kept}
+use Rattle.dr_lent.proofs.Lists.{drop_seam}
+use Rattle.dr_lent.specs.declared.lent.Lent.{Lent}
 use Rattle.dr_plain_senders.specs.Meaning.Shape.{Shape}
 use Rattle.dr_plain_senders.specs.Meaning.Words.{lanes_of}
 use Rattle.dr_plain_senders.specs.Meaning.Lying.{lent}
-use Rattle.dr_plain_senders.specs.declared.record.Lent.{Lent}
 use Rattle.dr_plain_senders.specs.Inside.Rows.{row}
 use Rattle.dr_plain_senders.specs.Inside.Seats.{Hand, given_by_publication}
-use Rattle.dr_plain_senders.proofs.Taken.{drop_seam}
 use Rattle.dr_plain_senders.proofs.Rowing.{row_count}
 
 module _ {T : Type 0} where
@@ -23,7 +23,8 @@ module _ {T : Type 0} where
   lents_in slots (suc n) [] = []
   lents_in slots (suc n) (x ∷ hand) = lent_in x.1.hold ++ lents_in slots n (drop slots (x ∷ hand))
 
-  pub lents_are : (k : Shape T) (s : ℕ) (ls : List (Lent T)) (hand others : Hand T) → hand ≡ given_by_publication k s ls ++ others → lents_in (lanes_of k) (length ls) hand ≡ ls
+  pub lents_are : (k : Shape T) (s : ℕ) (ls : List (Lent T)) (hand others : Hand T)
+      → hand ≡ given_by_publication k s ls ++ others → lents_in (lanes_of k) (length ls) hand ≡ ls
   lents_are k s [] hand others is = refl
   lents_are k s (l ∷ ls) hand others is =
       let rest : Hand T = given_by_publication k (s + 1) ls ++ others in
@@ -32,7 +33,8 @@ module _ {T : Type 0} where
       ∙ ap (λ (xs : List (Lent T)). l ∷ xs) (lents_are k (s + 1) ls rest others refl)
 
   -- so many are lent
-  module _ (k : Shape T) (s n : ℕ) (lents : List (Lent T)) (hand others : Hand T) (many : length lents ≡ n) (is : hand ≡ given_by_publication k s lents ++ others) where
+  module _ (k : Shape T) (s n : ℕ) (lents : List (Lent T)) (hand others : Hand T)
+      (many : length lents ≡ n) (is : hand ≡ given_by_publication k s lents ++ others) where
     pub found_are : lents_in (lanes_of k) n hand ≡ lents
     found_are = ap (λ (m : ℕ). lents_in (lanes_of k) m hand) (sym many) ∙ lents_are k s lents hand others is
 

@@ -13,14 +13,12 @@ pub mod Keeps
 pub mod Beginning
 pub mod Machine
 pub mod Pictures
-pub mod Lanes
-pub mod Leaving
-pub mod Going
 pub mod Moving
 pub mod Moves
 pub mod RunMoves
 pub mod Seats
 pub mod Allowed
+pub mod AllowedReceiving
 pub mod Halting
 pub mod Rising
 pub mod FreshSeats
@@ -39,6 +37,9 @@ pub mod Tokens
 pub mod Rowing
 pub mod Collecting
 pub mod Owning
+pub mod Wiped
+pub mod Stamps
+pub mod Marking
 pub mod Opened
 pub mod Fitting
 pub mod Granting
@@ -61,7 +62,6 @@ pub mod Gathering
 pub mod Ending
 pub mod Bringing
 pub mod Returning
-pub mod Rowed
 pub mod Finished
 pub mod Departed
 pub mod OpenWrites
@@ -74,3 +74,4 @@ pub mod Told
 pub mod Later
 pub mod Shutting
 pub mod Crossing
+pub mod Moved

@@ -1,5 +1,7 @@
 -- What the machine answers to the entries of a ring's steps.
-use Rattle.std.proofs.Common.{◌≡◌, ℕ, zero, suc, ◌+◌, ◌-◌, ◌<◌, ◌≤◌, inl, inr, Bool, true, false, ◌==◌, ◌&&◌, ◌||◌, if◌then◌else◌, min, List, [], ◌∷◌, ◌++◌, length, get_or, set, map, replicate, Some, None, is_none, sym, refl, ap, ◌∙◌, subst, arith, get_or-set_same, get_or-set_other}
+use Rattle.std.proofs.Common.{◌≡◌, ℕ, zero, suc, ◌+◌, ◌-◌, ◌<◌, ◌≤◌, inl, inr, Bool, true, false, ◌==◌, ◌&&◌, ◌||◌, if◌then◌else◌, min, List, [], ◌∷◌}
+use Rattle.std.proofs.Common.{◌++◌, length, get_or, set, map, replicate, Some, None, is_none, sym, refl, ap, ◌∙◌, subst, arith, get_or-set_same}
+use Rattle.std.proofs.Common.{get_or-set_other}
 use Rattle.std.specs.Prelude.{nat_le, not, flat_map, is_some}
 use Rattle.std.specs.List.{range_with_len, filter_map}
 use Rattle.std.proofs.lemmas.Bool.{cases_eq, cases_lt, eq-eqb, ne_eqb, lt-ltb, le-ltb, le-leb, lt-leb}
@@ -14,8 +16,8 @@ use Rattle.dr_meaning.specs.Meaning.Machine.{Setup, State, opening, handlers, fr
 use Rattle.dr_meaning.proofs.Leasts.{IsLeast, least_is}
 use Rattle.dr_meaning.proofs.Steps.{NoneHold, NoneHold-join, unless-none}
 use Rattle.dr_runs.proofs.Elements.{at_below, value_at}
+use Rattle.dr_lent.specs.declared.lent.Lent.{Lent}
 use Rattle.dr_plain_senders.specs.Meaning.Shape.{Shape, ring_setup}
-use Rattle.dr_plain_senders.specs.declared.record.Lent.{Lent}
 use Rattle.dr_plain_senders.specs.declared.record.Stage.{Stage}
 use Rattle.dr_plain_senders.specs.Meaning.Records.{fresh_stage, published, is_published}
 use Rattle.dr_plain_senders.specs.Meaning.Rule.{IsOut}
@@ -110,7 +112,8 @@ module _ {T : Type 0} where
       })
 
   -- the stages after one was brought further
-  pub stage_after : (stages : List (Stage T)) (s q : ℕ) (u : Stage T) → s < length stages → stage_at (set stages s u) q ≡ (if q == s then u else stage_at stages q)
+  pub stage_after : (stages : List (Stage T)) (s q : ℕ) (u : Stage T) → s < length stages
+      → stage_at (set stages s u) q ≡ (if q == s then u else stage_at stages q)
   stage_after stages s q u lt = elim (cases_eq q s) [
     | inl e ↦ rw (eq-eqb q s e) (ap (λ (j : ℕ). stage_at (set stages s u) j) e ∙ get_or-set_same stages s u (fresh_stage 0) lt)
     | inr ne ↦ rw (ne_eqb q s ne) (get_or-set_other stages s q u (fresh_stage 0) ne)
@@ -138,7 +141,8 @@ module _ {T : Type 0} where
   abbrev pub wrote : State T → ℕ → T → State T
   wrote m s e = record m { written = λ q. if q == s then Some e else m.written q }
 
-  pub write_step : (k : Shape T) (stages : List (Stage T)) (p s : ℕ) (e : T) (t : Stage T) (ts d : List ℕ) (b : Bool) → p < k.senders → get_elem? stages s ≡ some t
+  pub write_step : (k : Shape T) (stages : List (Stage T)) (p s : ℕ) (e : T) (t : Stage T) (ts d : List ℕ) (b : Bool)
+      → p < k.senders → get_elem? stages s ≡ some t
       → t.owner ≡ p → t.lent ≡ None
       → step (ring_setup k) (shown k stages ts d b) (Write p s e) ≡ record { reply = Written; values = []; state = wrote (shown k stages ts d b) s e }
   write_step k stages p s e t ts d b who at own unshown =
@@ -168,7 +172,8 @@ module _ {T : Type 0} where
   publish_step k stages p s l t ts d b who at own unshown =
       let m = wrote (shown k stages ts d b) s l.event in let len = count_owners stages in let lt = at_below stages s t at in let u = published l t in
       let here : stage_at (set stages s u) s ≡ u = get_or-set_same stages s u (fresh_stage 0) lt in
-      let covers : (q : ℕ) → (is_published (stage_at stages q) || (nat_le s q && nat_le q s)) ≡ is_published (stage_at (set stages s u) q) = λ q. elim (cases_eq q s) [
+      let covers : (q : ℕ)
+      → (is_published (stage_at stages q) || (nat_le s q && nat_le q s)) ≡ is_published (stage_at (set stages s u) q) = λ q. elim (cases_eq q s) [
         | inl same ↦ rw (le-leb s q (omega arith), le-leb q s (omega arith)) (or_true (is_published (stage_at stages q))
             ∙ sym (ap (λ (j : ℕ). is_published (stage_at (set stages s u) j)) same ∙ ap is_published here))
         | inr ne ↦ (let stays : is_published (stage_at stages q) ≡ is_published (stage_at (set stages s u) q) =
@@ -178,7 +183,8 @@ module _ {T : Type 0} where
               | inr above ↦ rw (le-leb s q above, lt-leb q s (omega arith)) (or_false (is_published (stage_at stages q)) ∙ stays)
             ])
       ] in
-      let event : (q : ℕ) → (if q == s then Some l.event else event_of (stage_at stages q)) ≡ event_of (stage_at (set stages s u) q) = λ q. elim (cases_eq q s) [
+      let event : (q : ℕ)
+      → (if q == s then Some l.event else event_of (stage_at stages q)) ≡ event_of (stage_at (set stages s u) q) = λ q. elim (cases_eq q s) [
         | inl same ↦ rw (eq-eqb q s same) (sym (ap (λ (j : ℕ). event_of (stage_at (set stages s u) j)) same ∙ ap event_of here))
         | inr ne ↦ rw (ne_eqb q s ne) (sym (ap event_of (get_or-set_other stages s q u (fresh_stage 0) ne)))
       ] in
@@ -223,7 +229,11 @@ module _ {T : Type 0} where
       unless-none (refusals c m (Poll h n)) m (accepted c m (Poll h n))
       (lt-leb (handlers c) h inside, (here, (ne_eqb n 0 (λ (e : n ≡ 0). omega arith), tt)))
       ∙ rw (lt-ltb at to (omega arith))
-      (λ i. record { reply = Batch at (all i) (at + all i == to); values = filter_map m.written (range_with_len at (all i)); state = record m { taken = set m.taken h (at + all i) } })
+      (λ i. record {
+        reply = Batch at (all i) (at + all i == to);
+        values = filter_map m.written (range_with_len at (all i));
+        state = record m { taken = set m.taken h (at + all i) };
+      })
       ∙ (λ i. record { reply = Batch at n (at + n == to); values = are i; state = record m { taken = set m.taken h (at + n) } })
 
   pub drained_step : (c : Setup) (m : State T) (h : ℕ) → h < handlers c → m.retired h ≡ false → m.halted ≡ true → available c m h ≤ next m

@@ -1,14 +1,15 @@
 -- A new ring's ends.
-use Rattle.std.proofs.Common.{◌≡◌, ℕ, zero, suc, true, not, Option, None, ◌+◌, ◌-◌, ◌<◌, List, [], ◌∷◌, ◌++◌, map, length, replicate, sym, refl, ap, ◌∙◌, subst, arith, append_assoc}
+use Rattle.std.proofs.Common.{◌≡◌, ℕ, zero, suc, true, not, Option, None, ◌+◌, ◌-◌, ◌<◌, List, [], ◌∷◌, ◌++◌, map, length, replicate, sym, refl, ap}
+use Rattle.std.proofs.Common.{◌∙◌, subst, arith, append_assoc}
 use Rattle.std.proofs.lemmas.List.{length-replicate}
 use mathlib.Core.Option.{some-ne-none}
 use Rattle.atomic_table.specs.Seated.{TableId}
 use Rattle.dr_cells.specs.declared.token.Token.{Token}
 use Rattle.dr_cells.specs.Tokens.{no_token}
 use Rattle.dr_seq.specs.Rounds.{is_marked}
+use Rattle.dr_lent.specs.Rows.{cells_of}
 use Rattle.dr_plain_senders.specs.Meaning.Shape.{Shape, handlers_of}
 use Rattle.dr_plain_senders.specs.Meaning.Words.{words_of}
-use Rattle.dr_plain_senders.specs.declared.owned.Owned.{Owned}
 use Rattle.dr_plain_senders.specs.declared.record.Stage.{Stage}
 use Rattle.dr_plain_senders.specs.Meaning.Records.{Owns}
 use Rattle.dr_plain_senders.specs.declared.record.SenderRecord.{SenderRecord}
@@ -19,7 +20,8 @@ use Rattle.dr_plain_senders.specs.Meaning.Moments.{fresh_sender, fresh_senders, 
 use Rattle.dr_runs.specs.Seats.{seat_at, holding, fresh_seat, first_view, rest_view}
 use Rattle.dr_plain_senders.specs.Inside.Seats.{Sitting, IsAtTable, known_senders, known_receivers}
 use Rattle.dr_plain_senders.specs.Calls.Ends.{SenderEnd, ReceiverEnd}
-use Rattle.dr_plain_senders.specs.Inside.Fits.{ReceiverFits, MarksFit, SenderFits, is_open, cells_of}
+use Rattle.dr_plain_senders.specs.Inside.Fits.{ReceiverFits, MarksFit, SenderFits}
+use Rattle.dr_plain_senders.specs.Inside.Owned.{Owned, is_open}
 use Rattle.dr_plain_senders.specs.Inside.Views.{sender_end, receiver_end}
 use Rattle.dr_plain_senders.proofs.Granting.{first_of}
 use Rattle.dr_plain_senders.proofs.Owning.{none_fresh}
@@ -50,7 +52,8 @@ module _ {T : Type 0} where
   fresh_receivers_next h n lt = let a : n - h ≡ suc (n - (h + 1)) = omega arith in let b : suc h ≡ h + 1 = omega arith in
       ap (fresh_receivers {T = T} h) a ∙ ap (λ (m : ℕ). fresh_receiver {T = T} h ∷ fresh_receivers m (n - (h + 1))) b
 
-  pub senders_next : (p n : ℕ) (es : List (EndRecord T)) → p < n → known_senders p (n - p) ++ es ≡ Sends (fresh_sender p) ∷ known_senders (p + 1) (n - (p + 1)) ++ es
+  pub senders_next : (p n : ℕ) (es : List (EndRecord T)) → p < n
+      → known_senders p (n - p) ++ es ≡ Sends (fresh_sender p) ∷ known_senders (p + 1) (n - (p + 1)) ++ es
   senders_next p n es lt = ap (λ (rs : List (SenderRecord T)). map (λ r. Sends r) rs ++ es) (fresh_senders_next p n lt)
 
   pub receivers_next : (h n : ℕ) → h < n → known_receivers {T = T} h (n - h) ≡ Receives (fresh_receiver h) ∷ known_receivers (h + 1) (n - (h + 1))
@@ -69,10 +72,12 @@ module _ {T : Type 0} where
   abbrev pub own_seat : EndRecord T → Sitting T
   own_seat e = seat_at (holding e []) ([] ∷ [])
 
-  pub cut_own : (e : EndRecord T) (es all : List (EndRecord T)) (me me' : Sitting T) → me ≡ fresh_seat all → all ≡ e ∷ es → me' ≡ first_cut me → me' ≡ own_seat e
+  pub cut_own : (e : EndRecord T) (es all : List (EndRecord T)) (me me' : Sitting T)
+      → me ≡ fresh_seat all → all ≡ e ∷ es → me' ≡ first_cut me → me' ≡ own_seat e
   cut_own e es all me me' was next is = is ∙ ap first_cut was ∙ ap (λ (xs : List (EndRecord T)). first_cut (fresh_seat xs)) next
 
-  pub cut_rest : (e : EndRecord T) (es all : List (EndRecord T)) (me me' : Sitting T) → me ≡ fresh_seat all → all ≡ e ∷ es → me' ≡ rest_cut me → me' ≡ fresh_seat es
+  pub cut_rest : (e : EndRecord T) (es all : List (EndRecord T)) (me me' : Sitting T)
+      → me ≡ fresh_seat all → all ≡ e ∷ es → me' ≡ rest_cut me → me' ≡ fresh_seat es
   cut_rest e es all me me' was next is = is ∙ ap rest_cut was ∙ ap (λ (xs : List (EndRecord T)). rest_cut (fresh_seat xs)) next
 
   pub sender_sits : (at own : TableId) (key k : Shape T) (me : Sitting T) (p : ℕ) → IsAtTable own at k → IsKeyed key k → p < k.senders
@@ -103,8 +108,10 @@ module _ {T : Type 0} where
     shown = λ s t own m. absurd (no_own p s t own);
   }
 
-  pub sender_fits : (own : TableId) (k : Shape T) (p n : ℕ) (m : Sitting T) (o : Owned) (tokens : List (Token T)) → m ≡ own_seat (Sends (fresh_sender p)) → n ≡ k.size
-      → o ≡ record { claimed = replicate n 0; written = replicate n 0; published = replicate n 0 } → length tokens ≡ k.size → SenderFits (sender_stand own k m) o 0 tokens
+  pub sender_fits : (own : TableId) (k : Shape T) (p n : ℕ) (m : Sitting T) (o : Owned) (tokens : List (Token T))
+      → m ≡ own_seat (Sends (fresh_sender p)) → n ≡ k.size
+      → o ≡ record { claimed = replicate n 0; written = replicate n 0; published = replicate n 0 }
+      → length tokens ≡ k.size → SenderFits (sender_stand own k m) o 0 tokens
   sender_fits own k p n m o tokens is size marks count =
       let P : Sitting T → Owned → Type 0 = λ q w. SenderFits (sender_stand own k q) w 0 tokens in
       let fits : P (own_seat (Sends (fresh_sender p))) (no_marks k.size) = record {
@@ -122,14 +129,16 @@ module _ {T : Type 0} where
   blank_cells zero = refl
   blank_cells (suc n) = ap (λ (xs : List (Option T)). None ∷ xs) (blank_cells n)
 
-  pub sender_view : (t own : TableId) (k k' : Shape T) (me : Sitting T) (p n : ℕ) (o : Owned) (tokens : List (Token T)) → own ≡ t → k' ≡ k → me ≡ own_seat (Sends (fresh_sender p))
+  pub sender_view : (t own : TableId) (k k' : Shape T) (me : Sitting T) (p n : ℕ) (o : Owned) (tokens : List (Token T))
+      → own ≡ t → k' ≡ k → me ≡ own_seat (Sends (fresh_sender p))
       → tokens ≡ replicate n no_token → n ≡ k.size → sender_end (sender_stand own k' me) o tokens ≡ sender_at t k (fresh_sender p)
   sender_view t own k k' me p n o tokens same plan is blank size =
       (λ i. sender_end (sender_stand (same i) (plan i) (is i)) o ((blank ∙ ap (λ (m : ℕ). replicate m no_token) size) i))
       ∙ ap (λ (cs : List (Option T)). record (sender_at {T = T} t k (fresh_sender p)) { cells = cs }) (blank_cells k.size)
 
   -- a receiver that has not stepped took nothing
-  pub receiver_fits : (own : TableId) (k : Shape T) (h : ℕ) (m : Sitting T) (parts : List (Token T)) → m ≡ own_seat (Receives (fresh_receiver h)) → length parts ≡ k.size
+  pub receiver_fits : (own : TableId) (k : Shape T) (h : ℕ) (m : Sitting T) (parts : List (Token T))
+      → m ≡ own_seat (Receives (fresh_receiver h)) → length parts ≡ k.size
       → ReceiverFits (receiver_stand own k m) 0 0 parts
   receiver_fits own k h m parts is count = subst (λ (q : Sitting T). ReceiverFits (receiver_stand own k q) 0 0 parts) (sym is) (record {
     taken = refl;
@@ -148,7 +157,8 @@ module _ {T : Type 0} where
       → items ++ map (sender_at t k) (fresh_senders p (n - p)) ≡ whole → new ≡ items ++ e ∷ [] → e ≡ sender_at t k (fresh_sender p)
       → new ++ map (sender_at t k) (fresh_senders (p + 1) (n - (p + 1))) ≡ whole
   sender_listed t k p n items new e whole lt was is own =
-      listed_more (sender_at t k) items new e (fresh_sender p) (fresh_senders (p + 1) (n - (p + 1))) (fresh_senders p (n - p)) whole was (fresh_senders_next p n lt) is own
+      listed_more (sender_at t k) items new e (fresh_sender p) (fresh_senders (p + 1) (n - (p + 1)))
+      (fresh_senders p (n - p)) whole was (fresh_senders_next p n lt) is own
 
   pub receiver_listed : (t : TableId) (k : Shape T) (h n : ℕ) (items new : List (ReceiverEnd T)) (e : ReceiverEnd T) (whole : List (ReceiverEnd T)) → h < n
       → items ++ map (receiver_at t k) (fresh_receivers h (n - h)) ≡ whole → new ≡ items ++ e ∷ [] → e ≡ receiver_at t k (fresh_receiver h)

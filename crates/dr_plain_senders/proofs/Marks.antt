@@ -1,7 +1,8 @@
 -- What the claim word and the marks tell.
 use Rattle.std.proofs.Common.{◌≡◌, ◌⊎◌, ℕ, ◌+◌, ◌<◌, ◌≤◌, inl, inr, true, false, length, arith}
 use Rattle.std.specs.Prelude.{◌||◌, nat_lt}
-use Rattle.std.proofs.lemmas.Bool.{cases_lt, and_parts, and_from, and_cases, or_cases, or_parts, or_left, or_right, lt-ltb, ltb-true, ltb-false, false_from_ne_true}
+use Rattle.std.proofs.lemmas.Bool.{cases_lt, and_parts, and_from, and_cases, or_cases, or_parts, or_left, or_right, lt-ltb, ltb-true, ltb-false}
+use Rattle.std.proofs.lemmas.Bool.{false_from_ne_true}
 use Rattle.dr_runs.proofs.Elements.{at_below}
 use Rattle.dr_plain_senders.specs.Meaning.Shape.{Shape}
 use Rattle.dr_plain_senders.specs.Meaning.Words.{claim_word, claimed_in, mark_word, is_there, is_out_by}
@@ -11,14 +12,16 @@ use Rattle.dr_plain_senders.proofs.Facts.{out_behind}
 
 -- What three looks say, by parts.
 
-pub said_out : {T : Type 0} (k : Shape T) (s before word after : ℕ) → s < claimed_in before → (is_there k s word ≡ true) ⊎ (s + k.size < claimed_in after) → is_out_by k s before word after ≡ true
+pub said_out : {T : Type 0} (k : Shape T) (s before word after : ℕ) → s < claimed_in before
+    → (is_there k s word ≡ true) ⊎ (s + k.size < claimed_in after) → is_out_by k s before word after ≡ true
 said_out k s before word after claimed either =
     and_from (nat_lt s (claimed_in before)) (is_there k s word || nat_lt (s + k.size) (claimed_in after)) (lt-ltb s (claimed_in before) claimed) (elim either [
       | inl there ↦ or_left (is_there k s word) (nat_lt (s + k.size) (claimed_in after)) there
       | inr past ↦ or_right (is_there k s word) (nat_lt (s + k.size) (claimed_in after)) (lt-ltb (s + k.size) (claimed_in after) past)
     ])
 
-pub out_said : {T : Type 0} (k : Shape T) (s before word after : ℕ) → is_out_by k s before word after ≡ true → (s < claimed_in before) × ((is_there k s word ≡ true) ⊎ (s + k.size < claimed_in after))
+pub out_said : {T : Type 0} (k : Shape T) (s before word after : ℕ) → is_out_by k s before word after ≡ true
+    → (s < claimed_in before) × ((is_there k s word ≡ true) ⊎ (s + k.size < claimed_in after))
 out_said k s before word after said =
     let both = and_parts (nat_lt s (claimed_in before)) (is_there k s word || nat_lt (s + k.size) (claimed_in after)) said in (
       ltb-true s (claimed_in before) both.0,
@@ -32,7 +35,9 @@ pub in_said : {T : Type 0} (k : Shape T) (s before word after : ℕ) → is_out_
     → (claimed_in before ≤ s) ⊎ ((is_there k s word ≡ false) × (claimed_in after ≤ s + k.size))
 in_said k s before word after said = elim (and_cases (nat_lt s (claimed_in before)) (is_there k s word || nat_lt (s + k.size) (claimed_in after)) said) [
   | inl early ↦ inl (ltb-false s (claimed_in before) early)
-  | inr absent ↦ (let parts = or_parts (is_there k s word) (nat_lt (s + k.size) (claimed_in after)) absent in inr (parts.0, ltb-false (s + k.size) (claimed_in after) parts.1))
+  | inr absent ↦
+      (let parts = or_parts (is_there k s word) (nat_lt (s + k.size) (claimed_in after)) absent in
+      inr (parts.0, ltb-false (s + k.size) (claimed_in after) parts.1))
 ]
 
 module _ {T : Type 0} where

@@ -1,8 +1,8 @@
 -- The tokens that each kind of step takes or gives.
-use Rattle.std.proofs.Common.{◌≡◌, ℕ, zero, suc, ◌+◌, ◌-◌, ◌<◌, ◌≤◌, List, [], ◌∷◌, ◌++◌, length, set, take, drop, sym, refl, ap, ◌∙◌, subst, arith, inl, inr}
+use Rattle.std.proofs.Common.{◌≡◌, ℕ, suc, ◌+◌, ◌-◌, ◌<◌, ◌≤◌, List, ◌++◌, length, set, take, drop, sym, refl, ap, ◌∙◌, subst, arith, inl, inr}
 use Rattle.std.proofs.lemmas.List.{length-append, length-take, length-drop}
 use Rattle.std.proofs.lemmas.Bool.{cases_lt}
-use mathlib.Core.Option.{some, some-ne-none}
+use mathlib.Core.Option.{some}
 use mathlib.Core.Option as maybe
 use lib.ListN.{get_elem?}
 use Rattle.atomic_table.specs.Table.{keeps, carried_after}
@@ -12,10 +12,12 @@ use Rattle.dr_runs.proofs.Elements.{at_below}
 use Rattle.dr_runs.proofs.Looks.{last_look_le}
 use Rattle.dr_runs.proofs.Offers.{final_inside}
 use Rattle.dr_runs.proofs.Seats.{Moves}
-use Rattle.dr_runs.proofs.Stretches.{Apart, AreHome, take_all, give_all, emptied, filled, take_carried, take_homes, take_valid, give_carried, give_homes, give_valid}
+use Rattle.dr_runs.proofs.Stretches.{Apart, AreHome, take_all, give_all, emptied, filled, take_carried, take_homes, take_valid, give_carried}
+use Rattle.dr_runs.proofs.Stretches.{give_homes, give_valid}
+use Rattle.dr_lent.proofs.Lists.{slice_at}
+use Rattle.dr_lent.specs.declared.lent.Lent.{Lent}
 use Rattle.dr_plain_senders.specs.Meaning.Shape.{Shape}
 use Rattle.dr_plain_senders.specs.Meaning.Words.{claim_word, claimed_in, halt_bit, count_word, lanes_of, mark_start}
-use Rattle.dr_plain_senders.specs.declared.record.Lent.{Lent}
 use Rattle.dr_plain_senders.specs.declared.record.Stage.{Stage}
 use Rattle.dr_plain_senders.specs.declared.record.SenderRecord.{SenderRecord}
 use Rattle.dr_plain_senders.specs.declared.record.ReceiverRecord.{ReceiverRecord}
@@ -28,30 +30,6 @@ use Rattle.dr_plain_senders.proofs.Places.{word_at, claimed_low}
 use Rattle.dr_plain_senders.proofs.Facts.{handler_inside, ahead_of_all, above, completed_out, taken_claimed, owned}
 use Rattle.dr_plain_senders.proofs.Moving.{Counts, laid_lent, all_laid, claims_take, same_lies, receiver_takes, receiver_gives}
 
--- an element of some of a list's elements
-taken_at_least : {A : Type 0} (xs : List A) (n i : ℕ) (a : A) → get_elem? (take n xs) i ≡ some a → (i < n) × (get_elem? xs i ≡ some a)
-taken_at_least xs zero i a at = absurd (some-ne-none a (sym at))
-taken_at_least [] (suc n) i a at = absurd (some-ne-none a (sym at))
-taken_at_least (x ∷ xs) (suc n) zero a at = (omega arith, at)
-taken_at_least (x ∷ xs) (suc n) (suc i) a at = let t = taken_at_least xs n i a at in let lt = t.0 in (omega arith, t.1)
-
-pub dropped_at : {A : Type 0} (xs : List A) (m i : ℕ) → get_elem? (drop m xs) i ≡ get_elem? xs (m + i)
-dropped_at xs zero i = let e : i ≡ 0 + i = omega arith in ap (λ (n : ℕ). get_elem? xs n) e
-dropped_at [] (suc m) i = refl
-dropped_at (x ∷ xs) (suc m) i = let e : suc (m + i) ≡ suc m + i = omega arith in dropped_at xs m i ∙ ap (λ (n : ℕ). get_elem? (x ∷ xs) n) e
-
-pub slice_at : {A : Type 0} (xs : List A) (m n i : ℕ) (a : A) → get_elem? (take n (drop m xs)) i ≡ some a → (i < n) × (get_elem? xs (m + i) ≡ some a)
-slice_at xs m n i a at = let t = taken_at_least (drop m xs) n i a at in (t.0, sym (dropped_at xs m i) ∙ t.1)
-
-taken_there : {A : Type 0} (xs : List A) (n i : ℕ) (a : A) → i < n → get_elem? xs i ≡ some a → get_elem? (take n xs) i ≡ some a
-taken_there xs zero i a lt at = absurd (omega arith)
-taken_there [] (suc n) i a lt at = at
-taken_there (x ∷ xs) (suc n) zero a lt at = at
-taken_there (x ∷ xs) (suc n) (suc i) a lt at = taken_there xs n i a (omega arith) at
-
-pub at_slice : {A : Type 0} (xs : List A) (m n i : ℕ) (a : A) → i < n → get_elem? xs (m + i) ≡ some a → get_elem? (take n (drop m xs)) i ≡ some a
-at_slice xs m n i a lt at = taken_there (drop m xs) n i a lt (dropped_at xs m i ∙ at)
-
 module _ {T : Type 0} where
   -- what a step moves, and what its seat then has in hand
   abbrev pub MovesTo : Shape T → World T → Hand T → List (maybe.Option (Token T)) → Hand T → Type 0
@@ -61,14 +39,16 @@ module _ {T : Type 0} where
   pub stays : (k : Shape T) (u : World T) (hand : Hand T) (homes : List (maybe.Option (Token T))) → Lies k u homes → MovesTo k u hand homes hand
   stays k u hand homes lies = (record { act = keeps; valid = tt; lies = lies }, refl)
 
-  takes_moves : (k : Shape T) (u : World T) (hand xs : Hand T) (homes : List (maybe.Option (Token T))) → AreHome homes xs → Apart xs → Lies k u (emptied homes xs)
+  takes_moves : (k : Shape T) (u : World T) (hand xs : Hand T) (homes : List (maybe.Option (Token T)))
+      → AreHome homes xs → Apart xs → Lies k u (emptied homes xs)
       → MovesTo k u hand homes (xs ++ hand)
   takes_moves k u hand xs homes home apart lies = (
     record { act = take_all xs; valid = take_valid homes hand xs apart home; lies = subst (Lies k u) (sym (take_homes homes hand xs)) lies },
     take_carried hand xs,
   )
 
-  pub gives_moves : (k : Shape T) (u : World T) (rest xs : Hand T) (homes : List (maybe.Option (Token T))) → Lies k u (filled homes xs) → MovesTo k u (xs ++ rest) homes rest
+  pub gives_moves : (k : Shape T) (u : World T) (rest xs : Hand T) (homes : List (maybe.Option (Token T)))
+      → Lies k u (filled homes xs) → MovesTo k u (xs ++ rest) homes rest
   gives_moves k u rest xs homes lies = (
     record { act = give_all xs; valid = give_valid homes (xs ++ rest) xs; lies = subst (Lies k u) (sym (give_homes homes rest xs)) lies },
     give_carried rest xs,
@@ -79,7 +59,8 @@ module _ {T : Type 0} where
   of_round k stages q (lent l) is = let e = is.1 in omega arith
 
   -- a claim takes what is kept of what lies in the cells, and each handler's part of it
-  pub claim_moves : (k : Shape T) (w : World T) (p c n : ℕ) (r : SenderRecord T) (hand : Hand T) (homes : List (maybe.Option (Token T))) → get_elem? w.senders p ≡ some r
+  pub claim_moves : (k : Shape T) (w : World T) (p c n : ℕ) (r : SenderRecord T) (hand : Hand T) (homes : List (maybe.Option (Token T)))
+      → get_elem? w.senders p ≡ some r
       → SeesRoom k r c n → word_at w.words claim_word ≡ c → KeepsRule k w → Lies k w homes
       → (laid : List (Laid T)) × LayIn k c n laid × MovesTo k (sender_claims w p r c n) hand homes (taken_by_claim k c laid ++ hand) × LayAsLent k r c laid
   claim_moves k w p c n r hand homes at room found K lies =
@@ -96,7 +77,10 @@ module _ {T : Type 0} where
       let a = all_laid k K.shape.some_slot w.receivers w.stages homes (length w.stages) n
       (λ i lt. lies.lies (length w.stages + i) (omega arith) (omega arith) (λ s e. out s (omega arith))) in
       let t = claims_take k K.shape.some_slot w.receivers w.stages p n a.0 homes lies K.outlets fit a.1
-      (λ h q at_h. (let inside = handler_inside k w h q at_h K in let b = ahead_of_all k w (c + n) K seen h inside in let d = (K.received h q at_h).count in omega arith)) a.2 in (
+      (λ h q at_h. (let inside = handler_inside k w h q at_h K in
+      let b = ahead_of_all k w (c + n) K seen h inside in
+      let d = (K.received h q at_h).count in omega arith))
+      a.2 in (
         a.0,
         record {
           count = a.1;
@@ -104,7 +88,8 @@ module _ {T : Type 0} where
         },
         subst (λ (j : ℕ). MovesTo k (sender_claims w p r c n) hand homes (rows (placed k) (lanes_of k) j a.0 ++ hand)) (sym now)
             (takes_moves k (sender_claims w p r c n) hand (rows (placed k) (lanes_of k) (length w.stages) a.0) homes t.0 t.1 t.2),
-        λ i s x u l at_i place own out. laid_lent k w.stages (length w.stages + i) s l x (a.2 i x at_i).laid (omega arith) (u, (owned k w p r s own.0 u at own.1 K).1, out),
+        λ i s x u l at_i place own out.
+            laid_lent k w.stages (length w.stages + i) s l x (a.2 i x at_i).laid (omega arith) (u, (owned k w p r s own.0 u at own.1 K).1, out),
       )
 
   counts_of : (k : Shape T) (w : World T) (h : ℕ) (r : ReceiverRecord T) → get_elem? w.receivers h ≡ some r → KeepsRule k w → Counts k w.stages r
@@ -112,13 +97,15 @@ module _ {T : Type 0} where
       record { held = was.completed; room = omega arith }
 
   -- a look of a receiver that takes nothing
-  pub look_moves : (k : Shape T) (w : World T) (h : ℕ) (r r' : ReceiverRecord T) (hand : Hand T) (homes : List (maybe.Option (Token T))) → get_elem? w.receivers h ≡ some r
+  pub look_moves : (k : Shape T) (w : World T) (h : ℕ) (r r' : ReceiverRecord T) (hand : Hand T) (homes : List (maybe.Option (Token T)))
+      → get_elem? w.receivers h ≡ some r
       → r'.completed ≡ r.completed → length r'.received ≡ length r.received → KeepsRule k w → Lies k w homes → MovesTo k (receiver_knows w h r') hand homes hand
   look_moves k w h r r' hand homes at done took K lies =
       stays k (receiver_knows w h r') hand homes (same_lies k K.shape.some_slot w.receivers w.stages h r r' homes lies at done took)
 
   -- a poll takes the handler's parts of the next events
-  pub poll_moves : (k : Shape T) (w : World T) (h n : ℕ) (r r' : ReceiverRecord T) (lents : List (Lent T)) (hand : Hand T) (homes : List (maybe.Option (Token T)))
+  pub poll_moves : (k : Shape T) (w : World T) (h n : ℕ) (r r' : ReceiverRecord T)
+      (lents : List (Lent T)) (hand : Hand T) (homes : List (maybe.Option (Token T)))
       → get_elem? w.receivers h ≡ some r → AreNext w r n lents → r'.completed ≡ r.completed → r'.received ≡ r.received ++ lents → KeepsRule k w → Lies k w homes
       → MovesTo k (receiver_knows w h r') hand homes (taken_by_poll k r lents ++ hand)
   poll_moves k w h n r r' lents hand homes at N done took K lies =
@@ -130,9 +117,11 @@ module _ {T : Type 0} where
       (takes_moves k (receiver_knows w h r') hand (xs h) homes t.0 t.1 t.2)
 
   -- a completion gives them back
-  pub completion_moves : (k : Shape T) (w : World T) (h n : ℕ) (r : ReceiverRecord T) (rest : Hand T) (homes : List (maybe.Option (Token T))) → get_elem? w.receivers h ≡ some r
+  pub completion_moves : (k : Shape T) (w : World T) (h n : ℕ) (r : ReceiverRecord T) (rest : Hand T) (homes : List (maybe.Option (Token T)))
+      → get_elem? w.receivers h ≡ some r
       → r.completed ≤ n → n ≤ length r.received → KeepsRule k w → Lies k w homes
-      → MovesTo k (record w { words = set w.words (count_word h) n; receivers = set w.receivers h (completed_to r n) }) (given_by_completion k r n ++ rest) homes rest
+      → MovesTo k (record w { words = set w.words (count_word h) n; receivers = set w.receivers h (completed_to r n) })
+      (given_by_completion k r n ++ rest) homes rest
   completion_moves k w h n r rest homes at rise le K lies =
       let s = r.completed in let done = take (n - s) (drop s r.received) in let was = K.received h r at in
       let count : length done ≡ n - s = omega (arith, length-take (n - s) (drop s r.received), length-drop s r.received) in

@@ -62,7 +62,8 @@ module _ {T : Type 0} (k : Shape T) (w : World T) (K : KeepsRule k w) where
       ]
 
   module _ (all : AllOwned w) where
-    lead_writes : (writes : List (ℕ × T)) (f : ℕ → Option T) → AreOpen w writes → Leads k (open_writes w writes) (writing f) (writing (λ q. written_with writes f q))
+    lead_writes : (writes : List (ℕ × T)) (f : ℕ → Option T) → AreOpen w writes
+        → Leads k (open_writes w writes) (writing f) (writing (λ q. written_with writes f q))
     lead_writes [] f opened = refl
     lead_writes (x ∷ writes) f opened =
         let o = opened 0 x refl in let t = o.0 in let own = all x.0 t o.1 in let is = at_stage w.stages x.0 t o.1 in
@@ -79,4 +80,5 @@ module _ {T : Type 0} (k : Shape T) (w : World T) (K : KeepsRule k w) where
     pub leads_writes : (entries : Transcript T) (writes : List (ℕ × T)) → AreOpen w writes → LeadsTo (ring_setup k) entries (picture_of k w)
         → LeadsTo (ring_setup k) (entries ++ open_writes w writes) (picture_with k w writes)
     leads_writes entries writes opened leads =
-        leads_on (ring_setup k) _ (picture_of k w) (picture_with k w writes) entries (open_writes w writes) leads (lead_writes writes (picture_of k w).written opened)
+        leads_on (ring_setup k) _ (picture_of k w) (picture_with k w writes) entries
+        (open_writes w writes) leads (lead_writes writes (picture_of k w).written opened)

@@ -1,5 +1,6 @@
 -- The rows of a sender's open sequences.
-use Rattle.std.proofs.Common.{◌≡◌, ℕ, zero, suc, ◌+◌, ◌-◌, ◌*◌, ◌<◌, ◌≤◌, inl, inr, Bool, true, false, if◌then◌else◌, [], ◌++◌, length, sym, refl, ap, ◌∙◌, arith, append_assoc}
+use Rattle.std.proofs.Common.{◌≡◌, ℕ, zero, suc, ◌+◌, ◌-◌, ◌*◌, ◌<◌, ◌≤◌, inl, inr, Bool, true, false, if◌then◌else◌, [], ◌++◌, length, sym, refl, ap}
+use Rattle.std.proofs.Common.{◌∙◌, arith, append_assoc}
 use Rattle.std.proofs.lemmas.Bool.{cases_Bool}
 use Rattle.std.proofs.lemmas.List.{append-nil, length-append}
 use Rattle.std.proofs.Math.Nat.{mul-suc}
@@ -56,7 +57,8 @@ module _ {T : Type 0} (k : Shape T) where
       let f : end + (lo - end) ≡ lo = omega arith in
       let first : open_rows {T = T} k js 0 lo ≡ open_rows k is 0 end =
       ap (λ (q : ℕ). open_rows {T = T} k js 0 q) (sym f) ∙ open_both js 0 end (lo - end)
-      ∙ (λ i. open_same js is 0 end (λ q low lt. sym (same q (omega arith))) i ++ open_none js (0 + end) (lo - end) (λ q low lt. none q (omega arith) (omega arith)) i)
+      ∙ (λ i. open_same js is 0 end (λ q low lt. sym (same q (omega arith))) i
+      ++ open_none js (0 + end) (lo - end) (λ q low lt. none q (omega arith) (omega arith)) i)
       ∙ append-nil (open_rows k is 0 end) in
       let z : 0 + lo ≡ lo = omega arith in
       sym (open_both js 0 lo n ∙ (λ i. first i ++ open_all js (0 + lo) n (λ q low lt. all q (omega arith) (omega arith)) i)
@@ -90,10 +92,14 @@ count_end is s upto count end =
 pub open_slots : (T : Type 0) (k : Shape T) (is : ℕ → Bool) (s n : ℕ) → length (open_rows {T = T} k is s n) ≡ lanes_of k * open_count is s n
 open_slots T k is s zero = omega arith
 open_slots T k is s (suc n) =
-    let row : Hand T = blank_row k s in let left : Hand T = open_rows k is (s + 1) n in let count = open_count is (s + 1) n in let more = open_slots T k is (s + 1) n in
+    let row : Hand T = blank_row k s in
+    let left : Hand T = open_rows k is (s + 1) n in
+    let count = open_count is (s + 1) n in
+    let more = open_slots T k is (s + 1) n in
     elim (cases_Bool (is s)) [
       | inl opened ↦ (let one : suc count ≡ 1 + count = omega arith in
-          let longer : length (row ++ left) ≡ lanes_of k * suc count = omega (arith, length-append row left, blank_row_count T k s, mul-suc (lanes_of k) count) in
+          let longer : length (row ++ left) ≡ lanes_of k * suc count =
+          omega (arith, length-append row left, blank_row_count T k s, mul-suc (lanes_of k) count) in
           ap (λ (b : Bool). length (if b then row ++ left else left)) opened ∙ longer ∙ ap (λ (m : ℕ). lanes_of k * m) one
           ∙ ap (λ (b : Bool). lanes_of k * ((if b then 1 else 0) + count)) (sym opened))
       | inr closed ↦ (let none : count ≡ 0 + count = omega arith in

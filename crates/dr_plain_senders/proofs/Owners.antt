@@ -11,8 +11,10 @@ use Rattle.dr_plain_senders.specs.Meaning.Words.{claim_word}
 use Rattle.dr_plain_senders.specs.declared.record.Stage.{Stage}
 use Rattle.dr_plain_senders.specs.declared.record.SenderRecord.{SenderRecord}
 use Rattle.dr_plain_senders.specs.declared.record.Step.{Step}
-use Rattle.dr_plain_senders.specs.declared.record.Step.TheVariants.{SenderLooksAtClaims, SenderLooksAtCount, SenderClaims, SenderPublishes, SenderLooksAtMark, SenderHalts}
-use Rattle.dr_plain_senders.specs.declared.record.Step.TheVariants.{ReceiverLooksAtClaims, ReceiverLooksAtMark, ReceiverLooksAtCount, ReceiverCompletes, HalterHalts}
+use Rattle.dr_plain_senders.specs.declared.record.Step.TheVariants.{SenderLooksAtClaims, SenderLooksAtCount, SenderClaims, SenderPublishes}
+use Rattle.dr_plain_senders.specs.declared.record.Step.TheVariants.{SenderLooksAtMark, SenderHalts}
+use Rattle.dr_plain_senders.specs.declared.record.Step.TheVariants.{ReceiverLooksAtClaims, ReceiverLooksAtMark, ReceiverLooksAtCount}
+use Rattle.dr_plain_senders.specs.declared.record.Step.TheVariants.{ReceiverCompletes, HalterHalts}
 use Rattle.dr_plain_senders.specs.Meaning.Records.{Owns, fresh_stage, sender_looked, claimed_from}
 use Rattle.dr_plain_senders.specs.Meaning.Rule.{World, KeepsRule}
 use Rattle.dr_plain_senders.specs.Meaning.Steps.{Happens, PublishesOne, sender_knows, sender_claims}
@@ -43,7 +45,9 @@ module _ {T : Type 0} where
   owners_claim w p c n r at all = one_changes (w.stages ++ replicate n (fresh_stage p)) w.senders p (claimed_from r c n)
       (λ s t there_now. elim (more_cases w.stages (replicate n (fresh_stage p)) s t there_now) [
         | inl old ↦ all s t old
-        | inr x ↦ (let same : p ≡ t.owner = ap (λ (y : Stage T). y.owner) (at_replicate n (fresh_stage p) t x.0 x.2) in let b = at_below w.senders p r at in omega arith)
+        | inr x ↦
+            (let same : p ≡ t.owner = ap (λ (y : Stage T). y.owner) (at_replicate n (fresh_stage p) t x.0 x.2) in
+            let b = at_below w.senders p r at in omega arith)
       ])
 
   -- one of a sender's sequences comes further

@@ -1,5 +1,6 @@
 -- A sender's sequences, as maps of its list and by its marks.
-use Rattle.std.proofs.Common.{◌≡◌, ◌≢◌, ℕ, zero, suc, ◌+◌, ◌-◌, ◌*◌, ◌/◌, ◌%◌, ◌<◌, ◌≤◌, ◌⊎◌, inl, inr, Bool, true, false, if◌then◌else◌, List, map, length, get_or, set, replicate, sym, refl, ap, ◌∙◌, subst, arith, length-set, get_or-set_same, get_or-set_other}
+use Rattle.std.proofs.Common.{◌≡◌, ◌≢◌, ℕ, zero, suc, ◌+◌, ◌-◌, ◌*◌, ◌/◌, ◌%◌, ◌<◌, ◌≤◌, ◌⊎◌, inl, inr, Bool, true, false, if◌then◌else◌, List, map}
+use Rattle.std.proofs.Common.{length, get_or, set, replicate, sym, refl, ap, ◌∙◌, subst, arith, length-set, get_or-set_same, get_or-set_other}
 use Rattle.std.proofs.lemmas.Bool.{cases_Bool, cases_eq, cases_lt, ne_eqb, eqb-true}
 use Rattle.std.proofs.Math.Nat.{mod-lt}
 use Rattle.std.proofs.lemmas.Nat.{div-add-mod'}
@@ -26,7 +27,8 @@ module _ {T : Type 0} where
   stage_or false z t u = refl
 
   -- what a sender has then
-  pub staged_has : (P : ℕ → Bool) (f : Stage T → Stage T) (own : List (Own T)) (i z : ℕ) (t : Stage T) → get_elem? own i ≡ some record { sequence = z; stage = t }
+  pub staged_has : (P : ℕ → Bool) (f : Stage T → Stage T) (own : List (Own T)) (i z : ℕ) (t : Stage T)
+      → get_elem? own i ≡ some record { sequence = z; stage = t }
       → get_elem? (map (staged P f) own) i ≡ some record { sequence = z; stage = if P z then f t else t }
   staged_has P f own i z t at = map_there (staged P f) own i (own_of z t) at ∙ ap (λ (x : Own T). some x) (stage_or (P z) z t (f t))
 
@@ -36,7 +38,8 @@ module _ {T : Type 0} where
       → (t : Stage T) × (get_elem? own i ≡ some record { sequence = z; stage = t }) × (u ≡ (if P z then f t else t))
   staged_from P f own i z u at =
       let x = at_map (staged P f) own i (own_of z u) at in let o : Own T = x.0 in
-      let form : own_of o.sequence (if P o.sequence then f o.stage else o.stage) ≡ own_of z u = sym (stage_or (P o.sequence) o.sequence o.stage (f o.stage)) ∙ x.2 in
+      let form : own_of o.sequence (if P o.sequence then f o.stage else o.stage) ≡ own_of z u =
+      sym (stage_or (P o.sequence) o.sequence o.stage (f o.stage)) ∙ x.2 in
       let same : o.sequence ≡ z = ap (λ (y : Own T). y.sequence) form in (
         o.stage,
         x.1 ∙ ap (λ (q : ℕ). some (own_of q o.stage)) same,
@@ -51,7 +54,8 @@ mark_else l at s pos ne before =
     let n : ℕ = length l in
     elim (cases_eq (s % length l) (at % length l)) [
       | inl same ↦
-          let read : get_or (set l (at % length l) (entry_of (length l) at)) (s % length l) 0 ≡ entry_of (length l) at = rw same (get_or-set_same l (at % length l) (entry_of (length l) at) 0 (mod-lt at pos)) in
+          let read : get_or (set l (at % length l) (entry_of (length l) at)) (s % length l) 0 ≡ entry_of (length l) at =
+          rw same (get_or-set_same l (at % length l) (entry_of (length l) at) 0 (mod-lt at pos)) in
           let apart : entry_of (length l) at ≢ entry_of (length l) s = λ e.
           (let rounds : at / length l ≡ s / length l = omega arith in
           let x : s / length l * length l + s % length l ≡ s = div-add-mod' s (length l) in
@@ -114,7 +118,9 @@ none_fresh size s marked =
 -- The loop that marks.
 
 pub mark_first : (xs : List ℕ) (from : ℕ) → xs ≡ stamped (entry_of (length xs)) xs from (from - from)
-mark_first xs from = let none : from - from ≡ 0 = omega arith in sym (ap (stamped (entry_of (length xs)) xs from) none ∙ stamped-none (entry_of (length xs)) xs from)
+mark_first xs from =
+    let none : from - from ≡ 0 = omega arith in
+    sym (ap (stamped (entry_of (length xs)) xs from) none ∙ stamped-none (entry_of (length xs)) xs from)
 
 pub mark_next : (xs ys zs : List ℕ) (from s : ℕ) → from ≤ s → ys ≡ stamped (entry_of (length xs)) xs from (s - from)
     → zs ≡ set ys (s % length ys) (entry_of (length ys) s)
@@ -122,4 +128,5 @@ pub mark_next : (xs ys zs : List ℕ) (from s : ℕ) → from ≤ s → ys ≡ s
 mark_next xs ys zs from s le was is =
     let f = entry_of (length xs) in let n = s - from in let at : from + n ≡ s = omega arith in let more : n + 1 ≡ s + 1 - from = omega arith in
     let len : length ys ≡ length xs = ap length was ∙ length-stamped f xs from n in
-    is ∙ (λ i. set (was i) (s % len i) (entry_of (len i) s)) ∙ ap (λ (z : ℕ). set (stamped f xs from n) (z % length xs) (f z)) (sym at) ∙ sym (stamped-more f xs from n) ∙ ap (stamped f xs from) more
+    is ∙ (λ i. set (was i) (s % len i) (entry_of (len i) s)) ∙ ap (λ (z : ℕ). set (stamped f xs from n) (z % length xs) (f z)) (sym at)
+    ∙ sym (stamped-more f xs from n) ∙ ap (stamped f xs from) more

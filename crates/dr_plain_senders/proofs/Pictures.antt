@@ -1,5 +1,7 @@
 -- Each list of steps keeps the rule, and the entries of its events lead the machine to the ring's picture.
-use Rattle.std.proofs.Common.{◌≡◌, ◌≢◌, ℕ, zero, suc, ◌+◌, ◌-◌, ◌<◌, ◌≤◌, inl, inr, Bool, true, false, ◌==◌, if◌then◌else◌, List, [], ◌∷◌, ◌++◌, length, get_or, set, map, replicate, take, drop, Option, None, Some, sym, refl, ap, ◌∙◌, subst, arith, get_or-set_same, get_or-set_other}
+use Rattle.std.proofs.Common.{◌≡◌, ◌≢◌, ℕ, zero, suc, ◌+◌, ◌-◌, ◌<◌, ◌≤◌, inl, inr, Bool, true, false, ◌==◌, if◌then◌else◌, List, [], ◌∷◌, ◌++◌}
+use Rattle.std.proofs.Common.{length, get_or, set, map, replicate, take, drop, Option, None, Some, sym, refl, ap, ◌∙◌, subst, arith, get_or-set_same}
+use Rattle.std.proofs.Common.{get_or-set_other}
 use Rattle.std.specs.Prelude.{Contains, is_some}
 use Rattle.std.specs.List.{range_with_len, filter_map, cons_option}
 use Rattle.std.proofs.lemmas.Bool.{cases_eq, cases_Bool, eq-eqb, ne_eqb, cases_lt, both_ways}
@@ -19,26 +21,33 @@ use Rattle.dr_runs.specs.Entries.{entry, told_drained}
 use Rattle.dr_runs.proofs.Elements.{at_below, value_at, there}
 use Rattle.dr_runs.proofs.Offers.{final_inside, counts_below, offered_at_most, offered_at_least}
 use Rattle.dr_runs.proofs.Lists.{map_same, map_but}
+use Rattle.dr_lent.specs.declared.lent.Lent.{Lent}
 use Rattle.dr_plain_senders.specs.Meaning.Shape.{Shape, handlers_of, ring_setup}
 use Rattle.dr_plain_senders.specs.Meaning.Words.{claim_word, claimed_in, is_halted, halted_from, halt_bit, count_word, mark_start, mark_word, mark_bit, flipped}
-use Rattle.dr_plain_senders.specs.declared.record.Lent.{Lent}
 use Rattle.dr_plain_senders.specs.declared.record.Stage.{Stage}
 use Rattle.dr_plain_senders.specs.declared.record.SenderRecord.{SenderRecord}
 use Rattle.dr_plain_senders.specs.declared.record.ReceiverRecord.{ReceiverRecord}
 use Rattle.dr_plain_senders.specs.declared.record.Step.{Step}
-use Rattle.dr_plain_senders.specs.declared.record.Step.TheVariants.{SenderLooksAtClaims, SenderLooksAtCount, SenderClaims, SenderPublishes, SenderLooksAtMark, SenderHalts}
-use Rattle.dr_plain_senders.specs.declared.record.Step.TheVariants.{ReceiverLooksAtClaims, ReceiverLooksAtMark, ReceiverLooksAtCount, ReceiverCompletes, HalterHalts}
-use Rattle.dr_plain_senders.specs.Meaning.Records.{fresh_stage, published, is_published, sender_looked, receiver_looked, tells_drained, claims_looked, taken_at_mark, taken_at_count, mark_looked, completed_to, SeesRoom}
+use Rattle.dr_plain_senders.specs.declared.record.Step.TheVariants.{SenderLooksAtClaims, SenderLooksAtCount, SenderClaims, SenderPublishes}
+use Rattle.dr_plain_senders.specs.declared.record.Step.TheVariants.{SenderLooksAtMark, SenderHalts}
+use Rattle.dr_plain_senders.specs.declared.record.Step.TheVariants.{ReceiverLooksAtClaims, ReceiverLooksAtMark, ReceiverLooksAtCount}
+use Rattle.dr_plain_senders.specs.declared.record.Step.TheVariants.{ReceiverCompletes, HalterHalts}
+use Rattle.dr_plain_senders.specs.Meaning.Records.{fresh_stage, published, is_published, sender_looked, receiver_looked, tells_drained, claims_looked}
+use Rattle.dr_plain_senders.specs.Meaning.Records.{taken_at_mark, taken_at_count, mark_looked, completed_to, SeesRoom}
 use Rattle.dr_plain_senders.specs.Meaning.Rule.{World, IsOut, has_mark, KeepsRule}
-use Rattle.dr_plain_senders.specs.Meaning.Steps.{Happens, PublishesOne, PublishesAll, sender_knows, sender_claims, sender_publishes, receiver_knows, halted_words}
-use Rattle.dr_plain_senders.specs.Meaning.Moments.{fresh_receiver, taken_of, stage_at, event_in, event_of, picture_of, receiver_at, events_from, poll_of, batch_of, published_by, entries_of, Runs}
+use Rattle.dr_plain_senders.specs.Meaning.Steps.{Happens, PublishesOne, PublishesAll, sender_knows, sender_claims, sender_publishes, receiver_knows}
+use Rattle.dr_plain_senders.specs.Meaning.Steps.{halted_words}
+use Rattle.dr_plain_senders.specs.Meaning.Moments.{fresh_receiver, taken_of, stage_at, event_in, event_of, picture_of, receiver_at, events_from}
+use Rattle.dr_plain_senders.specs.Meaning.Moments.{poll_of, batch_of, published_by, entries_of, Runs}
 use Rattle.dr_plain_senders.proofs.Places.{word_at, claimed_low, halted_low, is_halted_from}
 use Rattle.dr_runs.proofs.Looks.{last_look_le}
-use Rattle.dr_plain_senders.proofs.Facts.{cases_option, none_or_some, receiver_of_handler, handler_inside, orderly, upstream_inside, taken_out, taken_claimed, owned, above}
+use Rattle.dr_plain_senders.proofs.Facts.{cases_option, none_or_some, receiver_of_handler, handler_inside, orderly, upstream_inside, taken_out}
+use Rattle.dr_plain_senders.proofs.Facts.{taken_claimed, owned, above}
 use Rattle.dr_plain_senders.proofs.Barriers.{Offers, offers_at_mark, offers_at_count}
 use Rattle.dr_plain_senders.proofs.KeepsReceiving.{tells_truth}
 use Rattle.dr_plain_senders.proofs.Keeps.{keeps_one, keeps_step}
-use Rattle.dr_plain_senders.proofs.Machine.{shown, at_stage, wrote, claim_step, write_step, publish_step, take_step, drained_step, complete_step, front_within, front_beyond, front_at_most}
+use Rattle.dr_plain_senders.proofs.Machine.{shown, at_stage, wrote, claim_step, write_step, publish_step, take_step, drained_step, complete_step}
+use Rattle.dr_plain_senders.proofs.Machine.{front_within, front_beyond, front_at_most}
 use Rattle.dr_meaning.specs.Meaning.Machine as machine
 
 -- counts by their words
@@ -48,7 +57,8 @@ counts_of k words = map (λ h. word_at words (count_word h)) (range_with_len 0 (
 pub count_at : {T : Type 0} (k : Shape T) (words : List ℕ) (h : ℕ) → h < handlers_of k → get_or (counts_of k words) h 0 ≡ word_at words (count_word h)
 count_at k words h lt = get_or-map-range_with_len (λ h. word_at words (count_word h)) 0 (handlers_of k) h h 0 lt (omega arith)
 
-counts_stay : {T : Type 0} (k : Shape T) (words : List ℕ) (i v : ℕ) → ((h : ℕ) → h < handlers_of k → count_word h ≢ i) → counts_of k (set words i v) ≡ counts_of k words
+counts_stay : {T : Type 0} (k : Shape T) (words : List ℕ) (i v : ℕ)
+    → ((h : ℕ) → h < handlers_of k → count_word h ≢ i) → counts_of k (set words i v) ≡ counts_of k words
 counts_stay k words i v ne =
     map_same (λ h. word_at (set words i v) (count_word h)) (λ h. word_at words (count_word h)) 0 (handlers_of k)
     (λ j low high. get_or-set_other words i (count_word j) v 0 (ne j (omega arith)))
@@ -175,12 +185,14 @@ module _ {T : Type 0} where
       ap is_halted (get_or-set_other w.words word claim_word v 0 (λ (e : claim_word ≡ word). omega arith)) in
       λ i. shown k (set w.stages s (published l t)) (takens w) (counts i) (still i)
 
-  lead_publish : (k : Shape T) (w : World T) (p s : ℕ) (r : SenderRecord T) (t : Stage T) (l : Lent T) → p < k.senders → get_elem? w.stages s ≡ some t → t.owner ≡ p
+  lead_publish : (k : Shape T) (w : World T) (p s : ℕ) (r : SenderRecord T) (t : Stage T) (l : Lent T)
+      → p < k.senders → get_elem? w.stages s ≡ some t → t.owner ≡ p
       → t.lent ≡ None
       → Leads k (entry (Write p s l.event) Written [] ++ entry (Publish p s s) Published []) (picture_of k w) (picture_of k (sender_publishes k w p r s t l))
   lead_publish k w p s r t l who at own unshown =
       let end = picture_publishes k w p s r t l in let m = picture_of k w in
-      leads_on (ring_setup k) m (wrote m s l.event) (picture_of k (sender_publishes k w p r s t l)) (entry (Write p s l.event) Written []) (entry (Publish p s s) Published [])
+      leads_on (ring_setup k) m (wrote m s l.event) (picture_of k (sender_publishes k w p r s t l))
+      (entry (Write p s l.event) Written []) (entry (Publish p s s) Published [])
       (leads_one k (Write p s l.event) Written [] m (wrote m s l.event)
       (write_step k w.stages p s l.event t (takens w) (counts_of k w.words) (halted w.words) who at own unshown))
       (subst (λ (x : State T). Leads k (entry (Publish p s s) Published []) (wrote m s l.event) x) (sym end)
@@ -226,7 +238,8 @@ module _ {T : Type 0} where
       ]
 
   -- what is not marked is not published
-  pub unmarked_offers : (k : Shape T) (w : World T) (h : ℕ) (r : ReceiverRecord T) → get_elem? w.receivers h ≡ some r → upstreams_of k.upstreams h ≡ [] → KeepsRule k w
+  pub unmarked_offers : (k : Shape T) (w : World T) (h : ℕ) (r : ReceiverRecord T)
+      → get_elem? w.receivers h ≡ some r → upstreams_of k.upstreams h ≡ [] → KeepsRule k w
       → has_mark k w (length r.received) ≡ false → available (ring_setup k) (picture_of k w) h ≤ length r.received
   unmarked_offers k w h r at none K miss =
       let n = length r.received in let m = picture_of k w in
@@ -263,7 +276,8 @@ module _ {T : Type 0} where
       ] in
       let last = out (a + n - 1) (omega arith) in let claimed = at_below w.stages (a + n - 1) last.1.0 last.1.1 in
       offered_at_least (picture_of k w) (upstreams_of k.upstreams h) (a + n)
-      (λ none. (let f = front_beyond k w.stages (takens w) (counts_of k w.words) (halted w.words) (a + n - 1) claimed (λ s le. out s (omega arith)) in omega arith))
+      (λ none.
+      (let f = front_beyond k w.stages (takens w) (counts_of k w.words) (halted w.words) (a + n - 1) claimed (λ s le. out s (omega arith)) in omega arith))
       (λ u has. (let i = upstream_inside k K.shape.graph h u inside has in let c = count_at k w.words u i in let b = O.completed u has in omega arith))
 
   -- the stage of a sequence, and those after it
@@ -285,7 +299,8 @@ module _ {T : Type 0} where
       let next : suc a ≡ a + 1 = omega arith in
       let after : events_from stages a (suc n) ≡ cons_option (event_of d.0) (events_from stages (a + 1) n) =
       ap (λ (ts : List (Stage T)). filter_map event_of (take (suc n) ts)) d.2 ∙ ap (λ (j : ℕ). cons_option (event_of d.0) (events_from stages j n)) next in
-      let whole : events_from stages a (suc n) ≡ x.0.event ∷ events_from stages (a + 1) n = after ∙ ap (λ (o : Option T). cons_option o (events_from stages (a + 1) n)) event in (
+      let whole : events_from stages a (suc n) ≡ x.0.event ∷ events_from stages (a + 1) n =
+      after ∙ ap (λ (o : Option T). cons_option o (events_from stages (a + 1) n)) event in (
         ap length whole ∙ ap suc rest.0,
         (λ i. cons_option (ap event_of d.1 i) (rest.1 i)) ∙ sym after,
       )
@@ -310,9 +325,13 @@ module _ {T : Type 0} where
             let offer : a + n ≤ to = offered_next k w h n r at some_one O K in
             let values : filter_map m.written (range_with_len (get_or ts h 0) n) ≡ es = ap (λ (x : ℕ). filter_map m.written (range_with_len x n)) is ∙ are.1 in
             let step = take_step (ring_setup k) m h n es inside refl some_one (omega arith) values in
-            let exact : machine.step (ring_setup k) m (Poll h n) ≡ record { reply = Batch a n (a + n == to); values = es; state = record m { taken = set ts h (a + n) } } =
-            step ∙ ap (λ (x : ℕ). let o : Outcome T = record { reply = Batch x n (x + n == to); values = es; state = record m { taken = set ts h (x + n) } } in o) is in
-            let set_taken : set ts h (a + n) ≡ map taken_of (set w.receivers h q) = sym (map-set taken_of w.receivers h q ∙ ap (λ (x : ℕ). set ts h x) longer) in
+            let exact : machine.step (ring_setup k) m (Poll h n)
+            ≡ record { reply = Batch a n (a + n == to); values = es; state = record m { taken = set ts h (a + n) } } =
+            step ∙ ap (λ (x : ℕ).
+            let o : Outcome T = record { reply = Batch x n (x + n == to); values = es; state = record m { taken = set ts h (x + n) } } in o)
+            is in
+            let set_taken : set ts h (a + n) ≡ map taken_of (set w.receivers h q) =
+            sym (map-set taken_of w.receivers h q ∙ ap (λ (x : ℕ). set ts h x) longer) in
             subst (λ (x : Transcript T). Leads k x m (picture_of k (receiver_knows w h q))) (sym (poll_some h a es to n are.0 some_one))
             (subst (λ (xs : List ℕ). Leads k (entry (Poll h n) (Batch a n (a + n == to)) es) m (record m { taken = xs })) set_taken
             (leads_one k (Poll h n) (Batch a n (a + n == to)) es m (record m { taken = set ts h (a + n) }) exact)))
@@ -340,7 +359,8 @@ module _ {T : Type 0} where
       → Leads k (entry (Write p s event) Written [] ++ entry (Publish p s s) Published []) (picture_of k w) (picture_of k u)
   lead_one k p s event w u H K = let own = owned k w p H.0 s H.2.1.0 H.2.0 H.1 H.2.1.1 K in
       subst (λ (e : T). Leads k (entry (Write p s e) Written [] ++ entry (Publish p s s) Published []) (picture_of k w) (picture_of k u)) (sym H.2.3.1)
-      (subst (λ (x : World T). Leads k (entry (Write p s H.2.3.0.event) Written [] ++ entry (Publish p s s) Published []) (picture_of k w) (picture_of k x)) (sym H.2.3.2)
+      (subst (λ (x : World T). Leads k (entry (Write p s H.2.3.0.event) Written [] ++ entry (Publish p s s) Published []) (picture_of k w) (picture_of k x))
+      (sym H.2.3.2)
       (lead_publish k w p s H.0 H.2.0 H.2.3.0 (sender_inside k w p H.0 H.1 K) own.1 own.0 H.2.2))
 
   lead_all : (k : Shape T) (p s : ℕ) (events : List T) (w u : World T) → PublishesAll k p s events w u → KeepsRule k w
@@ -369,12 +389,14 @@ module _ {T : Type 0} where
       let n = taken_at_mark k H.0 (mark H.0) room in let lents = H.2.1 in let q = mark_looked H.0 (mark H.0) lents in let m = picture_of k w in
       subst (λ (r : ReceiverRecord T). Leads k (batch_of k w h r (taken_at_mark k r (mark r) room)) m (picture_of k u)) (sym (is_receiver w h H.0 H.1))
       (subst (λ (x : World T). Leads k (batch_of k w h H.0 n) m (picture_of k x)) (sym H.2.3)
-      (lead_batch k w h n H.0 q H.1 (offers_at_mark k w h room H.0 H.1 H.2.0 K) (let c = H.2.2.count in let l = length-append H.0.received lents in omega arith) K))
+      (lead_batch k w h n H.0 q H.1 (offers_at_mark k w h room H.0 H.1 H.2.0 K)
+      (let c = H.2.2.count in let l = length-append H.0.received lents in omega arith) K))
   lead_step k (ReceiverLooksAtCount h c room) w u H K =
       let found = word_at w.words (count_word c) in let n = taken_at_count k H.0 (count_word c) found room in let lents = H.2.1 in
       let q = receiver_looked H.0 (count_word c) found lents in let m = picture_of k w in
       let inside = upstream_inside k K.shape.graph h c (handler_inside k w h H.0 H.1 K) H.2.0 in
-      subst (λ (r : ReceiverRecord T). Leads k (batch_of k w h r (taken_at_count k r (count_word c) found room)) m (picture_of k u)) (sym (is_receiver w h H.0 H.1))
+      subst (λ (r : ReceiverRecord T). Leads k (batch_of k w h r (taken_at_count k r (count_word c) found room)) m (picture_of k u))
+      (sym (is_receiver w h H.0 H.1))
       (subst (λ (x : World T). Leads k (batch_of k w h H.0 n) m (picture_of k x)) (sym H.2.3)
       (lead_batch k w h n H.0 q H.1 (offers_at_count k w h (count_word c) room H.0 (omega arith) H.1 K)
       (let c = H.2.2.count in let l = length-append H.0.received lents in omega arith) K))

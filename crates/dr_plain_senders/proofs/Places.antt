@@ -38,12 +38,6 @@ in_replicate (suc n) a (suc i) lt = in_replicate n a i (omega arith)
 pub set_else : {A : Type 0} (l : List A) (s i : ℕ) (a t : A) → i ≢ s → get_elem? l i ≡ some t → get_elem? (set l s a) i ≡ some t
 set_else l s i a t ne at = lists.set_else l s i a ne ∙ at
 
--- what is set last at a place stays
-pub set_twice : {A : Type 0} (l : List A) (i : ℕ) (a b : A) → set (set l i a) i b ≡ set l i b
-set_twice [] i a b = refl
-set_twice (x ∷ xs) zero a b = refl
-set_twice (x ∷ xs) (suc i) a b = ap (λ (ys : List _). x ∷ ys) (set_twice xs i a b)
-
 -- one place has one value
 pub one_value : {A : Type 0} (l : List A) (i : ℕ) (a b : A) → get_elem? l i ≡ some a → get_elem? l i ≡ some b → a ≡ b
 one_value l i a b x y = some-injective a b (sym x ∙ y)
@@ -77,7 +71,8 @@ is_halted_from n = elim (cases_lt n halt_bit) [
 abbrev pub Rises : {T : Type 0} → Shape T → List ℕ → List ℕ → Type 0
 Rises k words us = (i : ℕ) → i < mark_start k → word_at words i ≤ word_at us i
 
-pub rises_set : {T : Type 0} (k : Shape T) (words : List ℕ) (i n : ℕ) → i < length words → (i < mark_start k → word_at words i ≤ n) → Rises k words (set words i n)
+pub rises_set : {T : Type 0} (k : Shape T) (words : List ℕ) (i n : ℕ) → i < length words
+    → (i < mark_start k → word_at words i ≤ n) → Rises k words (set words i n)
 rises_set k words i n inside up j low = elim (cases_eq j i) [
   | inl e ↦ (let a : word_at (set words i n) j ≡ n = ap (λ (m : ℕ). word_at (set words i n) m) e ∙ get_or-set_same words i n 0 inside in
       let b : word_at words j ≡ word_at words i = ap (λ (m : ℕ). word_at words m) e in let c = up (omega arith) in omega arith)

@@ -18,8 +18,8 @@ use Rattle.dr_meaning.specs.Calls.Ends.{Exactly, IsAnswerOf, as_end}
 use Rattle.dr_meaning.proofs.Steps.{unless-none, unless-refused}
 use Rattle.dr_graph.specs.Meaning.Graph.{upstreams_of}
 use Rattle.dr_runs.proofs.Exact.{AreExact, none_exact, first_exact, unit_replies, drained_reply, gating_reply, idle_reply}
+use Rattle.dr_lent.specs.declared.lent.Lent.{Lent}
 use Rattle.dr_plain_senders.specs.Meaning.Shape.{Shape, handlers_of, ring_setup}
-use Rattle.dr_plain_senders.specs.declared.record.Lent.{Lent}
 use Rattle.dr_plain_senders.specs.declared.record.Stage.{Stage}
 use Rattle.dr_plain_senders.specs.declared.record.ReceiverRecord.{ReceiverRecord}
 use Rattle.dr_plain_senders.specs.Meaning.Rule.{World, KeepsRule}
@@ -63,7 +63,8 @@ module _ {T : Type 0} (k : Shape T) (w : World T) (K : KeepsRule k w) where
   pub complete_replies : (h upto : ℕ) (r : ReceiverRecord T) (result : Result (Unit {0}) Refusal) → get_elem? w.receivers h ≡ some r
       → IsAnswerOf (complete_causes (tests_of_completion r upto)) (as_end result) → Replies k w (Complete h upto) (unit_reply Completed result)
   complete_replies h upto r result at answer =
-      unit_replies (complete_causes (tests_of_completion r upto)) (refusals (ring_setup k) m (Complete h upto)) m (accepted (ring_setup k) m (Complete h upto)) result
+      unit_replies (complete_causes (tests_of_completion r upto))
+      (refusals (ring_setup k) m (Complete h upto)) m (accepted (ring_setup k) m (Complete h upto)) result
       (complete_exact h upto r at) answer
 
   poll_exact : (h room : ℕ) (r : ReceiverRecord T) → get_elem? w.receivers h ≡ some r
@@ -81,13 +82,21 @@ module _ {T : Type 0} (k : Shape T) (w : World T) (K : KeepsRule k w) where
       → (accepted (ring_setup k) m (Poll h room)).reply ≡ poll_reply (Ok polled)
   nothing_taken h room r (Batch first count last) at D = absurd D.0
   nothing_taken h room r Drained at D =
-      let taken = taken_at w h r at in let all = owned in let claim = K.claim in let same = D.0.1 in let offer = offer_claimed k w h (handler_inside k w h r at K) K in
+      let taken = taken_at w h r at in
+      let all = owned in
+      let claim = K.claim in
+      let same = D.0.1 in
+      let offer = offer_claimed k w h (handler_inside k w h r at K) K in
       drained_reply (ring_setup k) m h room (omega arith) D.0.0 (omega arith)
   nothing_taken h room r Gating at D =
       let taken = taken_at w h r at in let all = owned in let claim = K.claim in let more = D.0 in let none = nothing_offered h r at (D.1 refl) in
       gating_reply (ring_setup k) m h room (omega arith) (rw (ne_eqb (get_or m.taken h 0) (next m) (λ e. omega arith)) (and-false m.halted)) (omega arith)
   nothing_taken h room r Idle at D =
-      let taken = taken_at w h r at in let all = owned in let claim = K.claim in let same = D.0.1 in let offer = offer_claimed k w h (handler_inside k w h r at K) K in
+      let taken = taken_at w h r at in
+      let all = owned in
+      let claim = K.claim in
+      let same = D.0.1 in
+      let offer = offer_claimed k w h (handler_inside k w h r at K) K in
       idle_reply (ring_setup k) m h room (omega arith) (rw D.0.0 refl) (omega arith)
 
   pub poll_replies : (h room : ℕ) (r : ReceiverRecord T) (result : Result Polled Refusal) → get_elem? w.receivers h ≡ some r

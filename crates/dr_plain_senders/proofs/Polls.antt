@@ -11,19 +11,21 @@ use Rattle.dr_seq.proofs.Apart.{slots_differ}
 use Rattle.dr_runs.specs.Stretches.{stretch}
 use Rattle.dr_runs.proofs.Lists.{take_whole}
 use Rattle.dr_runs.proofs.Elements.{there, at_below}
+use Rattle.dr_lent.proofs.Lists.{drop_seam}
+use Rattle.dr_lent.specs.declared.lent.Lent.{Lent}
+use Rattle.dr_lent.specs.Trades.{PartsTaken}
 use Rattle.dr_plain_senders.specs.Meaning.Shape.{Shape}
 use Rattle.dr_plain_senders.specs.Meaning.Words.{cell_of, lane_of}
 use Rattle.dr_plain_senders.specs.Meaning.Lying.{lent, part_of, placed}
-use Rattle.dr_plain_senders.specs.declared.record.Lent.{Lent}
 use Rattle.dr_plain_senders.specs.Meaning.Records.{taken_at_mark}
 use Rattle.dr_plain_senders.specs.Calls.Ends.{ReceiverStand}
 use Rattle.dr_plain_senders.specs.Calls.Finds.{FindsNext}
 use Rattle.dr_plain_senders.specs.Inside.Fits.{ReceiverFits}
 use Rattle.dr_plain_senders.specs.Inside.Hands.{with_hand, blank_slots}
 use Rattle.dr_plain_senders.specs.Inside.Seats.{Hand, lent_all, taken_by_poll}
-use Rattle.dr_plain_senders.specs.Inside.Trades.{parts_between, blanks_between, PartsTaken}
+use Rattle.dr_plain_senders.specs.Inside.Trades.{parts_between, blanks_between}
 use Rattle.dr_plain_senders.proofs.Trading.{parts_count}
-use Rattle.dr_plain_senders.proofs.Taken.{blanks_both, drop_seam}
+use Rattle.dr_plain_senders.proofs.Taken.{blanks_both}
 
 module _ {T : Type 0} where
   -- what one look at a mark takes there are cells for
@@ -61,7 +63,7 @@ module _ {T : Type 0} (e e' : ReceiverStand T) (t c count : ℕ) (parts : List (
       ∙ drop_seam (parts_between e'.plan e'.knows t (t + count)) e.hand (t + count - t) (parts_count e'.plan e'.knows t (t + count) may.1)
       ∙ F.hand ∙ (λ i. blank_slots (sym plan i) (lane_of (sym number i)) (sym done i) (sym F.taken i - sym done i))
 
-  module _ (parts' : List (Token T)) (P : PartsTaken e'.plan e'.knows t (t + count) parts parts') where
+  module _ (parts' : List (Token T)) (P : PartsTaken e'.plan.strip e'.plan.size e'.knows.received t (t + count) parts parts') where
     held_still : (q : ℕ) (l : Lent T) → e'.knows.completed ≤ q → q < t → get_elem? e'.knows.received q ≡ some l
         → get_elem? parts' (cell_of e'.plan q) ≡ some (part_of e'.plan q (lent l))
     held_still q l low lt at =

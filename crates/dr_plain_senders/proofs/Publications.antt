@@ -1,5 +1,6 @@
 -- What a loop that publishes comes to.
-use Rattle.std.proofs.Common.{◌≡◌, ◌≢◌, ℕ, zero, suc, ◌+◌, ◌%◌, ◌<◌, ◌≤◌, inl, inr, Bool, true, false, not, ◌==◌, ◌&&◌, if◌then◌else◌, List, [], ◌∷◌, ◌++◌, map, length, get_or, set, sym, refl, ap, ◌∙◌, subst, arith, get_or-set_other}
+use Rattle.std.proofs.Common.{◌≡◌, ◌≢◌, ℕ, zero, suc, ◌+◌, ◌%◌, ◌<◌, ◌≤◌, inl, inr, Bool, true, false, not, ◌==◌, ◌&&◌, if◌then◌else◌, List, [], ◌∷◌}
+use Rattle.std.proofs.Common.{◌++◌, map, length, get_or, set, sym, refl, ap, ◌∙◌, subst, arith, get_or-set_other}
 use Rattle.std.specs.Prelude.{None, Some, Option, nat_le, nat_lt}
 use Rattle.std.proofs.lemmas.Bool.{cases_Bool, cases_eq, cases_lt, eq-eqb, ne_eqb, lt-ltb, le-ltb, lt-leb, le-leb}
 use Rattle.std.proofs.lemmas.List.{length-append, length-map, map-set}
@@ -14,17 +15,18 @@ use Rattle.dr_seq.specs.Rounds.{entry_of, is_marked}
 use Rattle.dr_seq.proofs.Apart.{slots_differ}
 use Rattle.dr_runs.proofs.Elements.{value_at}
 use Rattle.dr_runs.proofs.Lists.{map_there}
+use Rattle.dr_lent.specs.Rows.{cells_of}
+use Rattle.dr_lent.specs.declared.lent.Lent.{Lent}
 use Rattle.dr_plain_senders.specs.Meaning.Shape.{Shape}
 use Rattle.dr_plain_senders.specs.Meaning.Words.{cell_of}
 use Rattle.dr_plain_senders.specs.Meaning.Records.{published, own_after, own_published, has_published}
-use Rattle.dr_plain_senders.specs.declared.owned.Owned.{Owned}
-use Rattle.dr_plain_senders.specs.declared.record.Lent.{Lent}
 use Rattle.dr_plain_senders.specs.declared.record.Own.{Own}
 use Rattle.dr_plain_senders.specs.declared.record.SenderRecord.{SenderRecord}
 use Rattle.dr_plain_senders.specs.Calls.Ends.{SenderStand}
 use Rattle.dr_plain_senders.specs.Calls.Writing.{written_where}
 use Rattle.dr_plain_senders.specs.Calls.Publishing.{is_between}
-use Rattle.dr_plain_senders.specs.Inside.Fits.{SenderFits, is_open, is_ready, cells_of, written_in, writes_of}
+use Rattle.dr_plain_senders.specs.Inside.Fits.{SenderFits, written_in, writes_of}
+use Rattle.dr_plain_senders.specs.Inside.Owned.{Owned, is_open, is_ready}
 use Rattle.dr_plain_senders.specs.Inside.Publishing.{ArePublic}
 use Rattle.dr_plain_senders.proofs.Places.{more_cases}
 use Rattle.dr_plain_senders.proofs.Granting.{first_of, second_of, unready}
@@ -164,7 +166,8 @@ module _ {T : Type 0} (k : Shape T) (r : SenderRecord T) (o : Owned) (tokens : L
       none_between : (q : ℕ) → is_between lo lo q ≡ false
       none_between q = elim (cases_lt q lo) [ inl lt ↦ below lo lo q lt | inr ge ↦ above lo lo q ge ]
 
-  module _ (s end : ℕ) (a : SenderStand T) (b : Owned) (ts : List (Token T)) (ls : List (Lent T)) (plan : a.plan ≡ k) (P : ArePublic k r o tokens lo s ls a.knows b ts) (F : SenderFits a b end ts)
+  module _ (s end : ℕ) (a : SenderStand T) (b : Owned) (ts : List (Token T)) (ls : List (Lent T))
+      (plan : a.plan ≡ k) (P : ArePublic k r o tokens lo s ls a.knows b ts) (F : SenderFits a b end ts)
       (low : lo ≤ s) (can : is_ready o s ≡ true) where
     ready_now : is_ready b s ≡ true
     ready_now = P.ready s (omega arith) ∙ can
@@ -172,7 +175,8 @@ module _ {T : Type 0} (k : Shape T) (r : SenderRecord T) (o : Owned) (tokens : L
     pub open_now : is_open b s ≡ true
     open_now = first_of (is_open b s) (is_marked b.written s) ready_now
 
-    pub public_next : (r' : SenderRecord T) (o' : Owned) (ts' : List (Token T)) (l : Lent T) (t : Token T) → get_elem? ts (cell_of a.plan s) ≡ some t → held t.hold ≡ Some l.event
+    pub public_next : (r' : SenderRecord T) (o' : Owned) (ts' : List (Token T)) (l : Lent T) (t : Token T)
+        → get_elem? ts (cell_of a.plan s) ≡ some t → held t.hold ≡ Some l.event
         → r' ≡ has_published a.knows s (l ∷ [])
         → ts' ≡ set ts (cell_of a.plan s) no_token → o' ≡ record b { published = set b.published (s % length b.published) (entry_of (length b.published) s) }
         → ArePublic k r o tokens lo (s + 1) (ls ++ l ∷ []) r' o' ts'
@@ -200,11 +204,16 @@ module _ {T : Type 0} (k : Shape T) (r : SenderRecord T) (o : Owned) (tokens : L
         ]
 
         each_write : (q : ℕ) → (if q == s then None else written_in k b ts q) ≡ (if is_between lo (s + 1) q then None else written_in k o tokens q)
-        each_write q = let none : Option T = None in let w : Option T = written_in k b ts q in let v : Option T = written_in k o tokens q in elim (cases_eq q s) [
-          | inl same ↦ ap (λ (c : Bool). if c then none else w) (eq-eqb q s same)
-              ∙ sym (ap (λ (c : Bool). if c then none else v) (inside lo (s + 1) q (omega arith) (omega arith)))
-          | inr ne ↦ ap (λ (c : Bool). if c then none else w) (ne_eqb q s ne) ∙ P.writes q ∙ sym (ap (λ (c : Bool). if c then none else v) (between_else lo s q ne))
-        ]
+        each_write q =
+            let none : Option T = None in
+            let w : Option T = written_in k b ts q in
+            let v : Option T = written_in k o tokens q in elim (cases_eq q s) [
+              | inl same ↦ ap (λ (c : Bool). if c then none else w) (eq-eqb q s same)
+                  ∙ sym (ap (λ (c : Bool). if c then none else v) (inside lo (s + 1) q (omega arith) (omega arith)))
+              | inr ne ↦
+                  ap (λ (c : Bool). if c then none else w) (ne_eqb q s ne) ∙ P.writes q
+                  ∙ sym (ap (λ (c : Bool). if c then none else v) (between_else lo s q ne))
+            ]
 
         only : (j : ℕ) (x : Lent T) → get_elem? (l ∷ []) j ≡ some x → (j ≡ 0) × (l ≡ x)
         only zero x there_at = (refl, some-injective l x there_at)
@@ -230,11 +239,14 @@ module _ {T : Type 0} where
   own_both s (l ∷ ls) ms own = let at : s + 1 + length ls ≡ s + suc (length ls) = omega arith in
       own_both (s + 1) ls ms (map (own_after s (published l)) own) ∙ ap (λ (n : ℕ). own_published n ms (own_published s (l ∷ ls) own)) at
 
-  published_both : (r : SenderRecord T) (lo s : ℕ) (ls ms : List (Lent T)) → lo + length ls ≡ s → has_published (has_published r lo ls) s ms ≡ has_published r lo (ls ++ ms)
+  published_both : (r : SenderRecord T) (lo s : ℕ) (ls ms : List (Lent T)) → lo + length ls ≡ s
+      → has_published (has_published r lo ls) s ms ≡ has_published r lo (ls ++ ms)
   published_both r lo s ls ms at =
-      ap (λ (xs : List (Own T)). record r { own = xs }) (ap (λ (n : ℕ). own_published n ms (own_published lo ls r.own)) (sym at) ∙ sym (own_both lo ls ms r.own))
+      ap (λ (xs : List (Own T)). record r { own = xs })
+      (ap (λ (n : ℕ). own_published n ms (own_published lo ls r.own)) (sym at) ∙ sym (own_both lo ls ms r.own))
 
-  pub public_both : (k : Shape T) (r r1 r2 : SenderRecord T) (o o1 o2 : Owned) (ts ts1 ts2 : List (Token T)) (lo s upto : ℕ) (ls ms : List (Lent T)) → upto ≤ lo + k.size
+  pub public_both : (k : Shape T) (r r1 r2 : SenderRecord T) (o o1 o2 : Owned) (ts ts1 ts2 : List (Token T)) (lo s upto : ℕ) (ls ms : List (Lent T))
+      → upto ≤ lo + k.size
       → ArePublic k r o ts lo s ls r1 o1 ts1 → ArePublic k r1 o1 ts1 s upto ms r2 o2 ts2 → ArePublic k r o ts lo upto (ls ++ ms) r2 o2 ts2
   public_both k r r1 r2 o o1 o2 ts ts1 ts2 lo s upto ls ms near A B = let first = A.many in let second = B.many in let none : Option T = None in record {
     many = omega (arith, length-append ls ms);
@@ -258,7 +270,8 @@ module _ {T : Type 0} where
         ]);
     cells = record {
       lost = λ z low high. elim (cases_lt z s) [
-        | inl early ↦ B.cells.others (cell_of k z) (λ q from to. slots_differ k.size q z (λ (e : q ≡ z). omega arith) (omega arith) (omega arith)) ∙ A.cells.lost z low early
+        | inl early ↦ B.cells.others (cell_of k z) (λ q from to. slots_differ k.size q z (λ (e : q ≡ z). omega arith) (omega arith) (omega arith))
+            ∙ A.cells.lost z low early
         | inr late ↦ B.cells.lost z late high
       ];
       others = λ i apart. B.cells.others i (λ z from to. apart z (omega arith) to) ∙ A.cells.others i (λ z from to. apart z from (omega arith));
@@ -291,7 +304,8 @@ module _ {T : Type 0} where
   writes_where such f g each (x ∷ own) = (λ i. each x.sequence i ∷ writes_where such f g each own i)
 
   -- what is written once all are published
-  pub all_left : (e : SenderStand T) (o : Owned) (tokens : List (Token T)) (lo upto : ℕ) (ls : List (Lent T)) (e' : SenderStand T) (o' : Owned) (ts' : List (Token T))
+  pub all_left : (e : SenderStand T) (o : Owned) (tokens : List (Token T)) (lo upto : ℕ)
+      (ls : List (Lent T)) (e' : SenderStand T) (o' : Owned) (ts' : List (Token T))
       → e'.plan ≡ e.plan → ArePublic e.plan e.knows o tokens lo upto ls e'.knows o' ts'
       → writes_of e'.plan o' ts' e'.knows.own ≡ written_where (is_between lo upto) None e.knows.own (writes_of e.plan o tokens e.knows.own)
   all_left e o tokens lo upto ls e' o' ts' plan P =

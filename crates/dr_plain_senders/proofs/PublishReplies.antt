@@ -1,5 +1,6 @@
 -- What a sender's publication answers.
-use Rattle.std.proofs.Common.{◌≡◌, ◌≢◌, ℕ, ◌+◌, ◌-◌, ◌<◌, ◌≤◌, inl, inr, Bool, true, false, not, if◌then◌else◌, List, [], ◌++◌, get_or, sym, refl, ap, ◌∙◌, subst, arith}
+use Rattle.std.proofs.Common.{◌≡◌, ◌≢◌, ℕ, ◌+◌, ◌-◌, ◌<◌, ◌≤◌, inl, inr, Bool, true, false, not, if◌then◌else◌, List, [], ◌++◌, get_or, sym, refl, ap}
+use Rattle.std.proofs.Common.{◌∙◌, subst, arith}
 use Rattle.std.specs.Prelude.{◌&&◌, Some, None, is_none, flat_map, nat_le, nat_lt, Ok, Err}
 use Rattle.std.specs.List.{range_with_len}
 use Rattle.std.proofs.lemmas.Bool.{cases_lt, eq-eqb, ne_eqb, lt-ltb, le-ltb, lt-leb, le-leb}
@@ -18,15 +19,17 @@ use Rattle.dr_meaning.proofs.Causes.{none_join, first_left, none_of_stretch, fir
 use Rattle.dr_runs.specs.Runs.{IsBeginning}
 use Rattle.dr_runs.proofs.Elements.{there, at_below, value_at}
 use Rattle.dr_runs.proofs.Lists.{map_there}
+use Rattle.dr_lent.specs.Rows.{cells_of}
 use Rattle.dr_plain_senders.specs.Meaning.Shape.{Shape}
 use Rattle.dr_plain_senders.specs.Meaning.Words.{claimed_in, cell_of, is_out_by}
-use Rattle.dr_plain_senders.specs.declared.owned.Owned.{Owned}
 use Rattle.dr_plain_senders.specs.declared.record.SenderRecord.{SenderRecord}
 use Rattle.dr_plain_senders.specs.Calls.Ends.{SenderStand, SenderEnd, Stays, HasLoaded}
 use Rattle.dr_plain_senders.specs.Calls.Writing.{Sight, Has, Found, Unasked, IsSight, Holds, marks_of, claims_of, sight_tests}
 use Rattle.dr_runs.specs.declared.look.Look.{Look}
-use Rattle.dr_plain_senders.specs.Calls.Publishing.{Reach, Inside, Outside, Looked, IsReach, reach_looks, reach_unclaimed, IsReady, PublishLooks, stretch_tests, tests_of_publication, PublishCall}
-use Rattle.dr_plain_senders.specs.Inside.Fits.{SenderFits, is_open, is_ready, cells_of, written_in, writes_of}
+use Rattle.dr_plain_senders.specs.Calls.Publishing.{Reach, Inside, Outside, Looked, IsReach, reach_looks, reach_unclaimed, IsReady, PublishLooks}
+use Rattle.dr_plain_senders.specs.Calls.Publishing.{stretch_tests, tests_of_publication, PublishCall}
+use Rattle.dr_plain_senders.specs.Inside.Fits.{SenderFits, written_in, writes_of}
+use Rattle.dr_plain_senders.specs.Inside.Owned.{Owned, is_open, is_ready}
 use Rattle.dr_plain_senders.specs.Inside.Publishing.{HasPublishedAll, Reaches}
 use Rattle.dr_plain_senders.specs.Inside.Refusing.{RefusesBy}
 use Rattle.dr_plain_senders.specs.Inside.Views.{sender_end}
@@ -52,7 +55,13 @@ module _ {T : Type 0} (e : SenderEnd T) (lo hi : ℕ) where
   publish_bad lt = record {
     place = refl;
     seen = nothing_seen;
-    sees = record { reach = λ le. absurd (omega arith); ready = λ s low high. absurd (omega arith); stop = tt; empty = λ none. (refl, refl); nobodys = λ nobody. refl };
+    sees = record {
+      reach = λ le. absurd (omega arith);
+      ready = λ s low high. absurd (omega arith);
+      stop = tt;
+      empty = λ none. (refl, refl);
+      nobodys = λ nobody. refl;
+    };
     answer = inr (refl, inl (lt-ltb hi lo lt, refl));
     all = tt;
     lents = [];
@@ -130,11 +139,14 @@ module _ {T : Type 0} (k : Shape T) (lo : ℕ) (seen : PublishLooks T) where
   causes s = sequence_causes (stretch_tests k lo seen s)
 
   clear : (j : ℕ) → lo + j ≢ lo + seen.ready → NoneHolds MayFail (causes (lo + j))
-  clear j ne = subst (λ (b : Bool). NoneHolds MayFail (sequence_causes (sight_tests k (lo + j) (if b then seen.stop else Unasked)))) (sym (ne_eqb (lo + j) (lo + seen.ready) ne)) (refl, (refl, (refl, tt)))
+  clear j ne =
+      subst (λ (b : Bool). NoneHolds MayFail (sequence_causes (sight_tests k (lo + j) (if b then seen.stop else Unasked))))
+      (sym (ne_eqb (lo + j) (lo + seen.ready) ne)) (refl, (refl, (refl, tt)))
 
   here : (refusal : Refusal) → IsFirst MayHold MayFail refusal (sequence_causes (sight_tests k (lo + seen.ready) seen.stop))
       → IsFirst MayHold MayFail refusal (causes (lo + seen.ready))
-  here refusal first = subst (λ (b : Bool). IsFirst MayHold MayFail refusal (sequence_causes (sight_tests k (lo + seen.ready) (if b then seen.stop else Unasked))))
+  here refusal first =
+      subst (λ (b : Bool). IsFirst MayHold MayFail refusal (sequence_causes (sight_tests k (lo + seen.ready) (if b then seen.stop else Unasked))))
       (sym (eq-eqb (lo + seen.ready) (lo + seen.ready) refl)) first
 
   refuses : (hi : ℕ) (refusal : Refusal) → lo ≤ hi → lo + seen.ready ≤ hi → MayFail (reach_unclaimed hi seen.reach)
@@ -147,7 +159,8 @@ module _ {T : Type 0} (k : Shape T) (lo : ℕ) (seen : PublishLooks T) where
       inr (
         reaches,
         first_left MayHold MayFail refusal (flat_map causes (range_with_len lo (hi + 1 - lo))) _
-            (first_of_stretch MayHold MayFail causes lo (hi + 1 - lo) seen.ready refusal (omega arith) (λ j lt. clear j (λ e. omega arith)) (here refusal first)),
+            (first_of_stretch MayHold MayFail causes lo (hi + 1 - lo) seen.ready refusal
+            (omega arith) (λ j lt. clear j (λ e. omega arith)) (here refusal first)),
       ),
     ),
   )
@@ -194,7 +207,9 @@ module _ {T : Type 0} (e : SenderStand T) (o : Owned) (end : ℕ) (tokens : List
       let x = F.marks.own s mine in let count = F.count in let t = there tokens (cell_of e.plan s) (let lt = mod-lt s size in omega arith) in
       let w = F.whole s t.0 opened t.1 in
       let written : written_in e.plan o tokens s ≡ Some w.0 =
-      (λ i. if is i then value_at (cells_of tokens) (cell_of e.plan s) (held t.0.hold) None (map_there (λ (y : Token T). held y.hold) tokens (cell_of e.plan s) t.0 t.1) i else None)
+      (λ i. if is i
+      then value_at (cells_of tokens) (cell_of e.plan s) (held t.0.hold) None (map_there (λ (y : Token T). held y.hold) tokens (cell_of e.plan s) t.0 t.1) i
+      else None)
       ∙ some_held t.0 e.plan s w in
       (x.0, w.0, subst (Holds me s x.0) written (holds e o tokens s x.0 x.1), F.marks.shown s x.0 x.1 mine ∙ hidden)
 
@@ -202,7 +217,13 @@ module _ {T : Type 0} (e : SenderStand T) (o : Owned) (end : ℕ) (tokens : List
   publish_unclaimed lo hi e' order R = record {
     place = (λ i. (R.stays.0 i, R.stays.1 i, (R.knows i).number));
     seen = record { reach = R.reach; ready = 0; stop = Unasked };
-    sees = record { reach = λ le. R.sees; ready = λ s low high. absurd (omega arith); stop = tt; empty = λ none. absurd (omega arith); nobodys = λ nobody. refl };
+    sees = record {
+      reach = λ le. R.sees;
+      ready = λ s low high. absurd (omega arith);
+      stop = tt;
+      empty = λ none. absurd (omega arith);
+      nobodys = λ nobody. refl;
+    };
     answer = inr (refl, inr (le-ltb hi lo order, inl (subst MayHold (sym R.unclaimed) refl, refl)));
     all = tt;
     lents = [];
@@ -218,16 +239,26 @@ module _ {T : Type 0} (e : SenderStand T) (o : Owned) (end : ℕ) (tokens : List
 
   -- A publication that reached a sequence that it may not publish, after some that it may.
   module _ (a : SenderStand T) (lo hi stop : ℕ) (R : Reached e hi a true) (front : IsFront (is_ready o) lo (hi + 1) stop) (high : stop ≤ hi) where
-    publish_stops : (e' : SenderStand T) (x : Sight T) (refusal : Refusal) → IsSight me stop x → IsFirst MayHold MayFail refusal (sequence_causes (sight_tests e.plan stop x)) → Stays a e'
-        → e'.knows ≡ record a.knows { marks = a.knows.marks ++ marks_of stop x; looks = a.knows.looks ++ claims_of x } → e'.stored ≡ a.stored → IsBeginning a.past e'.past
+    publish_stops : (e' : SenderStand T) (x : Sight T) (refusal : Refusal) → IsSight me stop x
+        → IsFirst MayHold MayFail refusal (sequence_causes (sight_tests e.plan stop x)) → Stays a e'
+        → e'.knows ≡ record a.knows { marks = a.knows.marks ++ marks_of stop x; looks = a.knows.looks ++ claims_of x }
+        → e'.stored ≡ a.stored → IsBeginning a.past e'.past
         → PublishCall me lo hi (sender_end e' o tokens) (Err refusal)
     publish_stops e' x refusal sight first stays knows stored past =
-        let low = front.low in let at : lo + (stop - lo) ≡ stop = omega arith in let seen : PublishLooks T = record { reach = R.reach; ready = stop - lo; stop = x } in
+        let low = front.low in
+        let at : lo + (stop - lo) ≡ stop = omega arith in
+        let seen : PublishLooks T = record { reach = R.reach; ready = stop - lo; stop = x } in
         let own = ap (λ (r : SenderRecord T). r.own) knows ∙ ap (λ (r : SenderRecord T). r.own) R.knows in
         let number = ap (λ (r : SenderRecord T). r.number) knows ∙ ap (λ (r : SenderRecord T). r.number) R.knows in let plan = stays.1 ∙ R.stays.1 in record {
           place = (λ i. ((stays.0 ∙ R.stays.0) i, plan i, number i));
           seen = seen;
-          sees = record { reach = λ le. R.sees; ready = λ s below above. ready_is s (front.below s below (omega arith)); stop = subst (λ (s : ℕ). IsSight me s x) (sym at) sight; empty = λ none. absurd (omega arith); nobodys = λ nobody. absurd (let no = sym R.unclaimed ∙ nobody in cc) };
+          sees = record {
+            reach = λ le. R.sees;
+            ready = λ s below above. ready_is s (front.below s below (omega arith));
+            stop = subst (λ (s : ℕ). IsSight me s x) (sym at) sight;
+            empty = λ none. absurd (omega arith);
+            nobodys = λ nobody. absurd (let no = sym R.unclaimed ∙ nobody in cc);
+          };
           answer = refuses e.plan lo seen hi refusal (omega arith) (omega arith) (subst MayFail (sym R.unclaimed) refl)
               (subst (λ (s : ℕ). IsFirst MayHold MayFail refusal (sequence_causes (sight_tests e.plan s x))) (sym at) first);
           all = tt;
@@ -235,7 +266,8 @@ module _ {T : Type 0} (e : SenderStand T) (o : Owned) (end : ℕ) (tokens : List
           lent = refl;
           knows =
               knows ∙ ap (λ (q : SenderRecord T). record q { marks = q.marks ++ marks_of stop x; looks = q.looks ++ claims_of x }) R.knows
-              ∙ ap (λ (s : ℕ). record e.knows { marks = e.knows.marks ++ marks_of s x; looks = (e.knows.looks ++ reach_looks R.reach) ++ claims_of x }) (sym at);
+              ∙ ap (λ (s : ℕ). record e.knows { marks = e.knows.marks ++ marks_of s x; looks = (e.knows.looks ++ reach_looks R.reach) ++ claims_of x })
+              (sym at);
           writes = (λ i. writes_of (plan i) o tokens (own i));
           cells = refl;
           steps = [];
@@ -262,13 +294,15 @@ module _ {T : Type 0} (e : SenderStand T) (o : Owned) (end : ℕ) (tokens : List
 
     pub publish_late : is_marked o.claimed stop ≡ true → is_marked o.published stop ≡ true → PublishCall me lo hi (sender_end a o tokens) (Err AlreadyPublished)
     publish_late mine shown = let x = F.marks.own stop mine in
-        publish_stops a (Has x.0 (written_in e.plan o tokens stop)) AlreadyPublished (holds e o tokens stop x.0 x.1) (inl (F.marks.shown stop x.0 x.1 mine ∙ shown, refl))
+        publish_stops a (Has x.0 (written_in e.plan o tokens stop)) AlreadyPublished
+        (holds e o tokens stop x.0 x.1) (inl (F.marks.shown stop x.0 x.1 mine ∙ shown, refl))
         (refl, refl) (found_nothing a.knows) refl (begins_same a.past)
 
     pub publish_unwritten : is_marked o.claimed stop ≡ true → is_marked o.published stop ≡ false → PublishCall me lo hi (sender_end a o tokens) (Err NotWritten)
     publish_unwritten mine hidden =
         let x = F.marks.own stop mine in
-        let unwritten = unready_part (is_marked o.claimed stop) (is_marked o.published stop) (is_marked o.written stop) (front.here (omega arith)) mine hidden in
+        let unwritten =
+        unready_part (is_marked o.claimed stop) (is_marked o.published stop) (is_marked o.written stop) (front.here (omega arith)) mine hidden in
         let none = unready (is_open o stop) (is_marked o.written stop) (get_or (cells_of tokens) (cell_of e.plan stop) None) (inr unwritten) in
         publish_stops a (Has x.0 (written_in e.plan o tokens stop)) NotWritten (holds e o tokens stop x.0 x.1)
         (inr (F.marks.shown stop x.0 x.1 mine ∙ hidden, inr (refl, inl (ap is_none none, refl)))) (refl, refl) (found_nothing a.knows) refl (begins_same a.past)
@@ -281,7 +315,13 @@ module _ {T : Type 0} (e : SenderStand T) (o : Owned) (end : ℕ) (tokens : List
       let seen : PublishLooks T = record { reach = Inside; ready = n; stop = Unasked } in record {
         place = (λ i. (P.stays.0 i, P.stays.1 i, (P.all.knows i).number));
         seen = seen;
-        sees = record { reach = λ le. F.marks.own hi (mine_ready hi (front.below hi order past)); ready = ready; stop = tt; empty = λ none. absurd (omega arith); nobodys = λ nobody. refl };
+        sees = record {
+          reach = λ le. F.marks.own hi (mine_ready hi (front.below hi order past));
+          ready = ready;
+          stop = tt;
+          empty = λ none. absurd (omega arith);
+          nobodys = λ nobody. refl;
+        };
         answer = accepts e.plan lo seen hi order (omega arith) refl;
         all = omega arith;
         lents = P.lents;
@@ -314,7 +354,8 @@ from_here {T} e a e' o o' ts ts' lo upto L P = subst (λ (x : SenderStand T). Ha
     })
 
 -- a sender that has the last sequence looked at nothing
-pub stood : {T : Type 0} (e a : SenderStand T) (o : Owned) (hi : ℕ) (own is : Bool) → own ≡ is_marked o.claimed hi → is_marked o.claimed hi ≡ true → Reaches e own hi a is
+pub stood : {T : Type 0} (e a : SenderStand T) (o : Owned) (hi : ℕ) (own is : Bool)
+    → own ≡ is_marked o.claimed hi → is_marked o.claimed hi ≡ true → Reaches e own hi a is
     → HasLoaded e e.knows e.hand a
 stood e a o hi true is mine marked R = R.0
 stood e a o hi false is mine marked R = absurd (cc)

@@ -13,8 +13,10 @@ use Rattle.dr_plain_senders.specs.Inside.Refusing.{refused_by, RefusesBy}
 use Rattle.dr_plain_senders.proofs.Fitting.{owns_same}
 use Rattle.dr_plain_senders.proofs.Stations.{begins_on}
 
-pub refuses : {T : Type 0} (e e1 e2 e3 : SenderStand T) (s before mark after : ℕ) (refusal : Refusal) → HasLoaded e (sender_looked e.knows claim_word before) e.hand e1
-    → HasLoaded e1 (mark_found e1.knows s mark) e1.hand e2 → HasLoaded e2 (sender_looked e2.knows claim_word after) e2.hand e3 → FindsOwn e.knows before → FindsOwn e2.knows after
+pub refuses : {T : Type 0} (e e1 e2 e3 : SenderStand T) (s before mark after : ℕ) (refusal : Refusal)
+    → HasLoaded e (sender_looked e.knows claim_word before) e.hand e1
+    → HasLoaded e1 (mark_found e1.knows s mark) e1.hand e2
+    → HasLoaded e2 (sender_looked e2.knows claim_word after) e2.hand e3 → FindsOwn e.knows before → FindsOwn e2.knows after
     → refusal ≡ (if is_out_by e.plan s before mark after then AlreadyPublished else NotClaimed) → RefusesBy e s e3 refusal
 refuses {T} e e1 e2 e3 s before mark after refusal A B C first last is = record {
   before = before;
@@ -23,7 +25,8 @@ refuses {T} e e1 e2 e3 s before mark after refusal A B C first last is = record 
   loaded = (
     (C.0.0 ∙ B.0.0 ∙ A.0.0, C.0.1 ∙ B.0.1 ∙ A.0.1),
     C.1 ∙ ap (λ (r : SenderRecord T). sender_looked r claim_word after) (B.1 ∙ ap (λ (r : SenderRecord T). mark_found r s mark) A.1)
-        ∙ ap (λ (xs : List Look). record (refused_by e.knows s before mark after) { looks = xs }) (append_assoc e.knows.looks (look claim_word before ∷ []) (look claim_word after ∷ [])),
+        ∙ ap (λ (xs : List Look). record (refused_by e.knows s before mark after) { looks = xs })
+        (append_assoc e.knows.looks (look claim_word before ∷ []) (look claim_word after ∷ [])),
     C.2 ∙ B.2 ∙ A.2,
     begins_on e.past e2.past e3.past (begins_on e.past e1.past e2.past A.3 B.3) C.3,
     C.4 ∙ B.4 ∙ A.4,

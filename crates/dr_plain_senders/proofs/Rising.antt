@@ -1,5 +1,6 @@
 -- What no step takes back: words that only rise, claims, and what is published.
-use Rattle.std.proofs.Common.{◌≡◌, ℕ, ◌+◌, ◌≤◌, inl, inr, ◌==◌, if◌then◌else◌, Bool, List, [], ◌∷◌, length, set, replicate, None, sym, refl, ap, ◌∙◌, subst, arith, length-set, get_or-set_other}
+use Rattle.std.proofs.Common.{◌≡◌, ℕ, ◌+◌, ◌≤◌, inl, inr, ◌==◌, if◌then◌else◌, Bool, List, [], ◌∷◌, length, set, replicate, None, sym, refl, ap, ◌∙◌}
+use Rattle.std.proofs.Common.{subst, arith, length-set, get_or-set_other}
 use Rattle.std.proofs.lemmas.Bool.{cases_eq, eq-eqb, ne_eqb}
 use Rattle.std.proofs.lemmas.List.{length-append}
 use mathlib.Core.Option.{some}
@@ -12,8 +13,10 @@ use Rattle.dr_plain_senders.specs.Meaning.Words.{claim_word, halted_from, count_
 use Rattle.dr_plain_senders.specs.declared.record.Stage.{Stage}
 use Rattle.dr_plain_senders.specs.declared.record.SenderRecord.{SenderRecord}
 use Rattle.dr_plain_senders.specs.declared.record.Step.{Step}
-use Rattle.dr_plain_senders.specs.declared.record.Step.TheVariants.{SenderLooksAtClaims, SenderLooksAtCount, SenderClaims, SenderPublishes, SenderLooksAtMark, SenderHalts}
-use Rattle.dr_plain_senders.specs.declared.record.Step.TheVariants.{ReceiverLooksAtClaims, ReceiverLooksAtMark, ReceiverLooksAtCount, ReceiverCompletes, HalterHalts}
+use Rattle.dr_plain_senders.specs.declared.record.Step.TheVariants.{SenderLooksAtClaims, SenderLooksAtCount, SenderClaims, SenderPublishes}
+use Rattle.dr_plain_senders.specs.declared.record.Step.TheVariants.{SenderLooksAtMark, SenderHalts}
+use Rattle.dr_plain_senders.specs.declared.record.Step.TheVariants.{ReceiverLooksAtClaims, ReceiverLooksAtMark, ReceiverLooksAtCount}
+use Rattle.dr_plain_senders.specs.declared.record.Step.TheVariants.{ReceiverCompletes, HalterHalts}
 use Rattle.dr_plain_senders.specs.Meaning.Records.{fresh_stage, published, sender_looked}
 use Rattle.dr_plain_senders.specs.Meaning.Rule.{World, IsOutWith, KeepsRule}
 use Rattle.dr_plain_senders.specs.Meaning.Steps.{Happens, PublishesOne, sender_knows, sender_claims}
@@ -59,9 +62,11 @@ module _ {T : Type 0} where
   }
 
   claims : (k : Shape T) (w : World T) (p c n : ℕ) (r : SenderRecord T) → KeepsRule k w
-      → Rose k w (if word_at w.words claim_word == c then sender_claims w p r c n else sender_knows w p (sender_looked r claim_word (word_at w.words claim_word)))
+      → Rose k w (if word_at w.words claim_word == c then sender_claims w p r c n
+      else sender_knows w p (sender_looked r claim_word (word_at w.words claim_word)))
   claims k w p c n r K =
-      let P : Bool → Type 0 = λ b. Rose k w (if b then sender_claims w p r c n else sender_knows w p (sender_looked r claim_word (word_at w.words claim_word))) in
+      let P : Bool → Type 0 =
+      λ b. Rose k w (if b then sender_claims w p r c n else sender_knows w p (sender_looked r claim_word (word_at w.words claim_word))) in
       elim (cases_eq (word_at w.words claim_word) c) [
         | inl here ↦ subst P (sym (eq-eqb (word_at w.words claim_word) c here)) (record {
           words = let wide = K.wide in rises_set k w.words claim_word (c + n) (omega arith) (λ low. omega arith);
@@ -94,7 +99,8 @@ module _ {T : Type 0} where
   rose_step k (SenderLooksAtCount p f) w u H K = subst (Rose k w) (sym H.2.1) (same_stages k w _ (stays k w w.words) refl)
   rose_step k (SenderClaims p c n) w u H K = subst (Rose k w) (sym H.2.2) (claims k w p c n H.0 K)
   rose_step k (SenderPublishes p s events) w u H K =
-      along_all k p (Rose k w) (λ q event v x P L rose. rose_on k w v x rose (rose_one k p q event v x P L)) s events w u H.1 K (same_stages k w w (stays k w w.words) refl)
+      along_all k p (Rose k w) (λ q event v x P L rose. rose_on k w v x rose (rose_one k p q event v x P L))
+      s events w u H.1 K (same_stages k w w (stays k w w.words) refl)
   rose_step k (SenderLooksAtMark p s) w u H K = subst (Rose k w) (sym H.2) (same_stages k w _ (stays k w w.words) refl)
   rose_step k (SenderHalts p) w u H K = subst (Rose k w) (sym H.2) (same_stages k w _ (halts k w K) refl)
   rose_step k (ReceiverLooksAtClaims h) w u H K = subst (Rose k w) (sym H.2) (same_stages k w _ (stays k w w.words) refl)

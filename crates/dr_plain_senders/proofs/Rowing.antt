@@ -8,16 +8,16 @@ use Rattle.dr_cells.specs.declared.token.Token.{Token}
 use Rattle.dr_cells.specs.Tokens.{no_token}
 use Rattle.dr_runs.specs.Stretches.{stretch}
 use Rattle.dr_runs.proofs.Rows.{length_stretch, stretch_at, replicate_at}
+use Rattle.dr_lent.proofs.Lists.{drop_seam, take_seam}
+use Rattle.dr_lent.proofs.Trading.{was_there}
+use Rattle.dr_lent.specs.declared.lent.Lent.{Lent}
 use Rattle.dr_plain_senders.specs.Meaning.Shape.{Shape, handlers_of}
 use Rattle.dr_plain_senders.specs.Meaning.Words.{lanes_of, slot_of}
 use Rattle.dr_plain_senders.specs.Meaning.Lying.{Laid, unlent, lent, kept_of, placed}
-use Rattle.dr_plain_senders.specs.declared.record.Lent.{Lent}
 use Rattle.dr_plain_senders.specs.Calls.Ends.{EndOf}
 use Rattle.dr_plain_senders.specs.Inside.Hands.{nothings, with_hand, blank_slot}
 use Rattle.dr_plain_senders.specs.Inside.Rows.{row, blank_row, parts_row, blank_parts}
 use Rattle.dr_plain_senders.specs.Inside.Seats.{Hand, IsOfRound}
-use Rattle.dr_plain_senders.proofs.Taken.{drop_seam, take_seam}
-use Rattle.dr_plain_senders.proofs.Trading.{was_there}
 
 pub blanks_count : (T : Type 0) (k : Shape T) (s : ℕ) → length (blank_parts {T = T} k s) ≡ handlers_of k
 blanks_count T k s =
@@ -90,7 +90,8 @@ module _ {T K : Type 0} (e : EndOf T K) (k : Shape T) (s : ℕ) (a : Laid T) (ot
       omega (arith, length-append (parts_row k s a) (others ++ (slot, no_token) ∷ []))
 
   -- where nothing is lent the parts are only turned
-  pub turned_parts : (slot count : ℕ) (e1 e2 : EndOf T K) (x : T) → a ≡ unlent x → count ≡ handlers_of k → e1 ≡ with_hand e (rest e.hand ++ (slot, no_token) ∷ [])
+  pub turned_parts : (slot count : ℕ) (e1 e2 : EndOf T K) (x : T) → a ≡ unlent x
+      → count ≡ handlers_of k → e1 ≡ with_hand e (rest e.hand ++ (slot, no_token) ∷ [])
       → e2 ≡ with_hand e1 (drop count e1.hand ++ take count e1.hand) → e2 ≡ with_hand e1 (drop (handlers_of k) e1.hand ++ blank_parts k s)
   turned_parts slot count e1 e2 x nothing same first last =
       let n = handlers_of k in

@@ -1,5 +1,6 @@
 -- A sender's slots and tokens, as rows are lent one after another.
-use Rattle.std.proofs.Common.{◌≡◌, ◌≢◌, ℕ, zero, suc, ◌+◌, ◌-◌, ◌*◌, ◌<◌, ◌≤◌, inl, inr, List, [], ◌∷◌, ◌++◌, length, set, drop, take, sym, refl, ap, ◌∙◌, subst, arith, append_assoc, length-set}
+use Rattle.std.proofs.Common.{◌≡◌, ◌≢◌, ℕ, zero, suc, ◌+◌, ◌-◌, ◌*◌, ◌<◌, ◌≤◌, inl, inr, List, [], ◌∷◌, ◌++◌, length, set, drop, take, sym, refl, ap}
+use Rattle.std.proofs.Common.{◌∙◌, subst, arith, append_assoc, length-set}
 use Rattle.std.proofs.lemmas.List.{append-nil, length-append, length-map}
 use Rattle.std.proofs.Math.Nat.{mul-suc}
 use Rattle.std.specs.Prelude.{Some}
@@ -10,17 +11,17 @@ use Rattle.dr_cells.specs.declared.token.Token.{Token}
 use Rattle.dr_cells.specs.Hold.{held}
 use Rattle.dr_cells.specs.Tokens.{no_token}
 use Rattle.dr_seq.proofs.Apart.{slots_differ}
+use Rattle.dr_lent.proofs.Lists.{drop_seam, take_seam}
+use Rattle.dr_lent.specs.declared.lent.Lent.{Lent}
 use Rattle.dr_plain_senders.specs.Meaning.Shape.{Shape}
 use Rattle.dr_plain_senders.specs.Meaning.Words.{cell_of, lanes_of}
 use Rattle.dr_plain_senders.specs.Meaning.Lying.{lent}
-use Rattle.dr_plain_senders.specs.declared.record.Lent.{Lent}
 use Rattle.dr_plain_senders.specs.Calls.Ends.{EndOf}
 use Rattle.dr_plain_senders.specs.Inside.Hands.{with_hand}
 use Rattle.dr_plain_senders.specs.Inside.Publishing.{LendsCells, AreWhole, cleared}
 use Rattle.dr_plain_senders.specs.Inside.Rows.{row, blank_row, blank_rows, IsWholeOf}
 use Rattle.dr_plain_senders.specs.Inside.Seats.{Hand, given_by_publication, lent_all}
 use Rattle.dr_plain_senders.proofs.Places.{more_cases}
-use Rattle.dr_plain_senders.proofs.Taken.{drop_seam, take_seam}
 use Rattle.dr_plain_senders.proofs.Rowing.{row_count, blank_row_count}
 use Rattle.dr_plain_senders.proofs.Collecting.{rows_count}
 
@@ -31,7 +32,8 @@ blank_rows_count T k s (suc n) = let more = blank_rows_count T k (s + 1) n in
 
 module _ {T : Type 0} where
   -- one row more is lent
-  given_more : (k : Shape T) (s t : ℕ) (ls : List (Lent T)) (l : Lent T) → s + length ls ≡ t → given_by_publication k s ls ++ row k t (lent l) ≡ given_by_publication k s (ls ++ l ∷ [])
+  given_more : (k : Shape T) (s t : ℕ) (ls : List (Lent T)) (l : Lent T) → s + length ls ≡ t
+      → given_by_publication k s ls ++ row k t (lent l) ≡ given_by_publication k s (ls ++ l ∷ [])
   given_more k s t [] l at = let e : t ≡ s = omega arith in
       ap (λ (q : ℕ). row k q (lent l)) e ∙ sym (append-nil (row k s (lent l)))
   given_more k s t (x ∷ ls) l at =
@@ -49,20 +51,25 @@ module _ {T : Type 0} where
   cleared_count k tokens s (suc n) = cleared_count k (set tokens (cell_of k s) no_token) (s + 1) n ∙ length-set tokens (cell_of k s) no_token
 
   -- the tokens of all other cells stay
-  cleared_else : (k : Shape T) (tokens : List (Token T)) (s n i : ℕ) → ((q : ℕ) → s ≤ q → q < s + n → i ≢ cell_of k q) → get_elem? (cleared k tokens s n) i ≡ get_elem? tokens i
+  cleared_else : (k : Shape T) (tokens : List (Token T)) (s n i : ℕ)
+      → ((q : ℕ) → s ≤ q → q < s + n → i ≢ cell_of k q) → get_elem? (cleared k tokens s n) i ≡ get_elem? tokens i
   cleared_else k tokens s zero i apart = refl
   cleared_else k tokens s (suc n) i apart =
       cleared_else k (set tokens (cell_of k s) no_token) (s + 1) n i (λ q low high. apart q (omega arith) (omega arith))
       ∙ set_else tokens (cell_of k s) i no_token (apart s (omega arith) (omega arith))
 
-  pub next_cell : (k : Shape T) (tokens : List (Token T)) (s n : ℕ) → n < k.size → get_elem? (cleared k tokens s n) (cell_of k (s + n)) ≡ get_elem? tokens (cell_of k (s + n))
-  next_cell k tokens s n lt = cleared_else k tokens s n (cell_of k (s + n)) (λ q low high. slots_differ k.size (s + n) q (λ (e : s + n ≡ q). omega arith) (omega arith) (omega arith))
+  pub next_cell : (k : Shape T) (tokens : List (Token T)) (s n : ℕ) → n < k.size
+      → get_elem? (cleared k tokens s n) (cell_of k (s + n)) ≡ get_elem? tokens (cell_of k (s + n))
+  next_cell k tokens s n lt =
+      cleared_else k tokens s n (cell_of k (s + n)) (λ q low high. slots_differ k.size (s + n) q (λ (e : s + n ≡ q). omega arith) (omega arith) (omega arith))
 
 -- a row that is lent goes behind
 module _ {T K : Type 0} (e : EndOf T K) (k : Shape T) (s : ℕ) (l : Lent T) (e1 : EndOf T K) where
   pub row_room : (slots : ℕ) → slots ≡ lanes_of k → e1 ≡ with_hand e (row k s (lent l) ++ drop (lanes_of k) e.hand) → slots ≤ length e1.hand
   row_room slots same new =
-      let long = ap (λ (x : EndOf T K). length x.hand) new in let n = row_count k s (lent l) in omega (arith, length-append (row k s (lent l)) (drop (lanes_of k) e.hand))
+      let long = ap (λ (x : EndOf T K). length x.hand) new in
+      let n = row_count k s (lent l) in
+      omega (arith, length-append (row k s (lent l)) (drop (lanes_of k) e.hand))
 
   pub row_behind : (e2 : EndOf T K) (slots : ℕ) → slots ≡ lanes_of k → e1 ≡ with_hand e (row k s (lent l) ++ drop (lanes_of k) e.hand)
       → e2 ≡ with_hand e1 (drop slots e1.hand ++ take slots e1.hand) → e2 ≡ with_hand e (drop (lanes_of k) e.hand ++ row k s (lent l))
@@ -86,7 +93,8 @@ module _ {T K : Type 0} (e : EndOf T K) (k : Shape T) (tokens : List (Token T)) 
     pub tokens_left : left ≡ cleared k tokens first (s - first)
 
   others_are : (behind : Hand T) → e.hand ≡ blank_rows k first n ++ behind → others ≡ behind
-  others_are behind is = ap (λ (h : Hand T). drop (lanes_of k * n) h) is ∙ drop_seam (blank_rows k first n) behind (lanes_of k * n) (blank_rows_count T k first n)
+  others_are behind is =
+      ap (λ (h : Hand T). drop (lanes_of k * n) h) is ∙ drop_seam (blank_rows k first n) behind (lanes_of k * n) (blank_rows_count T k first n)
 
   pub others_count : (behind : Hand T) (m : ℕ) → e.hand ≡ blank_rows k first n ++ behind → length behind ≡ m → length others ≡ m
   others_count behind m is many = ap length (others_are behind is) ∙ many
@@ -114,17 +122,27 @@ module _ {T K : Type 0} (e : EndOf T K) (k : Shape T) (tokens : List (Token T)) 
   pub rest_count : (s m : ℕ) (now : EndOf T K) (left : List (Token T)) → (L : Lending s now left) → s < first + n → length others ≡ m
       → length (blank_rows k (s + 1) (first + n - (s + 1)) ++ (others ++ given_by_publication k first L.lents)) ≡ m + lanes_of k * (n - 1)
   rest_count s m now left L lt count =
-      let many = L.many in let low = L.low in let j = first + n - (s + 1) in let rows : Hand T = blank_rows k (s + 1) j in let given : Hand T = given_by_publication k first L.lents in
-      let all : lanes_of k * (n - 1) ≡ lanes_of k * (j + length L.lents) = (let e : n - 1 ≡ j + length L.lents = omega arith in ap (λ (q : ℕ). lanes_of k * q) e) in
+      let many = L.many in
+      let low = L.low in
+      let j = first + n - (s + 1) in
+      let rows : Hand T = blank_rows k (s + 1) j in
+      let given : Hand T = given_by_publication k first L.lents in
+      let all : lanes_of k * (n - 1) ≡ lanes_of k * (j + length L.lents) =
+      (let e : n - 1 ≡ j + length L.lents = omega arith in ap (λ (q : ℕ). lanes_of k * q) e) in
       let a : length rows ≡ lanes_of k * j = blank_rows_count T k (s + 1) j in
-      let b : length given ≡ lanes_of k * length L.lents = rows_count k first (lent_all L.lents) ∙ ap (λ (q : ℕ). lanes_of k * q) (length-map L.lents (λ (l : Lent T). lent l)) in
+      let b : length given ≡ lanes_of k * length L.lents =
+      rows_count k first (lent_all L.lents) ∙ ap (λ (q : ℕ). lanes_of k * q) (length-map L.lents (λ (l : Lent T). lent l)) in
       omega (arith, length-append rows (others ++ given), length-append others given)
 
-  pub lending_more : (s place : ℕ) (now next : EndOf T K) (left left' : List (Token T)) (l : Lent T) (t u : Token T) → (L : Lending s now left) → s < first + n → n ≤ k.size
+  pub lending_more : (s place : ℕ) (now next : EndOf T K) (left left' : List (Token T)) (l : Lent T) (t u : Token T)
+      → (L : Lending s now left) → s < first + n → n ≤ k.size
       → place ≡ cell_of k s → get_elem? left place ≡ some t → held t.hold ≡ Some l.event → left' ≡ set left place u → u ≡ no_token
       → next ≡ with_hand now (drop (lanes_of k) now.hand ++ row k s (lent l)) → Lending (s + 1) next left'
   lending_more s place now next left left' l t u L lt few at there holds put none new =
-      let low = L.low in let many = L.many in let m = first + n - (s + 1) in let rest : Hand T = blank_rows k (s + 1) m ++ (others ++ given_by_publication k first L.lents) in
+      let low = L.low in
+      let many = L.many in
+      let m = first + n - (s + 1) in
+      let rest : Hand T = blank_rows k (s + 1) m ++ (others ++ given_by_publication k first L.lents) in
       let here : first + (s - first) ≡ s = omega arith in let more : suc (s - first) ≡ s + 1 - first = omega arith in
       let lent_now : Lent T → ℕ → Type 0 = λ x i. (y : Token T) × (get_elem? tokens (cell_of k (first + i)) ≡ some y) × (held y.hold ≡ Some x.event) in
       let was : get_elem? tokens (cell_of k s) ≡ some t =
@@ -146,7 +164,8 @@ module _ {T K : Type 0} (e : EndOf T K) (k : Shape T) (tokens : List (Token T)) 
               subst (λ (y : Lent T). lent_now y i) only.1 (t, ap (λ (q : ℕ). get_elem? tokens (cell_of k q)) e ∙ was, holds))
         ];
         is = new ∙ ap (λ (x : EndOf T K). with_hand x (drop (lanes_of k) now.hand ++ row k s (lent l))) L.is ∙ ap (λ (h : Hand T). with_hand e h) hand;
-        tokens_left = put ∙ (λ j. set (L.tokens_left j) (at j) (none j)) ∙ ap (λ (q : ℕ). set (cleared k tokens first (s - first)) (cell_of k q) no_token) (sym here)
+        tokens_left =
+            put ∙ (λ j. set (L.tokens_left j) (at j) (none j)) ∙ ap (λ (q : ℕ). set (cleared k tokens first (s - first)) (cell_of k q) no_token) (sym here)
             ∙ cleared_more k tokens first (s - first) ∙ ap (cleared k tokens first) more;
       }
     where
@@ -155,12 +174,14 @@ module _ {T K : Type 0} (e : EndOf T K) (k : Shape T) (tokens : List (Token T)) 
       only_one (suc j) x y at_y = absurd (some-ne-none x (sym at_y))
 
   -- the cell of the next sequence is whole
-  pub next_whole : (s place : ℕ) (now : EndOf T K) (left : List (Token T)) (t : Token T) → Lending s now left → s < first + n → n ≤ k.size → AreWhole k tokens first n → place ≡ cell_of k s
+  pub next_whole : (s place : ℕ) (now : EndOf T K) (left : List (Token T)) (t : Token T)
+      → Lending s now left → s < first + n → n ≤ k.size → AreWhole k tokens first n → place ≡ cell_of k s
       → get_elem? left place ≡ some t → IsWholeOf k s t
   next_whole s place now left t L lt few W at there =
       let low = L.low in let here : first + (s - first) ≡ s = omega arith in
       let was : get_elem? tokens (cell_of k (first + (s - first))) ≡ some t =
-      sym (next_cell k tokens first (s - first) (omega arith)) ∙ (λ j. get_elem? (sym L.tokens_left j) (cell_of k (here j))) ∙ ap (λ (i : ℕ). get_elem? left i) (sym at) ∙ there in
+      sym (next_cell k tokens first (s - first) (omega arith))
+      ∙ (λ j. get_elem? (sym L.tokens_left j) (cell_of k (here j))) ∙ ap (λ (i : ℕ). get_elem? left i) (sym at) ∙ there in
       subst (λ (q : ℕ). IsWholeOf k q t) here (W (s - first) t (omega arith) was)
 
   -- once all are lent, the rows come first again

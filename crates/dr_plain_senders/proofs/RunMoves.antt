@@ -1,5 +1,6 @@
 -- What a publication of many sequences does: what one after another would.
-use Rattle.std.proofs.Common.{◌≡◌, ◌≢◌, ℕ, suc, ◌+◌, ◌<◌, ◌≤◌, Bool, if◌then◌else◌, List, [], ◌∷◌, ◌++◌, length, set, None, sym, refl, ap, ◌∙◌, subst, arith, get_or-set_same}
+use Rattle.std.proofs.Common.{◌≡◌, ◌≢◌, ℕ, suc, ◌+◌, ◌<◌, ◌≤◌, Bool, if◌then◌else◌, List, [], ◌∷◌, ◌++◌, length, set, None, sym, refl, ap, ◌∙◌, subst}
+use Rattle.std.proofs.Common.{arith, get_or-set_same}
 use Rattle.std.proofs.lemmas.Bool.{ne_eqb}
 use Rattle.std.proofs.lemmas.List.{append-nil}
 use mathlib.Core.Option.{some}
@@ -10,9 +11,10 @@ use Rattle.dr_cells.specs.declared.token.Token.{Token}
 use Rattle.dr_runs.proofs.Elements.{at_below}
 use Rattle.dr_runs.proofs.Lists.{map_there}
 use Rattle.dr_runs.proofs.Stretches.{filled}
+use Rattle.dr_lent.proofs.Lists.{set_twice}
+use Rattle.dr_lent.specs.declared.lent.Lent.{Lent}
 use Rattle.dr_plain_senders.specs.Meaning.Shape.{Shape}
 use Rattle.dr_plain_senders.specs.Meaning.Words.{mark_word, mark_bit, in_word, flipped}
-use Rattle.dr_plain_senders.specs.declared.record.Lent.{Lent}
 use Rattle.dr_plain_senders.specs.declared.record.Stage.{Stage}
 use Rattle.dr_plain_senders.specs.declared.record.Own.{Own}
 use Rattle.dr_plain_senders.specs.declared.record.SenderRecord.{SenderRecord}
@@ -22,7 +24,7 @@ use Rattle.dr_plain_senders.specs.Meaning.Lying.{lent, Lies}
 use Rattle.dr_plain_senders.specs.Meaning.Steps.{PublishesAll, sender_publishes}
 use Rattle.dr_plain_senders.specs.Inside.Rows.{row}
 use Rattle.dr_plain_senders.specs.Inside.Seats.{Hand, given_by_publication}
-use Rattle.dr_plain_senders.proofs.Places.{word_at, set_twice}
+use Rattle.dr_plain_senders.proofs.Places.{word_at}
 use Rattle.dr_plain_senders.proofs.Facts.{near_open, owned}
 use Rattle.dr_plain_senders.proofs.Bits.{mark_inside, same_word, next_bit, left_in_word, flip_more}
 use Rattle.dr_plain_senders.proofs.KeepsPublishes.{keeps_publishes}
@@ -61,7 +63,8 @@ module _ {T : Type 0} where
   filled_both homes [] ys = refl
   filled_both homes (x ∷ xs) ys = filled_both (set homes x.0 (some x.1)) xs ys
 
-  joined : (k : Shape T) (s : ℕ) (l : Lent T) (ls : List (Lent T)) → given_by_publication k s (l ∷ []) ++ given_by_publication k (s + 1) ls ≡ given_by_publication k s (l ∷ ls)
+  joined : (k : Shape T) (s : ℕ) (l : Lent T) (ls : List (Lent T))
+      → given_by_publication k s (l ∷ []) ++ given_by_publication k (s + 1) ls ≡ given_by_publication k s (l ∷ ls)
   joined k s l ls = ap (λ (h : Hand T). h ++ given_by_publication k (s + 1) ls) (append-nil (row k s (lent l)))
 
   -- the rows of the first, and then of all others, are those of all
@@ -72,7 +75,8 @@ module _ {T : Type 0} where
       sym (filled_both homes first rest) ∙ ap (filled homes) (joined k s l ls)
 
   -- once some are published, in a world that one after another leads to
-  pub record PublishesMany (k : Shape T) (w : World T) (r : SenderRecord T) (s : ℕ) (lents : List (Lent T)) (homes : List (maybe.Option (Token T))) : Type 0 where
+  pub record PublishesMany (k : Shape T) (w : World T) (r : SenderRecord T) (s : ℕ)
+      (lents : List (Lent T)) (homes : List (maybe.Option (Token T))) : Type 0 where
     pub after : World T
     pub happens : PublishesAll k r.number s (events_of lents) w after
     pub words : after.words ≡ set w.words (mark_word k s) (flipped (word_at w.words (mark_word k s)) (mark_bit k s) (length lents))
@@ -81,7 +85,8 @@ module _ {T : Type 0} where
     pub halter : after.halter ≡ w.halter
     pub lies : Lies k after (filled homes (given_by_publication k s lents))
 
-  pub publishes_many : (k : Shape T) (w : World T) (r : SenderRecord T) (s : ℕ) (lents : List (Lent T)) (homes : List (maybe.Option (Token T))) → get_elem? w.senders r.number ≡ some r
+  pub publishes_many : (k : Shape T) (w : World T) (r : SenderRecord T) (s : ℕ) (lents : List (Lent T)) (homes : List (maybe.Option (Token T)))
+      → get_elem? w.senders r.number ≡ some r
       → 0 < length lents → length lents ≤ in_word k s → MayPublish r s (length lents) → KeepsRule k w → Lies k w homes → PublishesMany k w r s lents homes
   publishes_many k w r s [] homes at some_one few may K lies = absurd (omega arith)
   publishes_many k w r s (l ∷ []) homes at some_one few may K lies =
@@ -100,7 +105,8 @@ module _ {T : Type 0} where
       let here = (owned k w r.number r s own.0 t at own.1 K).1 in let near = near_open k w s t here x.2 K in let pos = K.shape.some_slot in let wide = K.wide in
       let q = brought r s (published l) in let one = sender_publishes k w r.number r s t l in let more : 1 < in_word k s = omega arith in
       let inside = mark_inside k s pos in let left = left_in_word k s 1 more in
-      let rest = publishes_many k one q (s + 1) (m ∷ ls) (filled homes (given_by_publication k s (l ∷ []))) (set_here w.senders r.number q (at_below w.senders r.number r at))
+      let rest = publishes_many k one q (s + 1) (m ∷ ls) (filled homes (given_by_publication k s (l ∷ [])))
+      (set_here w.senders r.number q (at_below w.senders r.number r at))
       (omega arith) (omega arith) (may_rest r s (length (m ∷ ls)) l may) (keeps_publishes k w r.number s own.0 r t l at own.1 x.2 K)
       (publishes_give k pos w.receivers w.stages s t l homes lies K.outlets here x.2 near) in record {
         after = rest.after;

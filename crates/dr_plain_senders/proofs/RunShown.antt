@@ -1,5 +1,6 @@
 -- What a publication of many sequences leaves of a sender's fields: what one after another would.
-use Rattle.std.proofs.Common.{◌≡◌, ◌≢◌, ◌⊎◌, ℕ, zero, suc, ◌+◌, ◌-◌, ◌*◌, ◌%◌, ◌<◌, ◌≤◌, inl, inr, Bool, true, false, not, List, [], ◌∷◌, ◌++◌, length, set, drop, take, sym, refl, ap, ◌∙◌, subst, arith, append_assoc, length-set}
+use Rattle.std.proofs.Common.{◌≡◌, ◌≢◌, ◌⊎◌, ℕ, zero, suc, ◌+◌, ◌-◌, ◌*◌, ◌%◌, ◌<◌, ◌≤◌, inl, inr, Bool, true, false, not, List, [], ◌∷◌, ◌++◌}
+use Rattle.std.proofs.Common.{length, set, drop, take, sym, refl, ap, ◌∙◌, subst, arith, append_assoc, length-set}
 use Rattle.std.proofs.lemmas.Bool.{cases_eq, false_from_ne_true}
 use Rattle.std.proofs.lemmas.List.{length-append}
 use Rattle.std.specs.Prelude.{None}
@@ -14,16 +15,17 @@ use Rattle.dr_seq.proofs.Apart.{slots_differ}
 use Rattle.dr_seq.proofs.Stamped.{stamped-none, stamped-more}
 use Rattle.dr_runs.specs.Runs.{IsBeginning}
 use Rattle.dr_runs.proofs.Elements.{at_below}
+use Rattle.dr_lent.proofs.Lists.{drop_seam, take_seam}
+use Rattle.dr_lent.specs.declared.lent.Lent.{Lent}
 use Rattle.dr_plain_senders.specs.Meaning.Shape.{Shape}
 use Rattle.dr_plain_senders.specs.Meaning.Words.{cell_of, lanes_of, in_word}
 use Rattle.dr_plain_senders.specs.Meaning.Records.{Owns, events_of, has_published}
-use Rattle.dr_plain_senders.specs.declared.owned.Owned.{Owned}
-use Rattle.dr_plain_senders.specs.declared.record.Lent.{Lent}
 use Rattle.dr_plain_senders.specs.declared.record.Stage.{Stage}
 use Rattle.dr_plain_senders.specs.declared.record.SenderRecord.{SenderRecord}
 use Rattle.dr_plain_senders.specs.declared.record.Step.TheVariants.{SenderPublishes}
 use Rattle.dr_plain_senders.specs.Calls.Ends.{SenderStand, HasStored}
-use Rattle.dr_plain_senders.specs.Inside.Fits.{SenderFits, is_open, is_ready, open_count, open_rows}
+use Rattle.dr_plain_senders.specs.Inside.Fits.{SenderFits, open_count, open_rows}
+use Rattle.dr_plain_senders.specs.Inside.Owned.{Owned, is_open, is_ready}
 use Rattle.dr_plain_senders.specs.Inside.Hands.{with_hand}
 use Rattle.dr_plain_senders.specs.Inside.Publishing.{ArePublic, HasPublishedRun, LendsCells, AreWhole, cleared}
 use Rattle.dr_plain_senders.specs.Inside.Rows.{blank_rows}
@@ -34,7 +36,6 @@ use Rattle.dr_plain_senders.proofs.Opened.{open_slots, open_both, open_none, ope
 use Rattle.dr_plain_senders.proofs.RowsLent.{blank_rows_count}
 use Rattle.dr_plain_senders.proofs.Publications.{public_first, public_next, public_both}
 use Rattle.dr_plain_senders.proofs.Showing.{fits_shown, before_it, behind_it, mine, now, closed_here, open_beside}
-use Rattle.dr_plain_senders.proofs.Taken.{drop_seam, take_seam}
 
 -- a sender's marks once n sequences from s on are published
 abbrev pub all_shown : ℕ → ℕ → Owned → Owned
@@ -55,7 +56,9 @@ stamped_first f xs s (suc n) =
 all_stamped : (s n : ℕ) (o : Owned) → all_shown s n o ≡ record o { published = stamped (entry_of (length o.published)) o.published s n }
 all_stamped s zero o = ap (λ (xs : List ℕ). record o { published = xs }) (sym (stamped-none (entry_of (length o.published)) o.published s))
 all_stamped s (suc n) o =
-    let m = length o.published in let one : List ℕ = set o.published (s % m) (entry_of m s) in let len : length one ≡ m = length-set o.published (s % m) (entry_of m s) in
+    let m = length o.published in
+    let one : List ℕ = set o.published (s % m) (entry_of m s) in
+    let len : length one ≡ m = length-set o.published (s % m) (entry_of m s) in
     let z : n + 1 ≡ suc n = omega arith in
     all_stamped (s + 1) n (record o { published = one }) ∙ ap (λ (x : ℕ). record o { published = stamped (entry_of x) one (s + 1) n }) len
     ∙ ap (λ (xs : List ℕ). record o { published = xs }) (stamped_first (entry_of m) o.published s n)
@@ -68,7 +71,8 @@ module _ {T : Type 0} where
 
   pub record AreShown (e : SenderStand T) (o : Owned) (end : ℕ) (ts : List (Token T)) (s : ℕ) (lents : List (Lent T)) : Type 0 where
     pub fits : SenderFits (shown_stand e o end s lents) (all_shown s (length lents) o) end (cleared e.plan ts s (length lents))
-    pub all : ArePublic e.plan e.knows o ts s (s + length lents) lents (has_published e.knows s lents) (all_shown s (length lents) o) (cleared e.plan ts s (length lents))
+    pub all : ArePublic e.plan e.knows o ts s (s + length lents) lents (has_published e.knows s lents)
+        (all_shown s (length lents) o) (cleared e.plan ts s (length lents))
     pub outside : (q : ℕ) → (q < s) ⊎ (s + length lents ≤ q) → is_open (all_shown s (length lents) o) q ≡ is_open o q
     pub inside : (q : ℕ) → s ≤ q → q < s + length lents → is_open (all_shown s (length lents) o) q ≡ false
 
@@ -85,12 +89,18 @@ module _ {T : Type 0} where
       let opened = first_of (is_open o s) (is_marked o.written s) can in
       let x = lends 0 l refl in let at : get_elem? ts (cell_of k s) ≡ some x.0 = ap (λ (q : ℕ). get_elem? ts (cell_of k q)) (sym z) ∙ x.1 in
       let low = end - k.size in let b1 = now e o end s low ts pos F opened refl in let ts1 : List (Token T) = set ts (cell_of k s) no_token in
-      let e1 : SenderStand T = record e { knows = has_published e.knows s (l ∷ []); hand = before_it e o end s low ts pos F opened refl ++ behind_it e o end s low ts pos F opened refl } in
+      let e1 : SenderStand T = record e {
+        knows = has_published e.knows s (l ∷ []);
+        hand = before_it e o end s low ts pos F opened refl ++ behind_it e o end s low ts pos F opened refl;
+      } in
       let F1 = fits_shown e o end s low ts pos F opened refl l e1 b1 ts1 (cell_of k s) refl refl refl refl refl refl in
-      let P1 = public_next k e.knows o ts s s end e o ts [] refl (public_first k e.knows o ts s) F (omega arith) can e1.knows b1 ts1 l x.0 at x.2 refl refl refl in
-      let lends1 : LendsCells k ts1 (s + 1) ls = λ i y at_y. (let there_at = lends (suc i) y at_y in let inside = at_below ls i y at_y in let e : s + suc i ≡ s + 1 + i = omega arith in (
+      let P1 =
+      public_next k e.knows o ts s s end e o ts [] refl (public_first k e.knows o ts s) F (omega arith) can e1.knows b1 ts1 l x.0 at x.2 refl refl refl in
+      let lends1 : LendsCells k ts1 (s + 1) ls =
+      λ i y at_y. (let there_at = lends (suc i) y at_y in let inside = at_below ls i y at_y in let e : s + suc i ≡ s + 1 + i = omega arith in (
         there_at.0,
-        set_else ts (cell_of k s) (cell_of k (s + 1 + i)) no_token (slots_differ k.size (s + 1 + i) s (λ (same : s + 1 + i ≡ s). omega arith) (omega arith) (omega arith))
+        set_else ts (cell_of k s) (cell_of k (s + 1 + i)) no_token
+            (slots_differ k.size (s + 1 + i) s (λ (same : s + 1 + i ≡ s). omega arith) (omega arith) (omega arith))
             ∙ ap (λ (q : ℕ). get_elem? ts (cell_of k q)) (sym e) ∙ there_at.1,
         there_at.2,
       )) in
@@ -100,8 +110,12 @@ module _ {T : Type 0} where
       let has = mine e o end s low ts pos F opened refl in
       let beside = open_beside k e.knows o s pos F.marks has in let more : s + 1 + length ls ≡ s + suc (length ls) = omega arith in record {
         fits = rest.fits;
-        all = subst (λ (q : ℕ). ArePublic k e.knows o ts s q (l ∷ ls) (has_published e.knows s (l ∷ ls)) (all_shown s (suc (length ls)) o) (cleared k ts s (suc (length ls)))) more
-            (public_both k e.knows e1.knows (has_published e.knows s (l ∷ ls)) o b1 (all_shown s (suc (length ls)) o) ts ts1 (cleared k ts s (suc (length ls))) s (s + 1) (s + 1 + length ls)
+        all =
+            subst (λ (q : ℕ).
+            ArePublic k e.knows o ts s q (l ∷ ls) (has_published e.knows s (l ∷ ls)) (all_shown s (suc (length ls)) o) (cleared k ts s (suc (length ls))))
+            more
+            (public_both k e.knows e1.knows (has_published e.knows s (l ∷ ls)) o b1 (all_shown s (suc (length ls)) o)
+            ts ts1 (cleared k ts s (suc (length ls))) s (s + 1) (s + 1 + length ls)
             (l ∷ []) ls (omega arith) P1 rest.all);
         outside = λ q out. (let further : (q < s + 1) ⊎ (s + 1 + length ls ≤ q) = elim out [ inl a ↦ inl (omega arith) | inr a ↦ inr (omega arith) ] in
             let ne : q ≢ s = λ (same : q ≡ s). elim out [ inl a ↦ omega arith | inr a ↦ omega arith ] in rest.outside q further ∙ beside q ne);
@@ -115,7 +129,10 @@ module _ {T : Type 0} where
   pub open_between : (k : Shape T) (js : ℕ → Bool) (low s n end : ℕ) → low ≤ s → s + n ≤ end → ((q : ℕ) → q < low → js q ≡ false)
       → open_rows {T = T} k js 0 end ≡ open_rows k js low (s - low) ++ (open_rows k js s n ++ open_rows k js (s + n) (end - (s + n)))
   open_between k js low s n end le within none =
-      let m = end - (s + n) in let all : end ≡ low + ((s - low) + (n + m)) = omega arith in let z : 0 + low ≡ low = omega arith in let at : low + (s - low) ≡ s = omega arith in
+      let m = end - (s + n) in
+      let all : end ≡ low + ((s - low) + (n + m)) = omega arith in
+      let z : 0 + low ≡ low = omega arith in
+      let at : low + (s - low) ≡ s = omega arith in
       ap (λ (x : ℕ). open_rows {T = T} k js 0 x) all ∙ open_both k js 0 low ((s - low) + (n + m))
       ∙ ap (λ (h : Hand T). h ++ open_rows k js (0 + low) ((s - low) + (n + m))) (open_none k js 0 low (λ q a b. none q (omega arith)))
       ∙ ap (λ (q : ℕ). open_rows {T = T} k js q ((s - low) + (n + m))) z ∙ open_both k js low (s - low) (n + m)
@@ -142,7 +159,11 @@ module _ {T : Type 0} {e : SenderStand T} {o : Owned} {end s n : ℕ} {ts : List
 
   pub may_publish : (i : ℕ) → i < n → (t : Stage T) × Owns e.knows (s + i) t × (t.lent ≡ None)
   may_publish i lt =
-      let q = s + i in let is = opened i lt in let F = R.fits.marks in let has = first_of (is_marked o.claimed q) (not (is_marked o.published q)) is in let own = F.own q has in
+      let q = s + i in
+      let is = opened i lt in
+      let F = R.fits.marks in
+      let has = first_of (is_marked o.claimed q) (not (is_marked o.published q)) is in
+      let own = F.own q has in
       let hidden = F.shown q own.0 own.1 has ∙ unhidden (is_marked o.published q) (second_of (is_marked o.claimed q) (not (is_marked o.published q)) is) in
       (own.0, own.1, no_lent own.0.lent hidden)
 
@@ -164,18 +185,22 @@ module _ {T : Type 0} {e : SenderStand T} {o : Owned} {end s n : ℕ} {ts : List
   behind = open_rows e.plan (is_open o) (s + n) (end - (s + n))
 
   -- so many slots they have
-  pub slots_before : (from slots count : ℕ) → from ≡ low → slots ≡ lanes_of e.plan → count ≡ open_count (is_open o) from (s - from) → length before ≡ slots * count
+  pub slots_before : (from slots count : ℕ) → from ≡ low → slots ≡ lanes_of e.plan
+      → count ≡ open_count (is_open o) from (s - from) → length before ≡ slots * count
   slots_before from slots count at lanes is =
       open_slots T e.plan (is_open o) low (s - low) ∙ (λ i. sym lanes i * open_count (is_open o) (sym at i) (s - sym at i)) ∙ ap (λ (m : ℕ). slots * m) (sym is)
 
-  pub slots_behind : (from slots count : ℕ) → s + n ≡ from → slots ≡ lanes_of e.plan → count ≡ open_count (is_open o) from (end - from) → length behind ≡ slots * count
+  pub slots_behind : (from slots count : ℕ) → s + n ≡ from → slots ≡ lanes_of e.plan
+      → count ≡ open_count (is_open o) from (end - from) → length behind ≡ slots * count
   slots_behind from slots count at lanes is =
-      open_slots T e.plan (is_open o) (s + n) (end - (s + n)) ∙ (λ i. sym lanes i * open_count (is_open o) (at i) (end - at i)) ∙ ap (λ (m : ℕ). slots * m) (sym is)
+      open_slots T e.plan (is_open o) (s + n) (end - (s + n))
+      ∙ (λ i. sym lanes i * open_count (is_open o) (at i) (end - at i)) ∙ ap (λ (m : ℕ). slots * m) (sym is)
 
   pub hand_around : e.hand ≡ before ++ (blank_rows e.plan s n ++ behind)
   hand_around = let r = round in
       R.fits.hand ∙ open_between e.plan (is_open o) low s n end r.0 r.1 none_below
-      ∙ ap (λ (h : Hand T). before ++ (h ++ behind)) (open_all e.plan (is_open o) s n (λ q from to. (let z : s + (q - s) ≡ q = omega arith in ap (is_open o) (sym z) ∙ opened (q - s) (omega arith))))
+      ∙ ap (λ (h : Hand T). before ++ (h ++ behind))
+      (open_all e.plan (is_open o) s n (λ q from to. (let z : s + (q - s) ≡ q = omega arith in ap (is_open o) (sym z) ∙ opened (q - s) (omega arith))))
 
   pub before_room : (b : ℕ) → length before ≡ b → b ≤ length e.hand
   before_room b many = let long = ap length hand_around in omega (arith, length-append before (blank_rows e.plan s n ++ behind))
@@ -189,19 +214,24 @@ module _ {T : Type 0} {e : SenderStand T} {o : Owned} {end s n : ℕ} {ts : List
         ∙ ap (λ (x : SenderStand T). blank_rows x.plan s n ++ (behind ++ before)) (sym turned)
 
     -- and then are lent
-    pub rows_given : (lents : List (Lent T)) (e2 : SenderStand T) → e2 ≡ with_hand e1 (given_by_publication e1.plan s lents ++ drop (lanes_of e1.plan * n) e1.hand)
+    pub rows_given : (lents : List (Lent T)) (e2 : SenderStand T)
+        → e2 ≡ with_hand e1 (given_by_publication e1.plan s lents ++ drop (lanes_of e1.plan * n) e1.hand)
         → e2 ≡ with_hand e (given_by_publication e.plan s lents ++ (behind ++ before))
     rows_given lents e2 new =
         let given : Hand T = given_by_publication e.plan s lents in
         new ∙ ap (λ (h : Hand T). with_hand e1 (given_by_publication e1.plan s lents ++ drop (lanes_of e1.plan * n) h)) rows_first
-        ∙ ap (λ (x : SenderStand T). with_hand x (given_by_publication x.plan s lents ++ drop (lanes_of x.plan * n) (blank_rows x.plan s n ++ (behind ++ before)))) turned
-        ∙ ap (λ (h : Hand T). with_hand e (given ++ h)) (drop_seam (blank_rows e.plan s n) (behind ++ before) (lanes_of e.plan * n) (blank_rows_count T e.plan s n))
+        ∙ ap (λ (x : SenderStand T).
+        with_hand x (given_by_publication x.plan s lents ++ drop (lanes_of x.plan * n) (blank_rows x.plan s n ++ (behind ++ before))))
+        turned
+        ∙ ap (λ (h : Hand T). with_hand e (given ++ h))
+        (drop_seam (blank_rows e.plan s n) (behind ++ before) (lanes_of e.plan * n) (blank_rows_count T e.plan s n))
 
   pub behind_room : (a : ℕ) (e3 : SenderStand T) → length behind ≡ a → e3.hand ≡ behind ++ before → a ≤ length e3.hand
   behind_room a e3 many is = let long = ap length is in omega (arith, length-append behind before)
 
   -- the sender once their events are lent
-  module _ (lents : List (Lent T)) (many : length lents ≡ n) (e2 : SenderStand T) (given : e2 ≡ with_hand e (given_by_publication e.plan s lents ++ (behind ++ before))) where
+  module _ (lents : List (Lent T)) (many : length lents ≡ n) (e2 : SenderStand T)
+      (given : e2 ≡ with_hand e (given_by_publication e.plan s lents ++ (behind ++ before))) where
     pub word_given : n ≤ in_word e.plan s → n ≤ in_word e2.plan s
     word_given few = subst (λ (x : SenderStand T). n ≤ in_word x.plan s) (sym given) few
 
@@ -222,10 +252,12 @@ module _ {T : Type 0} {e : SenderStand T} {o : Owned} {end s n : ℕ} {ts : List
         let none : (q : ℕ) → q < low → js q ≡ false = λ q lt. S.outside q (inl (omega arith)) ∙ none_below q lt in
         let a : open_rows e.plan js low (s - low) ≡ before = open_same e.plan js (is_open o) low (s - low) (λ q x y. S.outside q (inl (omega arith))) in
         let b : open_rows {T = T} e.plan js s n ≡ [] = open_none e.plan js s n (λ q x y. S.inside q x (omega arith)) in
-        let d : open_rows e.plan js (s + n) (end - (s + n)) ≡ behind = open_same e.plan js (is_open o) (s + n) (end - (s + n)) (λ q x y. S.outside q (inr (omega arith))) in
+        let d : open_rows e.plan js (s + n) (end - (s + n)) ≡ behind =
+        open_same e.plan js (is_open o) (s + n) (end - (s + n)) (λ q x y. S.outside q (inr (omega arith))) in
         sym (open_between e.plan js low s n end r.0 r.1 none ∙ (λ i. a i ++ (b i ++ d i)))
 
-    fits_after : (e' : SenderStand T) (o' : Owned) (ts' : List (Token T)) → e'.plan ≡ e.plan → e'.knows ≡ has_published e.knows s lents → e'.hand ≡ before ++ behind
+    fits_after : (e' : SenderStand T) (o' : Owned) (ts' : List (Token T)) → e'.plan ≡ e.plan
+        → e'.knows ≡ has_published e.knows s lents → e'.hand ≡ before ++ behind
         → o' ≡ all_shown s (length lents) o → ts' ≡ cleared e.plan ts s n → SenderFits e' o' end ts'
     fits_after e' o' ts' plan knows hand is put =
         let G = shown.fits in let w = all_shown s (length lents) o in let xs = cleared e.plan ts s (length lents) in
@@ -234,22 +266,26 @@ module _ {T : Type 0} {e : SenderStand T} {o : Owned} {end s n : ℕ} {ts : List
         subst (λ (y : Shape T × SenderRecord T × Hand T × Owned × List (Token T)). SenderFits (record e' { plan = y.0; knows = y.1; hand = y.2 }) y.3 end y.4)
         (λ i. (sym plan i, sym knows i, sym (hand ∙ hand_left) i, sym is i, sym (put ∙ ap (cleared e.plan ts s) (sym many)) i)) begun
 
-    public_after : (r' : SenderRecord T) (o' : Owned) (ts' : List (Token T)) → r' ≡ has_published e.knows s lents → o' ≡ all_shown s (length lents) o → ts' ≡ cleared e.plan ts s n
+    public_after : (r' : SenderRecord T) (o' : Owned) (ts' : List (Token T))
+        → r' ≡ has_published e.knows s lents → o' ≡ all_shown s (length lents) o → ts' ≡ cleared e.plan ts s n
         → ArePublic e.plan e.knows o ts s (s + n) lents r' o' ts'
     public_after r' o' ts' knows is put =
         subst (λ (y : ℕ × SenderRecord T × Owned × List (Token T)). ArePublic e.plan e.knows o ts s (s + y.0) lents y.1 y.2 y.3)
         (λ i. (many i, sym knows i, sym is i, sym (put ∙ ap (cleared e.plan ts s) (sym many)) i)) shown.all
 
     -- the sender once all are published, and the rows that lay behind them lie behind those that lay before
-    pub run_shown : (e2 e3 e4 : SenderStand T) (a : ℕ) (o' : Owned) (ts' : List (Token T)) → e2 ≡ with_hand e (given_by_publication e.plan s lents ++ (behind ++ before))
+    pub run_shown : (e2 e3 e4 : SenderStand T) (a : ℕ) (o' : Owned) (ts' : List (Token T))
+        → e2 ≡ with_hand e (given_by_publication e.plan s lents ++ (behind ++ before))
         → HasStored e2 (SenderPublishes e2.knows.number s (events_of lents)) (has_published e2.knows s lents) (behind ++ before) e3 → length behind ≡ a
-        → e4 ≡ with_hand e3 (drop a e3.hand ++ take a e3.hand) → o' ≡ record o { published = stamped (entry_of (length o.published)) o.published s n } → ts' ≡ cleared e.plan ts s n
+        → e4 ≡ with_hand e3 (drop a e3.hand ++ take a e3.hand)
+        → o' ≡ record o { published = stamped (entry_of (length o.published)) o.published s n } → ts' ≡ cleared e.plan ts s n
         → SenderFits e4 o' end ts' × HasPublishedRun e o ts s (s + n) e4 o' ts'
     run_shown e2 e3 e4 a o' ts' given S count turned is put =
         let plan = ap (λ (x : SenderStand T). x.plan) turned ∙ S.0.1 ∙ ap (λ (x : SenderStand T). x.plan) given in
         let knows = ap (λ (x : SenderStand T). x.knows) turned ∙ S.1 ∙ ap (λ (x : SenderStand T). has_published x.knows s lents) given in
         let hand = ap (λ (x : SenderStand T). x.hand) turned ∙ ap (λ (h : Hand T). drop a h ++ take a h) S.2 ∙ turned_seam behind before a count in
-        let marks = is ∙ ap (λ (m : ℕ). record o { published = stamped (entry_of (length o.published)) o.published s m }) (sym many) ∙ sym (all_stamped s (length lents) o) in
+        let marks = is ∙ ap (λ (m : ℕ). record o { published = stamped (entry_of (length o.published)) o.published s m }) (sym many)
+        ∙ sym (all_stamped s (length lents) o) in
         let past = subst (λ (x : SenderStand T). IsBeginning x.past e3.past) given S.3 in (
           fits_after e4 o' ts' plan knows hand marks put,
           record {
@@ -257,6 +293,8 @@ module _ {T : Type 0} {e : SenderStand T} {o : Owned} {end s n : ℕ} {ts : List
             all = public_after e4.knows o' ts' knows marks put;
             stays = (ap (λ (x : SenderStand T). x.ring) turned ∙ S.0.0 ∙ ap (λ (x : SenderStand T). x.ring) given, plan);
             past = subst (λ (x : SenderStand T). IsBeginning e.past x.past) (sym turned) past;
-            stored = ap (λ (x : SenderStand T). x.stored) turned ∙ S.4 ∙ ap (λ (x : SenderStand T). x.stored ++ SenderPublishes x.knows.number s (events_of lents) ∷ []) given;
+            stored =
+                ap (λ (x : SenderStand T). x.stored) turned ∙ S.4
+                ∙ ap (λ (x : SenderStand T). x.stored ++ SenderPublishes x.knows.number s (events_of lents) ∷ []) given;
           },
         )

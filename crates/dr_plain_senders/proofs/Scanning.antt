@@ -1,5 +1,6 @@
 -- What looks at counts come to.
-use Rattle.std.proofs.Common.{◌≡◌, ℕ, zero, suc, ◌+◌, ◌<◌, ◌≤◌, ◌⊎◌, inl, inr, true, false, List, [], ◌∷◌, ◌++◌, length, get_or, take, sym, refl, ap, ◌∙◌, subst, arith, append_assoc}
+use Rattle.std.proofs.Common.{◌≡◌, ℕ, zero, suc, ◌+◌, ◌<◌, ◌≤◌, ◌⊎◌, inl, inr, true, false, List, [], ◌∷◌, ◌++◌, length, get_or, take, sym, refl, ap}
+use Rattle.std.proofs.Common.{◌∙◌, subst, arith, append_assoc}
 use Rattle.std.proofs.lemmas.Bool.{cases_lt}
 use Rattle.std.proofs.lemmas.List.{length-append, append-nil, get_or_append_left}
 use Rattle.dr_graph.specs.Meaning.Graph.{finals}
@@ -53,7 +54,9 @@ module _ {T : Type 0} where
   scanned_none hs r need = record {
     counts = [];
     each = refl;
-    is = ap (λ (xs : List Look). record r { looks = xs }) (sym (append-nil r.looks)) ∙ ap (λ (xs : List Look). sender_saw r xs) (sym (no_looks_at count_word (take 0 hs)));
+    is =
+        ap (λ (xs : List Look). record r { looks = xs }) (sym (append-nil r.looks))
+        ∙ ap (λ (xs : List Look). sender_saw r xs) (sym (no_looks_at count_word (take 0 hs)));
     high = λ j lt. absurd (omega arith);
   }
 
@@ -87,7 +90,8 @@ module _ {T : Type 0} where
   scanned_low k r s s' need i h v S inside at is low =
       let hs = finals k.upstreams in let each = S.each in let len : length (S.counts ++ v ∷ []) ≡ i + 1 = omega (arith, length-append S.counts (v ∷ [])) in (
         S.counts ++ v ∷ [],
-        saw_more hs r s s' S.counts i h v S.each inside at S.is is ∙ ap (λ (xs : List Look). sender_saw r xs) (looks_few count_word hs (S.counts ++ v ∷ []) (i + 1) len),
+        saw_more hs r s s' S.counts i h v S.each inside at S.is is
+            ∙ ap (λ (xs : List Look). sender_saw r xs) (looks_few count_word hs (S.counts ++ v ∷ []) (i + 1) len),
         record {
           before = i;
           last = len;

@@ -9,6 +9,7 @@ use Rattle.dr_runs.specs.Runs.{IsBeginning, IsReached}
 use Rattle.dr_runs.specs.Seats.{holding, end_of, seat_at, first_past, past_of, stores_of}
 use Rattle.dr_runs.proofs.Seats as runs
 use Rattle.dr_runs.proofs.Seats.{Adds}
+use Rattle.dr_lent.proofs.Going.{goes_on, some_end_of}
 use Rattle.dr_plain_senders.specs.Meaning.Shape.{Shape}
 use Rattle.dr_plain_senders.specs.declared.record.SenderRecord.{SenderRecord}
 use Rattle.dr_plain_senders.specs.declared.record.ReceiverRecord.{ReceiverRecord}
@@ -22,7 +23,6 @@ use Rattle.dr_plain_senders.specs.Inside.Seats.{End, Hand, end_number, ring_ends
 use Rattle.dr_plain_senders.proofs.Places.{word_at, set_else}
 use Rattle.dr_plain_senders.proofs.Keeps.{keeps_runs}
 use Rattle.dr_plain_senders.proofs.Beginning.{kept_new_world}
-use Rattle.dr_plain_senders.proofs.Going.{goes_on, some_end_of}
 use Rattle.dr_plain_senders.proofs.Moves.{MovesTo}
 
 module _ {T : Type 0} where
@@ -39,7 +39,8 @@ module _ {T : Type 0} where
   OthersStand w u n = (x : EndRecord T) → end_number x ≢ n → Stands w x → Stands u x
 
   -- what is known of an end after a step, with what it moved and what it is told
-  pub record Acts (k : Shape T) (step : Step T) (w : World T) (i n : ℕ) (e : EndRecord T) (hand : Hand T) (homes : List (maybe.Option (Token T))) (told : End T → Type 0) : Type 0 where
+  pub record Acts (k : Shape T) (step : Step T) (w : World T) (i n : ℕ) (e : EndRecord T)
+      (hand : Hand T) (homes : List (maybe.Option (Token T))) (told : End T → Type 0) : Type 0 where
     pub mine : EndRecord T
     pub same : end_number mine ≡ end_number e
     pub does : Does k step w i n mine
@@ -48,14 +49,15 @@ module _ {T : Type 0} where
     pub tells : told (holding mine hand_after)
 
   -- a step of one end, which keeps its number
-  pub by_end : (k : Shape T) (slots id : ℕ) (step : Step T) (grow : List (Step T) → List (Step T)) (pasts : List (List (Step T))) (e : EndRecord T) (hand : Hand T) (i : ℕ) (f : ℕ → ℕ) (told : ℕ → End T → Type 0)
+  pub by_end : (k : Shape T) (slots id : ℕ) (step : Step T) (grow : List (Step T) → List (Step T))
+      (pasts : List (List (Step T))) (e : EndRecord T) (hand : Hand T) (i : ℕ) (f : ℕ → ℕ) (told : ℕ → End T → Type 0)
       → Adds ring_ends (end_number e) step grow
       → ((w : World T) → Stands w e → KeepsRule k w → word_at w.words i < 18446744073709551616 → (homes : List (maybe.Option (Token T))) → Lies k w homes
       → Acts k step w i (f (word_at w.words i)) e hand homes (told (word_at w.words i)))
       → Allows (Ruled k) slots id (seat_at (holding e hand) pasts) i f (λ n me'. told n (end_of me') × IsBeginning (first_past pasts) (past_of me'.0)
       × (stored_of me'.0 ≡ grow (stores_of ring_ends (end_number e) (first_past pasts))))
   by_end k slots id step grow pasts e hand i f told adds acts =
-      goes_on k slots id (seat_at (holding e hand) pasts) i f (λ n me'. told n (end_of me') × IsBeginning (first_past pasts) (past_of me'.0)
+      goes_on (exchange k) slots id (seat_at (holding e hand) pasts) i f (λ n me'. told n (end_of me') × IsBeginning (first_past pasts) (past_of me'.0)
       × (stored_of me'.0 ≡ grow (stores_of ring_ends (end_number e) (first_past pasts)))) (some_end_of e [])
       (runs.by_end (exchange k) slots id step grow pasts e hand i f told adds
       (λ w at reached small homes lies. let n = get_or w.words i 0 in let a = acts w at (kept_of k w reached) small homes lies in let m = a.moves in record {

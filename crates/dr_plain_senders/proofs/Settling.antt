@@ -6,9 +6,9 @@ use Rattle.std.proofs.lemmas.List.Sums.{take_while-cons}
 use mathlib.Core.Option.{some, some-injective, some-ne-none}
 use lib.ListN.{get_elem?}
 use Rattle.dr_graph.specs.Meaning.Graph.{upstreams_of}
+use Rattle.dr_lent.specs.declared.lent.Lent.{Lent}
 use Rattle.dr_plain_senders.specs.Meaning.Shape.{Shape}
 use Rattle.dr_plain_senders.specs.Meaning.Words.{count_word}
-use Rattle.dr_plain_senders.specs.declared.record.Lent.{Lent}
 use Rattle.dr_plain_senders.specs.declared.record.Stage.{Stage}
 use Rattle.dr_plain_senders.specs.declared.record.ReceiverRecord.{ReceiverRecord}
 use Rattle.dr_plain_senders.specs.Meaning.Records.{is_published}
@@ -28,7 +28,8 @@ module _ {T : Type 0} where
   -- the events of a published sequence and of those behind it
   out_cons : (l : Lent T) (t : Stage T) (ts : List (Stage T)) → t.lent ≡ Some l → out_of (t ∷ ts) ≡ l ∷ out_of ts
   out_cons l t ts out =
-      ap (filter_map (λ (x : Stage T). x.lent)) (take_while-cons is_published t ts ∙ ap (λ (b : Bool). cond b (t ∷ take_while is_published ts) []) (ap is_some out))
+      ap (filter_map (λ (x : Stage T). x.lent))
+      (take_while-cons is_published t ts ∙ ap (λ (b : Bool). cond b (t ∷ take_while is_published ts) []) (ap is_some out))
       ∙ ap (λ (o : Option (Lent T)). cons_option o (out_of ts)) out
 
   out_next : (l : Lent T) (ls : List (Lent T)) (t : Stage T) (ts : List (Stage T)) → AreOut (l ∷ ls) (t ∷ ts) → (out_of (t ∷ ts) ≡ l ∷ out_of ts) × AreOut ls ts

@@ -1,5 +1,6 @@
 -- What a publication leaves of a sender's fields.
-use Rattle.std.proofs.Common.{◌≡◌, ◌≢◌, ℕ, ◌+◌, ◌-◌, ◌*◌, ◌%◌, ◌<◌, ◌≤◌, inl, inr, Bool, true, false, not, ◌==◌, ◌&&◌, if◌then◌else◌, List, [], ◌∷◌, ◌++◌, length, set, drop, take, sym, ap, ◌∙◌, subst, arith, append_assoc, length-set}
+use Rattle.std.proofs.Common.{◌≡◌, ◌≢◌, ℕ, ◌+◌, ◌-◌, ◌*◌, ◌%◌, ◌<◌, ◌≤◌, inl, inr, Bool, true, false, not, ◌==◌, ◌&&◌, if◌then◌else◌, List, [], ◌∷◌}
+use Rattle.std.proofs.Common.{◌++◌, length, set, drop, take, sym, ap, ◌∙◌, subst, arith, append_assoc, length-set}
 use Rattle.std.specs.Prelude.{None}
 use Rattle.std.proofs.lemmas.Bool.{cases_Bool, cases_eq, eq-eqb, ne_eqb}
 use Rattle.std.proofs.lemmas.List.{length-append}
@@ -9,16 +10,17 @@ use Rattle.atomic_table.proofs.Lists.{set_else}
 use Rattle.dr_cells.specs.declared.token.Token.{Token}
 use Rattle.dr_cells.specs.Tokens.{no_token}
 use Rattle.dr_seq.specs.Rounds.{entry_of, is_marked}
+use Rattle.dr_lent.proofs.Lists.{drop_seam, take_seam}
+use Rattle.dr_lent.specs.declared.lent.Lent.{Lent}
 use Rattle.dr_plain_senders.specs.Meaning.Shape.{Shape}
 use Rattle.dr_plain_senders.specs.Meaning.Lying.{lent}
 use Rattle.dr_plain_senders.specs.Meaning.Words.{cell_of, lanes_of}
 use Rattle.dr_plain_senders.specs.Meaning.Records.{Owns, published, is_published, brought, has_published}
-use Rattle.dr_plain_senders.specs.declared.owned.Owned.{Owned}
-use Rattle.dr_plain_senders.specs.declared.record.Lent.{Lent}
 use Rattle.dr_plain_senders.specs.declared.record.Stage.{Stage}
 use Rattle.dr_plain_senders.specs.declared.record.SenderRecord.{SenderRecord}
 use Rattle.dr_plain_senders.specs.Calls.Ends.{SenderStand}
-use Rattle.dr_plain_senders.specs.Inside.Fits.{MarksFit, SenderFits, is_open, open_rows}
+use Rattle.dr_plain_senders.specs.Inside.Fits.{MarksFit, SenderFits, open_rows}
+use Rattle.dr_plain_senders.specs.Inside.Owned.{Owned, is_open}
 use Rattle.dr_plain_senders.specs.Inside.Hands.{with_hand}
 use Rattle.dr_plain_senders.specs.Inside.Rows.{row, blank_row}
 use Rattle.dr_plain_senders.specs.Inside.Seats.{Hand}
@@ -26,7 +28,6 @@ use Rattle.dr_plain_senders.proofs.Fitting.{no_lent}
 use Rattle.dr_plain_senders.proofs.Granting.{first_of, second_of, unhidden}
 use Rattle.dr_plain_senders.proofs.Opened.{open_same, open_around}
 use Rattle.dr_plain_senders.proofs.Rowing.{blank_row_count}
-use Rattle.dr_plain_senders.proofs.Taken.{drop_seam, take_seam}
 use Rattle.dr_plain_senders.proofs.Owning.{staged_has, staged_from, mark_was, mark_here, mark_beside, marked_apart}
 
 pub small_product : (x y : ℕ) → x ≤ 17 → y ≤ 65536 → x * y ≤ 1114112
@@ -82,7 +83,8 @@ module _ {T : Type 0} (k : Shape T) (r : SenderRecord T) (o : Owned) (s : ℕ) (
   pub open_beside : (z : ℕ) → z ≢ s → is_open shown_marks z ≡ is_open o z
   open_beside z ne = elim (cases_Bool (is_marked o.claimed z)) [
     | inl marked ↦ (λ i. is_marked o.claimed z && not (beside_mark z marked ne i))
-    | inr unmarked ↦ ap (λ (b : Bool). b && not (is_marked shown_marks.published z)) unmarked ∙ sym (ap (λ (b : Bool). b && not (is_marked o.published z)) unmarked)
+    | inr unmarked ↦
+        ap (λ (b : Bool). b && not (is_marked shown_marks.published z)) unmarked ∙ sym (ap (λ (b : Bool). b && not (is_marked o.published z)) unmarked)
   ]
 
 -- the sender has published its open sequence s
@@ -125,7 +127,8 @@ module _ {T : Type 0} (e : SenderStand T) (o : Owned) (end s low : ℕ) (tokens 
       else open_same e.plan (is_open now) (is_open o) (s + 1) (end - (s + 1))
       (λ q a b. open_beside e.plan e.knows o s size F.marks mine q (λ (z : q ≡ s). omega arith)) i))
 
-  pub fits_shown : (l : Lent T) (e' : SenderStand T) (o' : Owned) (tokens' : List (Token T)) (place : ℕ) → e'.plan ≡ e.plan → e'.knows ≡ has_published e.knows s (l ∷ [])
+  pub fits_shown : (l : Lent T) (e' : SenderStand T) (o' : Owned) (tokens' : List (Token T)) (place : ℕ)
+      → e'.plan ≡ e.plan → e'.knows ≡ has_published e.knows s (l ∷ [])
       → e'.hand ≡ before_it ++ behind_it → o' ≡ now → place ≡ cell_of e.plan s → tokens' ≡ set tokens place no_token → SenderFits e' o' end tokens'
   fits_shown l e' o' tokens' place plan knows hand is at put =
       let k = e.plan in let q : SenderRecord T = brought e.knows s (published l) in
@@ -185,5 +188,6 @@ module _ {T : Type 0} (e : SenderStand T) (o : Owned) (end s low : ℕ) (tokens 
   pub own_open : (t : Stage T) × Owns e.knows s t × (t.lent ≡ None)
   own_open =
       let own = F.marks.own s mine in
-      let hidden = F.marks.shown s own.0 own.1 mine ∙ unhidden (is_marked o.published s) (second_of (is_marked o.claimed s) (not (is_marked o.published s)) opened) in
+      let hidden =
+      F.marks.shown s own.0 own.1 mine ∙ unhidden (is_marked o.published s) (second_of (is_marked o.claimed s) (not (is_marked o.published s)) opened) in
       (own.0, own.1, no_lent own.0.lent hidden)

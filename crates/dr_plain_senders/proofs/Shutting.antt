@@ -1,5 +1,6 @@
 -- A write that the words refuse is refused so by the machine.
-use Rattle.std.proofs.Common.{◌≡◌, ℕ, ◌+◌, ◌<◌, ◌≤◌, ◌⊎◌, inl, inr, Bool, true, false, not, ◌==◌, if◌then◌else◌, [], ◌∷◌, length, get_or, map, sym, ap, ◌∙◌, arith}
+use Rattle.std.proofs.Common.{◌≡◌, ℕ, ◌+◌, ◌<◌, ◌≤◌, ◌⊎◌, inl, inr, Bool, true, false, not, ◌==◌, if◌then◌else◌, [], ◌∷◌, length, get_or, map, sym}
+use Rattle.std.proofs.Common.{ap, ◌∙◌, arith}
 use Rattle.std.specs.Prelude.{nat_le, is_some}
 use Rattle.std.proofs.lemmas.Bool.{cases_Bool, cases_lt, lt-leb, le-leb, ne_eqb, both_ways}
 use Rattle.std.proofs.lemmas.List.{length-map}
@@ -26,7 +27,8 @@ Decides b c d e = ((b ≡ true) × (e ≡ false)) ⊎ ((b ≡ false) × (((c ≡
 
 module _ {T : Type 0} where
   first_cause : (m : State T) (o : Outcome T) (a b c d e : Bool) → a ≡ false → Decides b c d e
-      → unless ((a, NoProducer) ∷ (b, NotClaimed) ∷ (c, AlreadyPublished) ∷ (d, NotClaimed) ∷ []) m o ≡ unchanged (Refused (if e then AlreadyPublished else NotClaimed)) m
+      → unless ((a, NoProducer) ∷ (b, NotClaimed) ∷ (c, AlreadyPublished) ∷ (d, NotClaimed) ∷ []) m o
+      ≡ unchanged (Refused (if e then AlreadyPublished else NotClaimed)) m
   first_cause m o a b c d e none (inl x) =
       (λ i. unless ((none i, NoProducer) ∷ (x.0 i, NotClaimed) ∷ (c, AlreadyPublished) ∷ (d, NotClaimed) ∷ []) m o)
       ∙ ap (λ (y : Bool). unchanged (Refused (if y then AlreadyPublished else NotClaimed)) m) (sym x.1)
@@ -55,7 +57,8 @@ module _ {T : Type 0} where
                 claimed,
                 inr (
                   ap is_published same ∙ ap is_some hidden,
-                  ap not (ne_eqb (get_or owners s 0) p (λ mine. absurd (let shown = shut x.0 x.1 (sym (owner_at w.stages s x.0 x.1) ∙ mine) in none_or_some x.0.lent shown.0 hidden shown.1))),
+                  ap not (ne_eqb (get_or owners s 0) p
+                      (λ mine. absurd (let shown = shut x.0 x.1 (sym (owner_at w.stages s x.0 x.1) ∙ mine) in none_or_some x.0.lent shown.0 hidden shown.1))),
                   hidden_now k w s K (λ y. none_or_some x.0.lent y.0 hidden (ap (λ (t : Stage T). t.lent) (one_value w.stages s x.0 y.1.0 x.1 y.1.1) ∙ y.1.2)),
                 ),
               ))
@@ -73,7 +76,8 @@ module _ {T : Type 0} where
   ]
 
   -- what looks at the claim word, at a mark and at the claim word again say was so at one of them
-  pub told_by_looks : (k : Shape T) (w u v : World T) → KeepsRule k w → KeepsRule k u → KeepsRule k v → length w.stages ≤ length u.stages → length u.stages ≤ length v.stages
+  pub told_by_looks : (k : Shape T) (w u v : World T) → KeepsRule k w → KeepsRule k u
+      → KeepsRule k v → length w.stages ≤ length u.stages → length u.stages ≤ length v.stages
       → ToldByLooks k w u v
   told_by_looks k w u v K L M more later s =
       let c = word_at w.words claim_word in let m = word_at u.words (mark_word k s) in let d = word_at v.words claim_word in

@@ -1,5 +1,6 @@
 -- The machine replies to a publication on a ring's picture as its sender answers.
-use Rattle.std.proofs.Common.{◌≡◌, ℕ, zero, suc, ◌+◌, ◌-◌, ◌<◌, ◌≤◌, ◌≢◌, inl, inr, Bool, true, false, not, ◌==◌, List, [], ◌∷◌, ◌++◌, length, get_or, Option, Some, is_none, Result, Ok, Err, sym, refl, ap, ◌∙◌, subst, arith}
+use Rattle.std.proofs.Common.{◌≡◌, ℕ, zero, suc, ◌+◌, ◌-◌, ◌<◌, ◌≤◌, ◌≢◌, inl, inr, Bool, true, false, not, ◌==◌, List, [], ◌∷◌, ◌++◌, length, get_or}
+use Rattle.std.proofs.Common.{Option, Some, is_none, Result, Ok, Err, sym, refl, ap, ◌∙◌, subst, arith}
 use Rattle.std.specs.Prelude.{nat_le, if◌then◌else◌, flat_map}
 use Rattle.std.specs.List.{range_with_len}
 use Rattle.std.proofs.lemmas.Bool.{cases_eq, cases_lt, eq-eqb, ne_eqb, lt-leb, le-leb, le-ltb, ltb-false, leb-false, both_ways}
@@ -24,7 +25,8 @@ use Rattle.dr_plain_senders.specs.Meaning.Records.{Owns, is_published}
 use Rattle.dr_plain_senders.specs.Meaning.Rule.{World, is_out_now, KeepsRule}
 use Rattle.dr_plain_senders.specs.Calls.Ends.{SenderEnd}
 use Rattle.dr_plain_senders.specs.Calls.Writing.{Sight, Has, Found, Never, Unasked, Holds, IsSight, sight_tests}
-use Rattle.dr_plain_senders.specs.Calls.Publishing.{Reach, Inside, Outside, Looked, IsReach, reach_unclaimed, IsReady, PublishLooks, PublishSees, stretch_tests, tests_of_publication}
+use Rattle.dr_plain_senders.specs.Calls.Publishing.{Reach, Inside, Outside, Looked, IsReach, reach_unclaimed, IsReady, PublishLooks, PublishSees}
+use Rattle.dr_plain_senders.specs.Calls.Publishing.{stretch_tests, tests_of_publication}
 use Rattle.dr_plain_senders.specs.Calls.Replies.{picture_with, RepliesIn, TellsWrites, ReachesNow, FoundNow, DecidesPublication}
 use Rattle.dr_plain_senders.proofs.Marks.{out_now, now_out}
 use Rattle.dr_plain_senders.proofs.Shutting.{shown_out, hidden_out}
@@ -38,7 +40,8 @@ abbrev last : List (Verdict × Refusal)
 last = (Exactly false, OutOfOrder) ∷ []
 
 -- what is not asked refuses nothing
-passes : (T : Type 0) (k : Shape T) (s : ℕ) (refusal : Refusal) (rest : List (Verdict × Refusal)) → First refusal (sequence_causes (sight_tests {T = T} k s Unasked) ++ rest) → First refusal rest
+passes : (T : Type 0) (k : Shape T) (s : ℕ) (refusal : Refusal) (rest : List (Verdict × Refusal))
+    → First refusal (sequence_causes (sight_tests {T = T} k s Unasked) ++ rest) → First refusal rest
 passes T k s refusal rest F = elim F [
   | inl x ↦ absurd (let no = x.0 in cc)
   | inr a ↦ elim a.1 [
@@ -50,7 +53,8 @@ passes T k s refusal rest F = elim F [
   ]
 ]
 
-module _ {T : Type 0} (e : SenderEnd T) (w : World T) (K : KeepsRule e.plan w) (writes : List (ℕ × T)) (p lo hi : ℕ) (seen : PublishLooks T) (at : get_elem? w.senders p ≡ some e.knows)
+module _ {T : Type 0} (e : SenderEnd T) (w : World T) (K : KeepsRule e.plan w) (writes : List (ℕ × T))
+    (p lo hi : ℕ) (seen : PublishLooks T) (at : get_elem? w.senders p ≡ some e.knows)
     (tells : TellsWrites e.plan w writes e) (sees : PublishSees e lo hi seen) where
   abbrev k : Shape T
   k = e.plan
@@ -97,7 +101,8 @@ module _ {T : Type 0} (e : SenderEnd T) (w : World T) (K : KeepsRule e.plan w) (
           (
             lt-leb (length m.owners) hi (omega arith),
             NoneHold-join (flat_map (publish_faults m p) (range_with_len lo (hi + 1 - lo))) ((false, OutOfOrder) ∷ [])
-                (NoneHold-stretch (publish_faults m p) lo (hi + 1 - lo) (λ j lt. ready_none (lo + j) (sees.ready (lo + j) (omega arith) (omega arith)))) (refl, tt),
+                (NoneHold-stretch (publish_faults m p) lo (hi + 1 - lo) (λ j lt. ready_none (lo + j) (sees.ready (lo + j) (omega arith) (omega arith))))
+                (refl, tt),
           ),
         ),
       )
@@ -126,7 +131,8 @@ module _ {T : Type 0} (e : SenderEnd T) (w : World T) (K : KeepsRule e.plan w) (
 
   unasked : (s n : ℕ) (refusal : Refusal) → s ≢ stop → First refusal (causes_from s (suc n)) → First refusal (causes_from (s + 1) n)
   unasked s n refusal ne F =
-      passes T k s refusal (causes_from (s + 1) n) (subst (λ (t : SequenceTests Verdict). First refusal (sequence_causes t ++ causes_from (s + 1) n)) (elsewhere s ne) F)
+      passes T k s refusal (causes_from (s + 1) n)
+      (subst (λ (t : SequenceTests Verdict). First refusal (sequence_causes t ++ causes_from (s + 1) n)) (elsewhere s ne) F)
 
   none_after : (s n : ℕ) (refusal : Refusal) → stop < s → First refusal (causes_from s n) → ⊥
   none_after s zero refusal past (inl x) = let no = x.0 in cc
@@ -140,7 +146,8 @@ module _ {T : Type 0} (e : SenderEnd T) (w : World T) (K : KeepsRule e.plan w) (
   against_looks : (before word after : ℕ) → FoundNow k w stop (Found before word after) → is_out_by k stop before word after ≡ false → m.published stop ≡ false
   against_looks before word after now said = hidden_out k w stop (λ x. both_ways (is_out_now k w stop) (now ∙ said) (out_now k w stop K x))
 
-  another : stop < length w.stages → (before word after : ℕ) → IsSight e stop (Found before word after) → is_out_by k stop before word after ≡ false → not (get_or m.owners stop 0 == p) ≡ true
+  another : stop < length w.stages → (before word after : ℕ) → IsSight e stop (Found before word after)
+      → is_out_by k stop before word after ≡ false → not (get_or m.owners stop 0 == p) ≡ true
   another inside before word after sight silent = let x = there w.stages stop inside in elim (cases_eq (get_or m.owners stop 0) p) [
     | inl mine ↦ absurd (let own = (K.sent p r at).all stop x.0 x.1 (sym (owner_at w.stages stop x.0 x.1) ∙ mine) in
         both_ways (is_out_by k stop before word after) silent (sight.1 x.0 own).1)
@@ -150,16 +157,18 @@ module _ {T : Type 0} (e : SenderEnd T) (w : World T) (K : KeepsRule e.plan w) (
   refused_here : (sight : Sight T) (n : ℕ) (refusal : Refusal) → stop < length w.stages → IsSight e stop sight → FoundNow k w stop sight
       → First refusal (sequence_causes (sight_tests k stop sight) ++ causes_from (stop + 1) n)
       → Refuses refusal (publish_faults m p stop ++ faults_from (stop + 1) n)
-  refused_here (Has t o) n refusal inside holds now F = let own = own_of stop t o holds in let same = at_stage w.stages stop t (own_stage stop t own).1 in elim F [
-    | inl x ↦ inl (ap is_published same ∙ x.0, x.1)
-    | inr a ↦ elim a.1 [
-      | inl x ↦ absurd (let no = x.0 in cc)
-      | inr b ↦ elim b.1 [
-        | inl x ↦ inr (ap is_published same ∙ a.0, inr (own_test stop t own, inl (ap (λ (y : Option T). is_none y) (tells stop t o holds a.0) ∙ x.0, x.1)))
-        | inr d ↦ absurd (none_after (stop + 1) n refusal (omega arith) d.1)
+  refused_here (Has t o) n refusal inside holds now F =
+      let own = own_of stop t o holds in
+      let same = at_stage w.stages stop t (own_stage stop t own).1 in elim F [
+        | inl x ↦ inl (ap is_published same ∙ x.0, x.1)
+        | inr a ↦ elim a.1 [
+          | inl x ↦ absurd (let no = x.0 in cc)
+          | inr b ↦ elim b.1 [
+            | inl x ↦ inr (ap is_published same ∙ a.0, inr (own_test stop t own, inl (ap (λ (y : Option T). is_none y) (tells stop t o holds a.0) ∙ x.0, x.1)))
+            | inr d ↦ absurd (none_after (stop + 1) n refusal (omega arith) d.1)
+          ]
+        ]
       ]
-    ]
-  ]
   refused_here (Found before mark after) n refusal inside sight now F = elim F [
     | inl x ↦ inl (by_looks before mark after now x.0, x.1)
     | inr a ↦ elim a.1 [
@@ -168,7 +177,8 @@ module _ {T : Type 0} (e : SenderEnd T) (w : World T) (K : KeepsRule e.plan w) (
     ]
   ]
   refused_here Never n refusal inside past now F = absurd (let limit = K.limit in omega arith)
-  refused_here Unasked n refusal inside past now F = absurd (none_after (stop + 1) n refusal (omega arith) (passes T k stop refusal (causes_from (stop + 1) n) F))
+  refused_here Unasked n refusal inside past now F =
+      absurd (none_after (stop + 1) n refusal (omega arith) (passes T k stop refusal (causes_from (stop + 1) n) F))
 
   refused_from : (s n : ℕ) (refusal : Refusal) → FoundNow k w stop seen.stop → hi < length w.stages → s + n ≡ hi + 1 → lo ≤ s → s ≤ stop
       → First refusal (causes_from s n) → Refuses refusal (faults_from s n)
@@ -200,17 +210,22 @@ module _ {T : Type 0} (e : SenderEnd T) (w : World T) (K : KeepsRule e.plan w) (
             | inl x ↦ inr (lt-leb k.senders p who, inr (b.0, inl (subst MayHold reach x.0, x.1)))
             | inr d ↦ (let claimed : nat_le (length m.owners) hi ≡ false = subst MayFail reach d.0 in
                 let inside : hi < length w.stages = (let gt = leb-false (length m.owners) hi claimed in let count = owned in omega arith) in
-                inr (lt-leb k.senders p who, inr (b.0, inr (claimed, refused_from lo (hi + 1 - lo) refusal D.1 inside (omega arith) (omega arith) (omega arith) d.1))))
+                inr (
+                  lt-leb k.senders p who,
+                  inr (b.0, inr (claimed, refused_from lo (hi + 1 - lo) refusal D.1 inside (omega arith) (omega arith) (omega arith) d.1)),
+                ))
           ])
         ]
       ]))
 
 -- the same, where the ring is the end's
-pub publish_replies_of : {T : Type 0} (k : Shape T) (w : World T) → KeepsRule k w → (writes : List (ℕ × T)) (p lo hi : ℕ) (e : SenderEnd T) (seen : PublishLooks T) (result : Result (Unit {0}) Refusal)
+pub publish_replies_of : {T : Type 0} (k : Shape T) (w : World T) → KeepsRule k w
+    → (writes : List (ℕ × T)) (p lo hi : ℕ) (e : SenderEnd T) (seen : PublishLooks T) (result : Result (Unit {0}) Refusal)
     → e.plan ≡ k → get_elem? w.senders p ≡ some e.knows → TellsWrites k w writes e → PublishSees e lo hi seen
     → IsAnswerOf (publish_causes lo hi (tests_of_publication k lo hi seen)) (as_end result) → DecidesPublication k w lo hi seen result
     → RepliesIn k (picture_with k w writes) (Publish p lo hi) (unit_reply Published result)
 publish_replies_of {T} k w K writes p lo hi e seen result plan at tells sees answer decides =
-    let P : Shape T → Type 0 = λ q. KeepsRule q w → TellsWrites q w writes e → IsAnswerOf (publish_causes lo hi (tests_of_publication q lo hi seen)) (as_end result)
+    let P : Shape T → Type 0 =
+    λ q. KeepsRule q w → TellsWrites q w writes e → IsAnswerOf (publish_causes lo hi (tests_of_publication q lo hi seen)) (as_end result)
     → DecidesPublication q w lo hi seen result → RepliesIn q (picture_with q w writes) (Publish p lo hi) (unit_reply Published result) in
     subst P plan (λ L t a d. publish_replies e w L writes p lo hi seen at t sees result a d) K tells answer decides

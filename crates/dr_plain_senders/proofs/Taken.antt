@@ -1,11 +1,13 @@
 -- What a receiver has in hand, and its parts, as it takes events and completes them.
 use Rattle.std.proofs.Common.{◌≡◌, ℕ, ◌+◌, ◌-◌, ◌≤◌, List, ◌++◌, length, take, drop, sym, refl, ap, ◌∙◌, subst, arith}
-use Rattle.std.proofs.Math.Seq.{take-append_seam, drop-append_seam}
+use Rattle.std.proofs.Math.Seq.{drop-append_seam}
 use Rattle.std.proofs.lemmas.List.{replicate-append-replicate, length-replicate, length-append}
 use Rattle.dr_cells.specs.declared.token.Token.{Token}
 use Rattle.dr_seq.proofs.Apart.{slots_differ}
 use Rattle.dr_runs.specs.Stretches.{stretch}
 use Rattle.dr_runs.proofs.Rows.{stretch_both}
+use Rattle.dr_lent.proofs.Lists.{drop_seam, take_seam}
+use Rattle.dr_lent.specs.Trades.{SamePlaces, ArePartsBetween}
 use Rattle.dr_plain_senders.specs.Meaning.Shape.{Shape}
 use Rattle.dr_plain_senders.specs.Meaning.Words.{cell_of, lane_of}
 use Rattle.dr_plain_senders.specs.Meaning.Records.{completed_to}
@@ -15,15 +17,9 @@ use Rattle.dr_plain_senders.specs.Calls.Ends.{ReceiverStand, HasStored}
 use Rattle.dr_plain_senders.specs.Inside.Fits.{ReceiverFits}
 use Rattle.dr_plain_senders.specs.Inside.Hands.{nothings, with_hand, blank_slot}
 use Rattle.dr_plain_senders.specs.Inside.Seats.{Hand, given_by_completion}
-use Rattle.dr_plain_senders.specs.Inside.Trades.{parts_between, blanks_between, SamePlaces, ArePartsBetween}
+use Rattle.dr_plain_senders.specs.Inside.Trades.{parts_between, blanks_between}
 use Rattle.dr_runs.proofs.Elements.{at_below}
 use Rattle.dr_plain_senders.proofs.Trading.{blanks_count}
-
-pub drop_seam : {A : Type 0} (xs ys : List A) (n : ℕ) → length xs ≡ n → drop n (xs ++ ys) ≡ ys
-drop_seam xs ys n len = ap (λ (m : ℕ). drop m (xs ++ ys)) (sym len) ∙ drop-append_seam xs ys
-
-pub take_seam : {A : Type 0} (xs ys : List A) (n : ℕ) → length xs ≡ n → take n (xs ++ ys) ≡ xs
-take_seam xs ys n len = ap (λ (m : ℕ). take m (xs ++ ys)) (sym len) ∙ take-append_seam xs ys
 
 module _ {T : Type 0} where
   -- the slots for some sequences, and for those that follow
@@ -43,7 +39,7 @@ module _ {T : Type 0} (e : ReceiverStand T) (n t c : ℕ) (parts : List (Token T
   pub first_in_hand : e.hand ≡ blanks_between e.plan e.knows c n ++ blanks_between e.plan e.knows n t
   first_in_hand = F.hand ∙ (λ i. blanks_between e.plan e.knows (sym F.completed i) (sym F.taken i)) ∙ blanks_both e.plan e.knows c n t rises le
 
-  pub parts_there : ArePartsBetween e.plan e.knows c n parts
+  pub parts_there : ArePartsBetween e.plan.strip e.plan.size e.knows.received c n parts
   parts_there s l low lt at = let done = F.completed in F.parts.held s l (omega arith) at
 
   module _ (s : ReceiverStand T) (given : s ≡ with_hand e (drop (n - c) e.hand ++ parts_between e.plan e.knows c n)) where
@@ -58,7 +54,10 @@ module _ {T : Type 0} (e : ReceiverStand T) (n t c : ℕ) (parts : List (Token T
     left_count = let all = F.taken in blanks_count e.plan e.knows n t (omega arith)
 
     pub may_turn : t - n ≤ length s.hand
-    may_turn = let len = ap length behind in let left = left_count in omega (arith, length-append (blanks_between e.plan e.knows n t) (parts_between e.plan e.knows c n))
+    may_turn =
+        let len = ap length behind in
+        let left = left_count in
+        omega (arith, length-append (blanks_between e.plan e.knows n t) (parts_between e.plan e.knows c n))
 
     module _ (u : ReceiverStand T) (turned : u ≡ with_hand s (drop (t - n) s.hand ++ take (t - n) s.hand)) where
       pub in_front : u ≡ with_hand e (parts_between e.plan e.knows c n ++ blanks_between e.plan e.knows n t)
@@ -74,7 +73,7 @@ module _ {T : Type 0} (e : ReceiverStand T) (n t c : ℕ) (parts : List (Token T
           ∙ ap (λ (x : ReceiverStand T). given_by_completion x.plan x.knows n ++ blanks_between e.plan e.knows n t) (sym in_front)
 
       pub fits_completed : (step : Step T) (e' : ReceiverStand T) (parts' : List (Token T))
-          → HasStored u step (completed_to u.knows n) (drop (length (given_by_completion u.plan u.knows n)) u.hand) e' → SamePlaces e.plan c n parts parts'
+          → HasStored u step (completed_to u.knows n) (drop (length (given_by_completion u.plan u.knows n)) u.hand) e' → SamePlaces e.plan.size c n parts parts'
           → ReceiverFits e' t n parts'
       fits_completed step e' parts' stored same =
           let knows : e'.knows ≡ completed_to e.knows n = stored.1 ∙ ap (λ (x : ReceiverStand T). completed_to x.knows n) in_front in
@@ -83,7 +82,8 @@ module _ {T : Type 0} (e : ReceiverStand T) (n t c : ℕ) (parts : List (Token T
           ∙ drop-append_seam (given_by_completion u.plan u.knows n) (blanks_between e.plan e.knows n t) in
           let done = F.completed in let near = F.near in let all = F.taken in
           let plan : e'.plan ≡ e.plan = stored.0.1 ∙ ap (λ (x : ReceiverStand T). x.plan) in_front in
-          subst (λ (x : Shape T × (ReceiverRecord T × Hand T)). ReceiverFits (record e' { plan = x.0; knows = x.1.0; hand = x.1.1 }) t n parts') (λ i. (sym plan i, (sym knows i, sym hand i))) (record {
+          subst (λ (x : Shape T × (ReceiverRecord T × Hand T)). ReceiverFits (record e' { plan = x.0; knows = x.1.0; hand = x.1.1 }) t n parts')
+          (λ i. (sym plan i, (sym knows i, sym hand i))) (record {
             taken = F.taken;
             completed = refl;
             rises = le;

@@ -31,7 +31,8 @@ set_past (x ∷ xs) zero a le = absurd (omega arith)
 set_past (x ∷ xs) (suc i) a le = ap (λ (ys : List _). x ∷ ys) (set_past xs i a (omega arith))
 
 -- one end of a list makes a call, and stays where it is
-place_stays : {T : Type 0} {E : Type 0} (place_of : E → EndPlace T) (ring : TableId) (k : Shape T) (es : List E) (i : ℕ) (e e' : E) → AreInPlace place_of ring k es
+place_stays : {T : Type 0} {E : Type 0} (place_of : E → EndPlace T) (ring : TableId) (k : Shape T) (es : List E) (i : ℕ) (e e' : E)
+    → AreInPlace place_of ring k es
     → e ≡ get_or es i e → place_of e' ≡ place_of e → AreInPlace place_of ring k (set es i e')
 place_stays place_of ring k es i e e' all at same =
     elim (cases_lt i (length es)) [
@@ -52,10 +53,13 @@ module _ {T : Type 0} where
             ∙ ap handlers_of (sym plan);
         each_sender = subst (λ (p : Shape T). AreInPlace sender_place t.ring p ss) (sym plan)
             (fresh_in_place sender_place t.ring k (sender_at t.ring k) (fresh_senders 0 k.senders) ss
-            (λ p r at. (let number : r.number ≡ p = ap (λ (q : SenderRecord T). q.number) (sender_fresh 0 k.senders p r at) ∙ omega arith in ap place number)) F.senders);
+            (λ p r at. (let number : r.number ≡ p = ap (λ (q : SenderRecord T). q.number) (sender_fresh 0 k.senders p r at) ∙ omega arith in ap place number))
+            F.senders);
         each_receiver = subst (λ (p : Shape T). AreInPlace receiver_place t.ring p rs) (sym plan)
             (fresh_in_place receiver_place t.ring k (receiver_at t.ring k) (fresh_receivers 0 (handlers_of k)) rs
-            (λ h r at. (let number : r.number ≡ h = ap (λ (q : ReceiverRecord T). q.number) (receiver_fresh 0 (handlers_of k) h r at) ∙ omega arith in ap place number))
+            (λ h r at.
+            (let number : r.number ≡ h =
+            ap (λ (q : ReceiverRecord T). q.number) (receiver_fresh 0 (handlers_of k) h r at) ∙ omega arith in ap place number))
             F.receivers);
       }
 

@@ -13,6 +13,7 @@ use Rattle.dr_cells.specs.Hold.{whole}
 use Rattle.dr_cells.specs.Tokens.{token_at}
 use Rattle.dr_runs.proofs.Elements.{there, at_below}
 use Rattle.dr_runs.proofs.Lists.{map_there}
+use Rattle.dr_lent.specs.Rows.{AreAllWhole}
 use Rattle.dr_plain_senders.specs.Meaning.Shape.{Shape, handlers_of}
 use Rattle.dr_plain_senders.specs.Meaning.Words.{cell_of, slot_of, keeping_lane}
 use Rattle.dr_plain_senders.specs.declared.record.SenderRecord.{SenderRecord}
@@ -22,7 +23,6 @@ use Rattle.dr_plain_senders.specs.Meaning.Lying.{Laid, unlent, lent, LiesIn}
 use Rattle.dr_plain_senders.specs.Meaning.Moments.{fresh_sender, fresh_senders}
 use Rattle.dr_plain_senders.specs.Inside.Seats.{Ruled, known_senders, known_receivers, fresh_ends, all_ends}
 use Rattle.dr_plain_senders.specs.Inside.Making.{AreFirst, StandFirst}
-use Rattle.dr_plain_senders.specs.Inside.Finishing.{AreAllWhole}
 use Rattle.dr_plain_senders.proofs.Beginning.{sender_fresh, senders_count}
 use Rattle.dr_plain_senders.proofs.Owners.{AllOwned, owned_since}
 use Rattle.dr_plain_senders.proofs.Seats.{kept_of}
@@ -84,7 +84,8 @@ module _ {T : Type 0} where
             let w = R.world in let K = kept_of k w R.reached in
             let fresh : (p : ℕ) (r : SenderRecord T) → get_elem? w.senders p ≡ some r → r.own ≡ [] = λ p r at.
             (let below = at_below w.senders p r at in let all = K.inlets in
-            let stands : get_elem? w.senders p ≡ some (fresh_sender p) = (R.each_end id (all_ends k) F.1.1 (suc p) (Sends (fresh_sender p)) (sender_in k p (omega arith))).1 in
+            let stands : get_elem? w.senders p ≡ some (fresh_sender p) =
+            (R.each_end id (all_ends k) F.1.1 (suc p) (Sends (fresh_sender p)) (sender_in k p (omega arith))).1 in
             ap (λ (q : SenderRecord T). q.own) (some-injective r (fresh_sender p) (sym at ∙ stands))) in
             let none = none_claimed w (owned_since k R.reached.steps R.reached.entries w R.reached.made R.reached.runs) fresh in
             let laid = R.lies.lies i (omega arith) (omega arith) (λ s e. absurd (omega arith)) in

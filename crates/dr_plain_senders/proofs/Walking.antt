@@ -1,9 +1,9 @@
 -- What a walk over the marks comes to.
 use Rattle.std.proofs.Common.{◌≡◌, ℕ, ◌+◌, ◌-◌, ◌<◌, ◌≤◌, true, inl, inr, min, List, [], ◌∷◌, ◌++◌, length, refl, sym, ap, ◌∙◌, subst, arith, append_assoc}
 use Rattle.std.proofs.lemmas.List.{length-append, append-nil}
+use Rattle.dr_lent.specs.declared.lent.Lent.{Lent}
 use Rattle.dr_plain_senders.specs.Meaning.Shape.{Shape}
 use Rattle.dr_plain_senders.specs.Meaning.Words.{in_word, marked_from}
-use Rattle.dr_plain_senders.specs.declared.record.Lent.{Lent}
 use Rattle.dr_plain_senders.specs.declared.record.MarkLook.{MarkLook}
 use Rattle.dr_plain_senders.specs.declared.record.ReceiverRecord.{ReceiverRecord}
 use Rattle.dr_plain_senders.specs.Meaning.Records.{mark_look, mark_looked}
@@ -13,7 +13,8 @@ use Rattle.dr_plain_senders.specs.Inside.Polling.{AllCarry, walked, OnlyLoads, T
 use Rattle.dr_plain_senders.proofs.Bits.{run_few}
 use Rattle.dr_plain_senders.proofs.Stations.{begins_on}
 
-carry_more : {T : Type 0} (k : Shape T) (end s : ℕ) (ms : List ℕ) (m front : ℕ) → AllCarry k end s ms front → front < end → marked_from k front m ≡ in_word k front
+carry_more : {T : Type 0} (k : Shape T) (end s : ℕ) (ms : List ℕ) (m front : ℕ)
+    → AllCarry k end s ms front → front < end → marked_from k front m ≡ in_word k front
     → AllCarry k end s (ms ++ m ∷ []) (front + marked_from k front m)
 carry_more k end s [] m front A lt is = (
   (let at = A in omega arith),
@@ -26,7 +27,8 @@ walks_end : {T : Type 0} (k : Shape T) (end s : ℕ) (ms : List ℕ) (front : �
 walks_end k end s [] front A le = ((let at = A in omega arith), A)
 walks_end k end s (m ∷ ms) front A le = (A.0, inl (A.1, walks_end k end (s + marked_from k s m) ms front A.2 le))
 
-walks_stop : {T : Type 0} (k : Shape T) (end s : ℕ) (ms : List ℕ) (m front : ℕ) → AllCarry k end s ms front → front < end → marked_from k front m < in_word k front
+walks_stop : {T : Type 0} (k : Shape T) (end s : ℕ) (ms : List ℕ) (m front : ℕ)
+    → AllCarry k end s ms front → front < end → marked_from k front m < in_word k front
     → WalksTo k end s (ms ++ m ∷ []) (front + marked_from k front m)
 walks_stop k end s [] m front A lt less = (
   (let at = A in omega arith),
@@ -35,7 +37,8 @@ walks_stop k end s [] m front A lt less = (
 walks_stop k end s (x ∷ ms) m front A lt less = (A.0, inl (A.1, walks_stop k end (s + marked_from k s x) ms m front A.2 lt less))
 
 -- one look more at a mark
-looks_more : {T : Type 0} (k : Shape T) (end s : ℕ) (ms : List ℕ) (m front : ℕ) → AllCarry k end s ms front → mark_looks k s (ms ++ m ∷ []) ≡ mark_looks k s ms ++ mark_look front m ∷ []
+looks_more : {T : Type 0} (k : Shape T) (end s : ℕ) (ms : List ℕ) (m front : ℕ)
+    → AllCarry k end s ms front → mark_looks k s (ms ++ m ∷ []) ≡ mark_looks k s ms ++ mark_look front m ∷ []
 looks_more k end s [] m front A = ap (λ (q : ℕ). mark_look q m ∷ []) (sym A)
 looks_more k end s (x ∷ ms) m front A = ap (λ (xs : List MarkLook). mark_look s x ∷ xs) (looks_more k end (s + marked_from k s x) ms m front A.2)
 
@@ -52,14 +55,16 @@ module _ {T : Type 0} where
       → length s.received ≡ length r.received + length ls
   received_is k r s ms ls is = ap (λ (q : ReceiverRecord T). length q.received) is ∙ length-append r.received ls
 
-  more_is : (k : Shape T) (r s s' : ReceiverRecord T) (end : ℕ) (ms : List ℕ) (ls lents : List (Lent T)) (m front : ℕ) → AllCarry k end (length r.received) ms front
+  more_is : (k : Shape T) (r s s' : ReceiverRecord T) (end : ℕ) (ms : List ℕ) (ls lents : List (Lent T)) (m front : ℕ)
+      → AllCarry k end (length r.received) ms front
       → length s.received ≡ front → s ≡ walked k r ms ls → s' ≡ mark_looked s m lents → s' ≡ walked k r (ms ++ m ∷ []) (ls ++ lents)
   more_is k r s s' end ms ls lents m front A here was is =
       let a = length r.received in
       let marks : s.marks ++ mark_look (length s.received) m ∷ [] ≡ r.marks ++ mark_looks k a (ms ++ m ∷ []) =
       (λ i. (was i).marks ++ mark_look (here i) m ∷ []) ∙ append_assoc r.marks (mark_looks k a ms) (mark_look front m ∷ [])
       ∙ ap (λ (xs : List MarkLook). r.marks ++ xs) (sym (looks_more k end a ms m front A)) in
-      let received : s.received ++ lents ≡ r.received ++ (ls ++ lents) = ap (λ (q : ReceiverRecord T). q.received ++ lents) was ∙ append_assoc r.received ls lents in
+      let received : s.received ++ lents ≡ r.received ++ (ls ++ lents) =
+      ap (λ (q : ReceiverRecord T). q.received ++ lents) was ∙ append_assoc r.received ls lents in
       is ∙ (λ i. record s { received = received i; marks = marks i })
       ∙ ap (λ (q : ReceiverRecord T). record q { received = r.received ++ (ls ++ lents); marks = r.marks ++ mark_looks k a (ms ++ m ∷ []) }) was
 
@@ -78,7 +83,8 @@ module _ {T : Type 0} where
   still_told k r s ms ls is told = ap (λ (q : ReceiverRecord T). q.told) is ∙ told
 
   -- while it walks on it has taken all that it has seen marked
-  pub walked_to : (k : Shape T) (r s : ReceiverRecord T) (room end front : ℕ) → Walking k r room end front s → front ≤ length r.received + room → length s.received ≡ front
+  pub walked_to : (k : Shape T) (r s : ReceiverRecord T) (room end front : ℕ)
+      → Walking k r room end front s → front ≤ length r.received + room → length s.received ≡ front
   walked_to k r s room end front W near = let long = received_is k r s W.marks W.lents W.is in let many = W.many in let low = W.low in omega arith
 
   module _ (k k' : Shape T) (r s s' : ReceiverRecord T) (room end front rest front' : ℕ) (plan : k' ≡ k) (W : Walking k r room end front s) (lt : front < end)
@@ -103,7 +109,11 @@ module _ {T : Type 0} where
         omega (arith, length-append W.lents N.lents)
 
     still : r.told ≡ true → front' ≤ length r.received
-    still told = let none = N.finds.0 (still_told k r s W.marks W.lents W.is told) in let was = W.told told in let same = found in let at = reached in omega arith
+    still told =
+        let none = N.finds.0 (still_told k r s W.marks W.lents W.is told) in
+        let was = W.told told in
+        let same = found in
+        let at = reached in omega arith
 
     is_more : s' ≡ walked k r (W.marks ++ N.mark ∷ []) (W.lents ++ N.lents)
     is_more = more_is k r s s' end W.marks W.lents N.lents N.mark front W.carry here W.is N.is
@@ -114,7 +124,9 @@ module _ {T : Type 0} where
         let all : marked_from k front N.mark ≡ in_word k front = omega arith in record {
           marks = W.marks ++ N.mark ∷ [];
           lents = W.lents ++ N.lents;
-          carry = subst (λ (q : ℕ). AllCarry k end (length r.received) (W.marks ++ N.mark ∷ []) q) (sym at) (carry_more k end (length r.received) W.marks N.mark front W.carry lt all);
+          carry =
+              subst (λ (q : ℕ). AllCarry k end (length r.received) (W.marks ++ N.mark ∷ []) q)
+              (sym at) (carry_more k end (length r.received) W.marks N.mark front W.carry lt all);
           is = is_more;
           low = omega arith;
           many = count;
@@ -125,7 +137,9 @@ module _ {T : Type 0} where
     walked_stop less = let at = reached in let low = W.low in record {
       marks = W.marks ++ N.mark ∷ [];
       lents = W.lents ++ N.lents;
-      walks = subst (λ (q : ℕ). WalksTo k end (length r.received) (W.marks ++ N.mark ∷ []) q) (sym at) (walks_stop k end (length r.received) W.marks N.mark front W.carry lt (omega arith));
+      walks =
+          subst (λ (q : ℕ). WalksTo k end (length r.received) (W.marks ++ N.mark ∷ []) q) (sym at)
+          (walks_stop k end (length r.received) W.marks N.mark front W.carry lt (omega arith));
       is = is_more;
       low = omega arith;
       many = count;

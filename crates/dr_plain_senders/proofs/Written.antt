@@ -1,5 +1,6 @@
 -- What a sender's write leaves of its fields, and what its caller sees.
-use Rattle.std.proofs.Common.{◌≡◌, ◌≢◌, ℕ, ◌%◌, ◌<◌, ◌≤◌, inl, inr, Bool, true, false, not, ◌==◌, ◌&&◌, if◌then◌else◌, List, [], ◌∷◌, ◌++◌, length, get_or, set, sym, refl, ap, ◌∙◌, subst, arith, length-set}
+use Rattle.std.proofs.Common.{◌≡◌, ◌≢◌, ℕ, ◌%◌, ◌<◌, ◌≤◌, inl, inr, Bool, true, false, not, ◌==◌, ◌&&◌, if◌then◌else◌, List, [], ◌∷◌, ◌++◌, length}
+use Rattle.std.proofs.Common.{get_or, set, sym, refl, ap, ◌∙◌, subst, arith, length-set}
 use Rattle.std.specs.Prelude.{None, Some, Option, Ok, Err}
 use Rattle.std.proofs.lemmas.Bool.{cases_Bool, cases_eq, eq-eqb, ne_eqb}
 use Rattle.std.proofs.lemmas.List.{append-nil, length-map, map-set}
@@ -17,18 +18,19 @@ use Rattle.dr_meaning.specs.Meaning.Refusals.{write_causes, IsFirst}
 use Rattle.dr_meaning.specs.Calls.Ends.{Exactly, unknown, MayHold, MayFail}
 use Rattle.dr_runs.proofs.Elements.{there, value_at}
 use Rattle.dr_runs.proofs.Lists.{map_there}
+use Rattle.dr_lent.specs.Rows.{cells_of}
+use Rattle.dr_lent.proofs.Lists.{set_twice}
 use Rattle.dr_plain_senders.specs.Meaning.Words.{cell_of, is_out_by}
 use Rattle.dr_plain_senders.specs.Meaning.Records.{Owns}
-use Rattle.dr_plain_senders.specs.declared.owned.Owned.{Owned}
 use Rattle.dr_plain_senders.specs.declared.record.Own.{Own}
 use Rattle.dr_plain_senders.specs.declared.record.SenderRecord.{SenderRecord}
 use Rattle.dr_plain_senders.specs.Calls.Ends.{SenderStand, SenderEnd}
 use Rattle.dr_plain_senders.specs.Calls.Writing.{Has, Found, Never, Holds, WriteCall, written_where}
 use Rattle.dr_plain_senders.specs.declared.record.Stage.{Stage}
-use Rattle.dr_plain_senders.specs.Inside.Fits.{MarksFit, SenderFits, is_open, cells_of, written_in, writes_of}
+use Rattle.dr_plain_senders.specs.Inside.Fits.{MarksFit, SenderFits, written_in, writes_of}
+use Rattle.dr_plain_senders.specs.Inside.Owned.{Owned, is_open}
 use Rattle.dr_plain_senders.specs.Inside.Refusing.{RefusesBy}
 use Rattle.dr_plain_senders.specs.Inside.Views.{sender_end}
-use Rattle.dr_plain_senders.proofs.Places.{set_twice}
 use Rattle.dr_plain_senders.proofs.Marks.{said_out}
 use Rattle.dr_plain_senders.proofs.Stations.{begins_same}
 use Rattle.dr_plain_senders.proofs.Owning.{mark_was, mark_here, mark_beside, marked_apart}
@@ -49,7 +51,8 @@ holds {T} e o tokens s t own =
     (own.0, own.1, map_there (λ (x : Own T). written_in e.plan o tokens x.sequence) e.knows.own own.0 (record { sequence = s; stage = t }) own.1)
 
 -- the sender writes v to its open sequence s, whose cell lies at c
-module _ {T : Type 0} (e : SenderStand T) (o : Owned) (end s c : ℕ) (tokens tokens' : List (Token T)) (between : Token T) (v : T) (F : SenderFits e o end tokens)
+module _ {T : Type 0} (e : SenderStand T) (o : Owned) (end s c : ℕ)
+    (tokens tokens' : List (Token T)) (between : Token T) (v : T) (F : SenderFits e o end tokens)
     (size : 0 < e.plan.size) (mine : is_marked o.claimed s ≡ true) (hidden : is_marked o.published s ≡ false) (place : c ≡ cell_of e.plan s)
     (put : tokens' ≡ set (set tokens c between) c (token_at e.plan.strip c (whole v))) where
   abbrev pub noted : Owned
@@ -124,7 +127,8 @@ module _ {T : Type 0} (e : SenderStand T) (o : Owned) (end s c : ℕ) (tokens to
   written_here =
       let len = F.marks.writes in let f : Token T → Option T = λ x. held x.hold in
       let marked : is_marked noted.written s ≡ true = mark_here o.written s (omega arith) in
-      let lies : get_or (cells_of tokens') (cell_of e.plan s) None ≡ Some v = value_at (cells_of tokens') (cell_of e.plan s) (f token) None (map_there f tokens' (cell_of e.plan s) token here) in
+      let lies : get_or (cells_of tokens') (cell_of e.plan s) None ≡ Some v =
+      value_at (cells_of tokens') (cell_of e.plan s) (f token) None (map_there f tokens' (cell_of e.plan s) token here) in
       (λ i. if opened i && marked i then lies i else None)
 
   each_write : (q : ℕ) → written_in e.plan noted tokens' q ≡ (if q == s then Some v else written_in e.plan o tokens q)
@@ -184,7 +188,13 @@ write_never e s event past = record {
 
 -- what is answered by the looks
 by_mark : (b : Bool) (refusal : Refusal) → refusal ≡ (if b then AlreadyPublished else NotClaimed)
-    → IsFirst MayHold MayFail refusal (write_causes (record { no_producer = Exactly false; unclaimed = if b then Exactly false else unknown; published = Exactly b; not_owned = Exactly true }))
+    → IsFirst MayHold MayFail refusal
+    (write_causes (record {
+      no_producer = Exactly false;
+      unclaimed = if b then Exactly false else unknown;
+      published = Exactly b;
+      not_owned = Exactly true;
+    }))
 by_mark true refusal is = inr (refl, inr (refl, inl (refl, sym is)))
 by_mark false refusal is = inr (refl, inl (tt, sym is))
 

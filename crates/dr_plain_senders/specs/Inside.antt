@@ -6,6 +6,7 @@ pub mod Making
 pub mod Hands
 pub mod Rows
 pub mod Trades
+pub mod Owned
 pub mod Fits
 pub mod Views
 pub mod Refusing

@@ -15,13 +15,13 @@ ghost use Rattle.dr_plain_senders.specs.Meaning.Words.{claim_word, claimed_in as
 ghost use Rattle.dr_plain_senders.specs.Calls.Plans.{IsPlan};
 ghost use Rattle.dr_plain_senders.specs.Calls.Ends.{SenderEnd, ReceiverEnd, HalterStand};
 ghost use Rattle.dr_plain_senders.specs.Calls.Settling.{AreAllEnds, HasRun, GivesBack, handler_counts};
-ghost use Rattle.dr_plain_senders.specs.Inside.Fits.{PartsFit, is_open};
+ghost use Rattle.dr_plain_senders.specs.Inside.Fits.{PartsFit};
+ghost use Rattle.dr_plain_senders.specs.Inside.Owned.{is_open};
 ghost use Rattle.dr_plain_senders.specs.Inside.Seats.{exchange, ring_ends};
 ghost use Rattle.dr_plain_senders.specs.Inside.Gathering.{AreSendersOf, AreReceiversOf, sender_known, receiver_known};
 ghost use Rattle.dr_plain_senders.specs.Inside.Bringing.{AreTaken, AreBrought, AreHandsOf, AreTogether};
 
 use crate::answers::claimed_in;
-use crate::dealt::{put_at, whole_row};
 use crate::gathered::Gathered;
 use crate::laws::{Halter, RingSeat, Words, moments, settling};
 use crate::left::{ReceiverLeft, SenderLeft};
@@ -32,6 +32,7 @@ use crate::reclaiming::reclaim;
 use crate::sender::Sender;
 use crate::settled::Settled;
 use dr_cells::{Cells, Row, Token, Values};
+use dr_lent::rows::{put_at, whole_row};
 use dr_runs::HandlerCounts;
 use std::marker::Brand;
 use std::snapshot::Snapshot;

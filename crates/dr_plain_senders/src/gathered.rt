@@ -3,8 +3,8 @@
 ghost use Rattle.std.specs.Prelude.{◌≡◌, length, IfOk};
 ghost use Rattle.dr_plain_senders.specs.Inside.Gathered.{HasPlaces};
 
-use crate::dealt::blanks;
 use dr_cells::Token;
+use dr_lent::rows::blanks;
 use dr_runs::HandlerCounts;
 use std::alloc::{AllocError, Global};
 

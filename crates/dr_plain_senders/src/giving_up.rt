@@ -5,9 +5,9 @@ ghost use Rattle.std.specs.Prelude.{◌≡◌, ◌<◌, ◌≤◌, length, slice
 ghost use Rattle.dr_plain_senders.specs.Inside.Seats.{all_ends};
 ghost use Rattle.dr_plain_senders.specs.Inside.Making.{StandFirst};
 
-use crate::dealt::{put_at, whole_row};
 use crate::laws::{RingSeat, RingTable};
 use dr_cells::{Strip, Token};
+use dr_lent::rows::{put_at, whole_row};
 
 // Puts a token in its place, where there is one.
 fn put_inside<T>(tokens: &mut Vec<Token<T>>, place: usize, token: Token<T>)

@@ -78,7 +78,7 @@ pub trait Lends<T> {
     ghost lents: { List (Lent T) };
 
     ghost use Rattle.std.specs.Prelude.{List};
-    ghost use Rattle.dr_plain_senders.specs.declared.record.Lent.{Lent};
+    ghost use Rattle.dr_lent.specs.declared.lent.Lent.{Lent};
 }
 
 impl<T> Lends<T> for Brand {

@@ -4,18 +4,19 @@ ghost use Rattle.std.specs.Prelude.{◌≡◌, ◌+◌, ◌-◌, ◌*◌, ◌^�
 ghost use Rattle.atomic_table.specs.Table.{rest, turned};
 ghost use Rattle.dr_cells.specs.declared.token.Token.{Token as TokenValue};
 ghost use Rattle.dr_cells.specs.Hold.{held};
+ghost use Rattle.dr_lent.specs.declared.lent.Lent.{Lent};
 ghost use Rattle.dr_plain_senders.specs.Meaning.Shape.{handlers_of};
 ghost use Rattle.dr_plain_senders.specs.Meaning.Words.{cell_of, lanes_of, slot_of};
 ghost use Rattle.dr_plain_senders.specs.Meaning.Lying.{Laid, lent, kept_of};
-ghost use Rattle.dr_plain_senders.specs.declared.record.Lent.{Lent};
 ghost use Rattle.dr_plain_senders.specs.Inside.Hands.{with_hand};
 ghost use Rattle.dr_plain_senders.specs.Inside.Rows.{row, blank_row, parts_row, blank_parts, blank_rows, IsWholeOf, AreCollected, first_in, HaveThoseOf};
 ghost use Rattle.dr_plain_senders.specs.Inside.Publishing.{cleared, LendsCells, AreWhole};
 ghost use Rattle.dr_plain_senders.specs.Inside.Seats.{Hand, IsOfRound, LayIn, taken_by_claim, given_by_publication};
 
-use crate::dealt::put_at;
 use crate::laws::SenderStation;
 use dr_cells::Token;
+use dr_lent::rows::put_at;
+use dr_lent::slots::turn_by;
 
 impl<T> SenderStation<T> {
     // Puts a token into the slot that is first in hand, and gives what lay there.
@@ -52,9 +53,7 @@ impl<T> SenderStation<T> {
         requires { count ≤ length self.old.hand }
         ensures { self.new ≡ with_hand self.old (drop count self.old.hand ++ take count self.old.hand) }
     {
-        for turns in 0..count {
-            self.turn();
-        }
+        turn_by(&mut self.seat, count);
     }
 
     // The slot of a lane for a sequence.

@@ -9,7 +9,6 @@
 mod answers;
 mod body;
 mod claiming;
-mod dealt;
 mod events;
 mod exchanges;
 mod finishing;

@@ -19,7 +19,6 @@ ghost use Rattle.dr_plain_senders.specs.Calls.Making.{sender_at, receiver_at, Ar
 ghost use Rattle.dr_plain_senders.specs.Calls.Settling.{AreAllEnds};
 
 use crate::body::RingBody;
-use crate::dealt::{blanks, deal, take_last};
 use crate::giving_up::{give_up, take_back};
 use crate::laws::{Halter, ReceiverStation, RingSeat, RingTable, SenderStation};
 use crate::owned::Owned;
@@ -31,6 +30,7 @@ use crate::sender::Sender;
 use atomic_table::Split;
 use dr_cells::{Cells, Strip, Token};
 use dr_graph::Graph;
+use dr_lent::rows::{blanks, deal, take_last};
 use dr_meaning::{Mode, OpenFault, is_valid_limit};
 use dr_seq::Size;
 use std::alloc::{AllocError, Global};
@@ -79,12 +79,8 @@ fn senders<T: Drop>(
             number,
             looks: 0,
         };
-        senders.push(Sender {
-            station,
-            owned,
-            end: 0,
-            tokens,
-        })?;
+        let sender = Sender::of(station, owned, 0, tokens);
+        senders.push(sender)?;
         rest = next;
     }
     Ok((senders, rest))
@@ -115,12 +111,8 @@ fn receivers<T: Drop>(
             number,
             looks: 0,
         };
-        receivers.push(Receiver {
-            station,
-            taken: 0,
-            completed: 0,
-            parts,
-        })?;
+        let receiver = Receiver::of(station, 0, 0, parts);
+        receivers.push(receiver)?;
         rest = next;
     }
     Ok(receivers)
@@ -161,12 +153,7 @@ fn assemble<T: Drop>(
     let rest = ring.table.shared.split_seat::<Cut>(&mut seat);
     let (senders, rest) = senders(&ring, rest, rooms.marks, rooms.tokens, lists.senders)?;
     let receivers = receivers(&ring, rest, rooms.parts, lists.receivers)?;
-    let halter = Halter {
-        ring,
-        seat,
-        strip,
-        gathered: rooms.gathered,
-    };
+    let halter = Halter::of(ring, seat, strip, rooms.gathered);
     Ok((senders, receivers, halter))
 }
 

@@ -1,18 +1,18 @@
 //! A ring ends once all its ends have left.
 
-ghost use Rattle.std.specs.Prelude.{◌≡◌, ◌<◌, ℕ, false, length, map, replicate};
+ghost use Rattle.std.specs.Prelude.{◌≡◌, ◌<◌, ℕ, Bool, false, length, map, replicate};
 ghost use mathlib.Core.Option.{some};
 ghost use lib.ListN.{get_elem?};
 ghost use Rattle.dr_runs.specs.Gathering.{Gathers};
 ghost use Rattle.dr_plain_senders.specs.Calls.Ends.{SenderEnd};
-ghost use Rattle.dr_plain_senders.specs.Calls.Settling.{AreAllEnds, GivesBack, handler_counts};
+ghost use Rattle.dr_plain_senders.specs.Calls.Settling.{AreAllEnds, HasRun, GivesBack, handler_counts};
 ghost use Rattle.dr_plain_senders.specs.Inside.Seats.{ring_ends};
 ghost use Rattle.dr_plain_senders.specs.Inside.Gathering.{AreSendersOf, AreReceiversOf, sender_known, receiver_known};
 ghost use Rattle.dr_plain_senders.specs.Inside.Bringing.{AreBrought, AreHandsOf};
 ghost use Rattle.dr_plain_senders.specs.Inside.Leaving.{BelongsHalter};
 
 use crate::finishing::{bring_receiver, bring_sender, reclaim_all};
-use crate::laws::{RingSeat, Words};
+use crate::laws::{RingSeat, Words, moments};
 use crate::left::{HalterLeft, ReceiverLeft, SenderLeft};
 use crate::plan::Plan;
 use dr_cells::{Token, Values};
@@ -65,7 +65,8 @@ fn gather_receivers_left<T>(
     }
 }
 
-/// Ends a ring by what its ends left. Its events come back, as where the ends are brought together.
+/// Ends a ring by what its ends left, as where the ends are brought together: there is one run of all
+/// ends that came to what they know, and the ring's events come back by how much it claimed.
 pub(crate) fn end<T>(
     words: &Words<T>,
     plan: &Plan<T>,
@@ -76,7 +77,7 @@ pub(crate) fn end<T>(
     requires keyed { words.now.key ≡ plan.now }
     requires halter { BelongsHalter words.now.table_id plan.now halter }
     requires ends { AreAllEnds senders receivers halter }
-    ensures { (claimed : ℕ) × GivesBack plan.now claimed senders result }
+    ensures { (claimed : ℕ) × (halts : Bool) × HasRun senders receivers halter claimed halts × GivesBack plan.now claimed senders result }
 {
     let mut seat = halter.seat;
     let strip = halter.strip;
@@ -97,5 +98,6 @@ pub(crate) fn end<T>(
         &brought,
         strip.cells,
     );
+    moments::<T>();
     strip.close(row)
 }

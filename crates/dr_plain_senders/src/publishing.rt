@@ -2,14 +2,15 @@
 
 ghost use Rattle.std.specs.Prelude.{◌≡◌, ℕ, ◌+◌, ◌^◌, ◌<◌, ◌≤◌, ◌++◌, List, None, Err, length, true};
 ghost use Rattle.dr_meaning.specs.declared.refusal.Refusal.TheVariants.{NotClaimed};
-ghost use Rattle.dr_plain_senders.specs.declared.record.Lent.{Lent};
+ghost use Rattle.dr_lent.specs.declared.lent.Lent.{Lent};
 ghost use Rattle.dr_plain_senders.specs.declared.record.Stage.{Stage};
 ghost use Rattle.dr_plain_senders.specs.declared.record.Step.TheVariants.{SenderPublishes};
 ghost use Rattle.dr_plain_senders.specs.Meaning.Words.{in_word};
 ghost use Rattle.dr_plain_senders.specs.Meaning.Records.{Owns, events_of, has_published};
 ghost use Rattle.dr_plain_senders.specs.Calls.Ends.{HasStored};
 ghost use Rattle.dr_plain_senders.specs.Calls.Publishing.{PublishCall};
-ghost use Rattle.dr_plain_senders.specs.Inside.Fits.{SenderFits, is_ready};
+ghost use Rattle.dr_plain_senders.specs.Inside.Fits.{SenderFits};
+ghost use Rattle.dr_plain_senders.specs.Inside.Owned.{is_ready};
 ghost use Rattle.dr_plain_senders.specs.Inside.Publishing.{HasPublishedRun, HasPublishedAll, Reaches};
 ghost use Rattle.dr_plain_senders.specs.Inside.Seats.{Hand, given_by_publication};
 

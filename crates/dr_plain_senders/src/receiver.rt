@@ -5,7 +5,9 @@ ghost use Rattle.std.specs.Prelude.{◌≡◌, ◌<◌, ◌^◌, length, IfSome,
 ghost use Rattle.dr_runs.specs.Looks.{looks_counted};
 ghost use Rattle.dr_plain_senders.specs.Meaning.Shape.{handlers_of};
 ghost use Rattle.dr_plain_senders.specs.Calls.Receiving.{PollCall, CompleteCall, ReadsInHand, IsNotInHand};
+ghost use Rattle.dr_plain_senders.specs.Inside.Fits.{ReceiverFits};
 ghost use Rattle.dr_plain_senders.specs.Inside.Leaving.{BelongsReceiver};
+ghost use Rattle.dr_plain_senders.specs.Inside.Views.{receiver_end};
 
 use crate::answers::{claimed_in, nothing_offered};
 use crate::body::RingBody;
@@ -30,6 +32,7 @@ pub struct Receiver<T> {
 }
 
 impl<T> Model for Receiver<T> {
+    ghost use base.Fml.{ftrue};
     ghost use Rattle.dr_plain_senders.specs.Calls.Ends.{ReceiverEnd};
     ghost use Rattle.dr_plain_senders.specs.Inside.Fits.{ReceiverFits};
     ghost use Rattle.dr_plain_senders.specs.Inside.Views.{receiver_end};
@@ -39,9 +42,34 @@ impl<T> Model for Receiver<T> {
     ghost view = { λ s. receiver_end s.station };
 
     ghost invariant = { λ s. ReceiverFits s.station s.taken s.completed s.parts.items };
+
+    ghost also_owns = { λ _. ftrue };
+
+    ghost also_shares = { λ _ _ _. ftrue };
 }
 
+// One lemma shows it, so that a search for `Send` ends here.
+unsafe impl<T: Send + Sync> Send for Receiver<T> {}
+
 impl<T> Receiver<T> {
+    // One with all that it has.
+    pub(crate) fn of(
+        station: ReceiverStation<T>,
+        taken: u64,
+        completed: u64,
+        parts: Vec<Token<T>>,
+    ) -> Receiver<T>
+        requires { ReceiverFits station taken completed parts.items }
+        ensures { result ≡ receiver_end station }
+    {
+        Receiver {
+            station,
+            taken,
+            completed,
+            parts,
+        }
+    }
+
     /// Takes the next events, as many as the barrier offers and there is room for. It looks at the
     /// claim word, and then, for a handler without upstreams, at the words with the marks of the
     /// next events, of one more than there is room for, as far as they are there; or else at the

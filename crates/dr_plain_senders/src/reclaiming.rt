@@ -1,66 +1,24 @@
 //! What lies in the slots, and the parts that handlers have in hand, come back: so every cell that
 //! no sender has is whole again.
 
-ghost use Rattle.std.specs.Prelude.{◌≡◌, ◌+◌, ◌-◌, ◌<◌, ◌≤◌, ◌^◌, ◌++◌, ⊤, [], ◌∷◌, ℕ, List, Option, length, slice_set, map};
+ghost use Rattle.std.specs.Prelude.{◌≡◌, ◌+◌, ◌-◌, ◌<◌, ◌≤◌, ◌^◌, ◌++◌, ⊤, List, Option, length, slice_set, map};
 ghost use Rattle.std.specs.Bool.{MatchBool};
-ghost use mathlib.Core.Option.{some};
-ghost use lib.ListN.{get_elem?};
-ghost use Rattle.atomic_table.specs.Table.{rest};
 ghost use Rattle.dr_cells.specs.declared.token.Token.{Token as TokenValue};
 ghost use Rattle.dr_cells.specs.Hold.{whole};
-ghost use Rattle.dr_cells.specs.Tokens.{no_token, token_at};
+ghost use Rattle.dr_cells.specs.Tokens.{token_at};
+ghost use Rattle.dr_lent.specs.declared.lent.Lent.{Lent};
 ghost use Rattle.dr_plain_senders.specs.Meaning.Shape.{handlers_of};
 ghost use Rattle.dr_plain_senders.specs.Meaning.Words.{cell_of};
 ghost use Rattle.dr_plain_senders.specs.Meaning.Lying.{Laid, lent, kept_of};
-ghost use Rattle.dr_plain_senders.specs.declared.record.Lent.{Lent};
 ghost use Rattle.dr_plain_senders.specs.Inside.Seats.{Hand};
-ghost use Rattle.dr_plain_senders.specs.Inside.Finishing.{is_in_hand as is_in_hand_of, parts_left, AreWide, HoldParts, SameBut, IsRow, whole_of, AreRows, AreBack};
+ghost use Rattle.dr_plain_senders.specs.Inside.Finishing.{parts_left, AreWide, HoldParts, SameBut, IsRow, whole_of, AreRows, AreBack};
 
-use crate::dealt::put_at;
 use crate::laws::{RingSeat, Words};
 use crate::plan::Plan;
 use dr_cells::Token;
+use dr_lent::rows::put_at;
+use dr_lent::slots::{draw, is_in_hand, take_slot};
 use dr_runs::HandlerCounts;
-
-// Whether a handler has its part of a sequence in hand.
-fn is_in_hand(counts: HandlerCounts, sequence: u64) -> bool
-    ensures { result ≡ is_in_hand_of counts sequence }
-{
-    counts.completed <= sequence && sequence < counts.taken
-}
-
-// What lies in the slot that is first in hand.
-fn take_slot<T>(words: &Words<T>, seat: &mut RingSeat<T>, slot: usize) -> Token<T>
-    requires table { seat.old.table_id ≡ words.now.table_id }
-    requires slot { (old : TokenValue T) × (seat.old.me.1 ≡ (slot, old) ∷ rest seat.old.me.1) }
-    ensures seat { seat.new.table_id ≡ seat.old.table_id }
-    ensures taken { (seat.old.me.1 ≡ (slot, result) ∷ rest seat.old.me.1) × (seat.new.me.1 ≡ rest seat.old.me.1 ++ (slot, no_token) ∷ []) }
-{
-    let token = words.exchange(seat, slot, Token::blank());
-    seat.turn();
-    token
-}
-
-// A handler's part of an event, out of its hand, or else out of the slot that is first in hand.
-fn draw<T>(
-    words: &Words<T>,
-    seat: &mut RingSeat<T>,
-    held: bool,
-    slot: usize,
-    place: usize,
-    parts: &mut Vec<Token<T>>,
-) -> Token<T>
-    requires table { seat.old.table_id ≡ words.now.table_id }
-    requires place { place < length parts.old.items }
-    requires slot { MatchBool held ⊤ ((old : TokenValue T) × (seat.old.me.1 ≡ (slot, old) ∷ rest seat.old.me.1)) }
-    ensures seat { seat.new.table_id ≡ seat.old.table_id }
-    ensures drawn { MatchBool held ((get_elem? parts.old.items place ≡ some result) × (parts.new.items ≡ slice_set parts.old.items place no_token) × (seat.new.me.1 ≡ seat.old.me.1)) ((parts.new.items ≡ parts.old.items) × (seat.old.me.1 ≡ (slot, result) ∷ rest seat.old.me.1) × (seat.new.me.1 ≡ rest seat.old.me.1 ++ (slot, no_token) ∷ [])) }
-{
-    if held {
-        return put_at(parts, place, Token::blank());
-    }
-    take_slot(words, seat, slot)
-}
 
 // Every handler's part of what is lent in a cell comes back to what is kept of it.
 fn reclaim_parts<T>(

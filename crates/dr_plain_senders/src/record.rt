@@ -1,13 +1,8 @@
 //! What the ends know. No value of a record is ever made: they stand in proofs alone.
 
+pub use dr_lent::Lent;
 use dr_runs::Look;
 use std::collections::LinkedList;
-
-/// An event as it was lent to all handlers: which lending of its cell, and the event.
-pub struct Lent<T> {
-    pub round: u64,
-    pub event: T,
-}
 
 /// How far a claimed sequence has come: who claimed it, and, once it is published, its event as it
 /// was lent.

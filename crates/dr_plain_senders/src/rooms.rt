@@ -3,11 +3,11 @@
 ghost use Rattle.std.specs.Prelude.{◌≡◌, replicate, IfOk};
 ghost use Rattle.dr_plain_senders.specs.Inside.Rooms.{unmarked, AreBlankRows, AreRooms};
 
-use crate::dealt::blanks;
 use crate::gathered::Gathered;
 use crate::owned::Owned;
 use crate::plan::Plan;
 use dr_cells::Token;
+use dr_lent::rows::blanks;
 use dr_seq::Size;
 use std::alloc::{AllocError, Global};
 

@@ -8,7 +8,9 @@ ghost use Rattle.dr_plain_senders.specs.Meaning.Records.{sender_looked};
 ghost use Rattle.dr_plain_senders.specs.declared.record.Step.TheVariants.{SenderHalts};
 ghost use Rattle.dr_plain_senders.specs.Calls.Ends.{HasStoredAt};
 ghost use Rattle.dr_plain_senders.specs.Calls.Sending.{SenderClaimCall};
+ghost use Rattle.dr_plain_senders.specs.Inside.Fits.{SenderFits};
 ghost use Rattle.dr_plain_senders.specs.Inside.Leaving.{BelongsSender};
+ghost use Rattle.dr_plain_senders.specs.Inside.Views.{sender_end};
 
 use crate::body::RingBody;
 use crate::claiming::ClaimFault;
@@ -34,6 +36,7 @@ pub struct Sender<T> {
 }
 
 impl<T> Model for Sender<T> {
+    ghost use base.Fml.{ftrue};
     ghost use Rattle.dr_plain_senders.specs.Calls.Ends.{SenderEnd};
     ghost use Rattle.dr_plain_senders.specs.Inside.Fits.{SenderFits};
     ghost use Rattle.dr_plain_senders.specs.Inside.Views.{sender_end};
@@ -43,9 +46,34 @@ impl<T> Model for Sender<T> {
     ghost view = { λ s. sender_end s.station s.owned s.tokens.items };
 
     ghost invariant = { λ s. SenderFits s.station s.owned s.end s.tokens.items };
+
+    ghost also_owns = { λ _. ftrue };
+
+    ghost also_shares = { λ _ _ _. ftrue };
 }
 
+// One lemma shows it, so that a search for `Send` ends here.
+unsafe impl<T: Send + Sync> Send for Sender<T> {}
+
 impl<T> Sender<T> {
+    // One with all that it has.
+    pub(crate) fn of(
+        station: SenderStation<T>,
+        owned: Owned,
+        end: u64,
+        tokens: Vec<Token<T>>,
+    ) -> Sender<T>
+        requires { SenderFits station owned end tokens.items }
+        ensures { result ≡ sender_end station owned tokens.items }
+    {
+        Sender {
+            station,
+            owned,
+            end,
+            tokens,
+        }
+    }
+
     /// Claims the next `n` sequences. It looks at the claim word, then at each final handler's
     /// count, and exchanges the claim word if it still is what it was.
     ///

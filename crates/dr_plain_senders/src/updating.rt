@@ -3,9 +3,9 @@
 ghost use Rattle.std.specs.Fn.{FnOnceReturnsAtMut};
 ghost use Rattle.dr_plain_senders.specs.Calls.Writing.{UpdateCall};
 
-use crate::dealt::{change_in, put_at};
 use crate::sender::Sender;
 use dr_cells::Token;
+use dr_lent::rows::{change_in, put_at};
 use dr_meaning::Refusal;
 
 impl<T> Sender<T> {

@@ -6,10 +6,10 @@ ghost use Rattle.dr_plain_senders.specs.Calls.Writing.{WriteCall};
 ghost use Rattle.dr_plain_senders.specs.Inside.Refusing.{RefusesBy};
 
 use crate::answers::claimed_in;
-use crate::dealt::{put_at, write_in};
 use crate::laws::SenderStation;
 use crate::sender::Sender;
 use dr_cells::Token;
+use dr_lent::rows::{put_at, write_in};
 use dr_meaning::Refusal;
 use std::marker::Brand;
 

@@ -1,39 +1,64 @@
-//! Calls on the ends of a ring with one sender, their answers, and runs of them.
+//! Calls on the ends of a ring, and their answers.
 
-use crate::graphs::Shape;
 use dr_meaning::Polled::{Batch, Drained, Gating, Idle};
 use dr_meaning::{Claimed, Polled, Refusal, Reply};
 use dr_seq::Event;
 
-/// A call on one of the ends; receivers go by number.
+/// A call of a sender, a handler or the halter.
 #[derive(Clone, Copy)]
 pub enum Call {
     Claim(u64),
     Write(u64, Event),
+    /// The event that lies there has a thousand more then.
+    Change(u64),
     Publish(u64, u64),
     Close,
+    /// A sender halts the ring.
+    HaltIt,
+    /// The halter does, whatever the number.
     Halt,
     /// With room for so many events, 8 at most.
-    Poll(usize, usize),
-    Complete(usize, u64),
+    Poll(u64),
+    Complete(u64),
 }
 
-/// A call, its answer, and the first events that are in the buffer of a poll then.
-pub type Row = (Call, Reply, &'static [Event]);
-
-/// A run, and what its ends tell when they are brought together.
+/// What a call answers.
 #[derive(Clone, Copy)]
-pub struct Run {
-    pub name: &'static str,
-    pub shape: Shape,
-    pub size: u64,
-    pub limit: u64,
-    pub rows: &'static [Row],
-    pub claimed: u64,
-    pub published: u64,
-    /// How many events each handler took, and how many it completed.
-    pub handlers: &'static [(u64, u64)],
+pub enum Answer {
+    Says(Reply),
+    /// A batch: its first sequence, whether it is all that there is, and its events.
+    Shows(u64, bool, &'static [Event]),
 }
+
+/// Who calls, by number, the call, and its answer.
+pub type Row = (usize, Call, Answer);
+
+const NO_EVENTS: &[Event] = &[];
+
+impl Answer {
+    /// As the machine would give it; a close or a halt that succeeds is `Halting`.
+    pub fn reply(self) -> Reply {
+        match self {
+            Answer::Says(reply) => reply,
+            Answer::Shows(first, end, events) => Reply::Batch {
+                first,
+                count: events.len() as u64,
+                end,
+            },
+        }
+    }
+
+    /// The events that a poll shows.
+    pub fn events(self) -> &'static [Event] {
+        match self {
+            Answer::Says(_) => NO_EVENTS,
+            Answer::Shows(_, _, events) => events,
+        }
+    }
+}
+
+/// No row has this answer. It stands for what no call of a ring says, and answers a call that an end lacks.
+pub const NEVER: Refusal = Refusal::NoHandler;
 
 pub fn claimed(answer: Result<Claimed, Refusal>) -> Reply {
     match answer {

@@ -1,6 +1,8 @@
 //! Events that own memory: how many there are is known at any time.
 
-use crate::checks::check_at;
+ghost use Rattle.std.specs.Prelude.{◌≡◌};
+
+use crate::checks::{check, check_at};
 use dr_plain_senders::Values;
 use std::alloc::Global;
 use std::process::Abort;
@@ -20,13 +22,46 @@ pub fn event(rt: &impl Abort, alive: &Arc<u64>, number: u64) -> Counted {
     }
 }
 
-/// The events that four cells begin with, whose numbers are no sequence's.
-pub fn four(rt: &impl Abort, alloc: Global, alive: &Arc<u64>) -> Vec<Counted> {
+/// What tells how many events there are, of which there are none yet.
+pub fn none_alive(rt: &impl Abort, alloc: Global) -> Arc<u64> {
+    Arc::new(alloc, 0u64).expect(rt, "memory")
+}
+
+/// The events that so many cells begin with, whose numbers are no sequence's.
+pub fn some_events(rt: &impl Abort, alloc: Global, alive: &Arc<u64>, many: u64) -> Vec<Counted> {
     let mut events = Vec::new(alloc);
-    for number in 100..104u64 {
-        events.push(event(rt, alive, number)).expect(rt, "memory");
+    for k in 0..many {
+        let one = event(rt, alive, k.wrapping_add(100));
+        events.push(one).expect(rt, "memory");
     }
     events
+}
+
+/// All ends of a ring over such events, and how many shares there are of what tells how many there are.
+#[derive(Drop)]
+pub struct Counting<E> {
+    pub ends: E,
+    pub alive: Arc<u64>,
+    shares: usize,
+}
+
+impl<E> Counting<E> {
+    pub fn new(rt: &impl Abort, ends: E, alive: &Arc<u64>) -> Counting<E>
+        ensures { result.ends ≡ ends }
+    {
+        let alive = Arc::try_clone(alive).expect(rt, "memory");
+        let shares = Arc::strong_count(&alive);
+        Counting {
+            ends,
+            alive,
+            shares,
+        }
+    }
+
+    /// Each event is there that was there at first, or one in its place.
+    pub fn check_shares(&self, rt: &impl Abort) {
+        check(rt, Arc::strong_count(&self.alive), self.shares);
+    }
 }
 
 fn next_number(events: &mut Values<Counted>) -> u64 {

@@ -3,6 +3,8 @@
 #![tactic(auto)]
 
 #[cfg(test)]
+mod answering;
+#[cfg(test)]
 mod by_closures;
 #[cfg(test)]
 mod by_scripts;
@@ -13,21 +15,35 @@ mod checks;
 #[cfg(test)]
 mod counted;
 #[cfg(test)]
+mod dropped;
+#[cfg(test)]
+mod ends;
+#[cfg(test)]
+mod events;
+#[cfg(test)]
 mod faults;
 #[cfg(test)]
 mod graphs;
 #[cfg(test)]
 mod in_one_call;
 #[cfg(test)]
+mod moments;
+#[cfg(test)]
 mod plain;
 #[cfg(test)]
 mod plain_senders;
 #[cfg(test)]
+mod playing;
+#[cfg(test)]
 mod rows;
+#[cfg(test)]
+mod text_threads;
 #[cfg(test)]
 mod texts;
 #[cfg(test)]
 mod threads;
+#[cfg(test)]
+mod threes;
 #[cfg(test)]
 mod words;
 pub mod work;

@@ -2,6 +2,7 @@
 
 ghost use Rattle.dr_plain_senders.specs.Calls.Settling.{AreAllEnds};
 
+mod calling;
 mod endings;
 mod opening;
 mod play;

@@ -3,12 +3,17 @@
 ghost use Rattle.dr_ring.specs.Calls.Settling.{AreAllEnds};
 
 mod looks;
-mod play;
 mod threads;
 
+use crate::answering::{answer_of_inlet, answer_of_outlet};
+use crate::calls::{Call, done};
+use crate::ends::AllEnds;
 use crate::graphs::{Shape, graph};
-use dr_ring::{Halter, Receiver, Sender, ring};
-use dr_seq::Size;
+use crate::playing::{Came, check_run};
+use crate::rows::RUNS;
+use dr_meaning::Reply;
+use dr_ring::{Halter, Receiver, Sender, Settled, ring, settle};
+use dr_seq::{Event, Size};
 use std::alloc::Global;
 use std::process::Abort;
 
@@ -30,5 +35,54 @@ pub fn open(rt: &impl Abort, alloc: Global, shape: Shape, size: u64, limit: u64)
         sender,
         receivers,
         halter,
+    }
+}
+
+fn came(settled: &Settled) -> Came {
+    let mut handlers = [(0u64, 0u64); 3];
+    for (h, counts) in handlers.iter_mut().enumerate() {
+        if h < settled.handlers() {
+            *counts = (settled.taken(h), settled.completed(h));
+        }
+    }
+    Came {
+        claimed: settled.claimed(),
+        published: Some(settled.published()),
+        halted: None,
+        many: settled.handlers(),
+        handlers,
+        events: None,
+    }
+}
+
+impl AllEnds for Ends {
+    ghost are_all = { λ e. AreAllEnds e.sender e.receivers.items e.halter };
+
+    fn answer<R: Abort>(&mut self, rt: &R, who: usize, call: Call, out: &mut [Event; 8]) -> Reply {
+        match call {
+            Call::Close => done(self.sender.close(), Reply::Halting),
+            Call::Halt => {
+                self.halter.halt();
+                Reply::Halting
+            }
+            Call::Poll(_) | Call::Complete(_) => {
+                assert!(rt; who < self.receivers.len());
+                answer_of_outlet(rt, &mut self.receivers[who], call, out)
+            }
+            _ => answer_of_inlet(&mut self.sender, call),
+        }
+    }
+
+    fn finish(self) -> Came {
+        let settled = settle(self.sender, self.receivers, self.halter);
+        came(&settled)
+    }
+}
+
+#[test]
+fn worked_rows(rt: HostRuntime) {
+    for run in &RUNS {
+        let ends = open(&rt, rt.alloc(), run.shape, run.size, run.limit);
+        let _came = check_run(&rt, ends, run);
     }
 }

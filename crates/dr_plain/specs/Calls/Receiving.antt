@@ -11,7 +11,7 @@ use Rattle.dr_meaning.specs.Calls.Ends.{IsAnswerOf, Completes, as_end}
 use Rattle.dr_graph.specs.Meaning.Graph.{upstreams_of}
 use Rattle.dr_runs.specs.Runs.{IsBeginning, StoresWhereOk}
 use Rattle.dr_runs.specs.Words.{cursor_word, closed_word}
-use Rattle.dr_plain.specs.declared.record.Lent.{Lent}
+use Rattle.dr_lent.specs.declared.lent.Lent.{Lent}
 use Rattle.dr_plain.specs.declared.record.ReceiverRecord.{ReceiverRecord}
 use Rattle.dr_plain.specs.declared.record.Step.TheVariants.{ReceiverCompletes}
 use Rattle.dr_plain.specs.Meaning.Records.{events_of}

@@ -1,21 +1,18 @@
 -- Which ends come together, which run came to them, and what is counted of them.
-use Rattle.std.specs.Prelude.{◌≡◌, ℕ, List, length, map, slice_index_or}
+use Rattle.std.specs.Prelude.{◌≡◌, ℕ, List, length, map}
 use mathlib.Core.Option.{some}
 use lib.ListN.{get_elem?}
 use Rattle.dr_meaning.specs.Meaning.Transcript.{Transcript, LeadsTo}
 use Rattle.dr_meaning.specs.Meaning.Laws.{Laws}
 use Rattle.dr_runs.specs.Gathering.{HasPart}
+use Rattle.dr_runs.specs.declared.counts.HandlerCounts.{HandlerCounts}
 use Rattle.dr_plain.specs.Meaning.Shape.{handlers_of, ring_setup}
 use Rattle.dr_plain.specs.Meaning.Stores.{stores_of_sender, stores_of_receiver, stores_of_halter}
 use Rattle.dr_plain.specs.Meaning.Rule.{World}
 use Rattle.dr_plain.specs.Meaning.Moments.{new_world, picture_of, Runs}
 use Rattle.dr_plain.specs.declared.record.ReceiverRecord.{ReceiverRecord}
 use Rattle.dr_plain.specs.declared.record.Step.{Step}
-use Rattle.dr_plain.specs.declared.settled.HandlerCounts.{HandlerCounts}
 use Rattle.dr_plain.specs.Calls.Ends.{SenderEnd, ReceiverEnd, HalterStand}
-
-abbrev pub counts_at : List HandlerCounts → ℕ → HandlerCounts
-counts_at counts h = slice_index_or counts h record { taken = 0; completed = 0 }
 
 module _ {T : Type 0} where
   -- these are the receivers of a sender's ring, in the graph's order

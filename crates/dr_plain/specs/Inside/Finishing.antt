@@ -1,32 +1,29 @@
 -- How the parts of all lent events come back to the sender's tokens, once all ends are together.
-use Rattle.std.specs.Prelude.{◌≡◌, ◌≢◌, ℕ, ◌+◌, ◌-◌, ◌<◌, ◌≤◌, nat_le, nat_lt, ◌&&◌, Bool, true, if◌then◌else◌, List, [], ◌∷◌, ◌++◌, map, length, drop, Some}
+use Rattle.std.specs.Prelude.{◌≡◌, ◌≢◌, ℕ, ◌+◌, ◌-◌, ◌<◌, ◌≤◌, true, if◌then◌else◌, List, [], ◌∷◌, ◌++◌, map, length, drop, Some}
 use mathlib.Core.Option.{some}
 use lib.ListN.{get_elem?}
-use denote.RawPtr.{Ptr}
 use Rattle.atomic_table.specs.Table.{Step as TableStep}
 use Rattle.dr_cells.specs.declared.token.Token.{Token}
 use Rattle.dr_cells.specs.Hold.{whole, kept, joined}
 use Rattle.dr_cells.specs.Tokens.{token_at, with_hold}
 use Rattle.dr_runs.specs.declared.view.View.{View}
 use Rattle.dr_runs.specs.Gathering.{IsInView, ViewRan}
+use Rattle.dr_lent.specs.Rows.{cells_of}
+use Rattle.dr_lent.specs.declared.lent.Lent.{Lent}
+use Rattle.dr_runs.specs.declared.counts.HandlerCounts.{HandlerCounts}
+use Rattle.dr_lent.specs.Slots.{is_in_hand}
 use Rattle.dr_plain.specs.Meaning.Shape.{Shape, handlers_of}
 use Rattle.dr_plain.specs.Meaning.Words.{cell_of}
 use Rattle.dr_plain.specs.Meaning.Lying.{part_of, placed}
 use Rattle.dr_plain.specs.Meaning.Records.{claimed}
-use Rattle.dr_plain.specs.declared.record.Lent.{Lent}
 use Rattle.dr_plain.specs.declared.record.SenderRecord.{SenderRecord}
 use Rattle.dr_plain.specs.declared.record.EndRecord.{EndRecord}
 use Rattle.dr_plain.specs.declared.record.Step.{Step}
-use Rattle.dr_plain.specs.declared.settled.HandlerCounts.{HandlerCounts}
 use Rattle.dr_plain.specs.Calls.Ends.{SenderEnd, ReceiverEnd, HalterStand}
 use Rattle.dr_plain.specs.Calls.Settling.{AreAllEnds, handler_counts}
 use Rattle.dr_plain.specs.Inside.Seats.{Hand, Sitting, ring_ends, exchange}
 use Rattle.dr_plain.specs.Inside.Gathering.{sender_known, receiver_known, halter_known}
-use Rattle.dr_plain.specs.Inside.Fits.{PartsFit, TokensFit, cells_of}
-
--- a handler has its part of a sequence in hand
-abbrev pub is_in_hand : HandlerCounts → ℕ → Bool
-is_in_hand c s = nat_le c.completed s && nat_lt s c.taken
+use Rattle.dr_plain.specs.Inside.Fits.{PartsFit, TokensFit}
 
 module _ {T : Type 0} where
   -- the first event that still lies lent in its cell
@@ -122,7 +119,3 @@ module _ {T : Type 0} where
         → is_in_hand c s ≡ true → get_elem? lents s ≡ some l → get_elem? parts (cell_of k s) ≡ some (part_of k s (Some l))
     pub others : Hand T
     pub in_front : hand ≡ all_left k 0 counts first (drop first lents) ++ others
-
-  -- every cell of a strip is whole
-  abbrev pub AreAllWhole : Ptr → List (Token T) → Type 0
-  AreAllWhole strip tokens = (i : ℕ) (t : Token T) → get_elem? tokens i ≡ some t → (x : T) × (t ≡ token_at strip i (whole x))

@@ -1,5 +1,5 @@
 -- What the fields of an end have to do with what it knows.
-use Rattle.std.specs.Prelude.{◌≡◌, ℕ, ◌+◌, ◌-◌, ◌<◌, ◌≤◌, List, map, length, replicate, Option, Some, None, Contains}
+use Rattle.std.specs.Prelude.{◌≡◌, ℕ, ◌+◌, ◌-◌, ◌<◌, ◌≤◌, List, length, replicate, Option, Some, None, Contains}
 use mathlib.Core.Option.{some}
 use lib.ListN.{get_elem?}
 use denote.RawPtr.{Ptr}
@@ -8,6 +8,8 @@ use Rattle.dr_cells.specs.Hold.{whole, kept, held}
 use Rattle.dr_cells.specs.Tokens.{token_at}
 use Rattle.dr_graph.specs.Meaning.Graph.{finals}
 use Rattle.dr_runs.specs.Stretches.{stretch, rows}
+use Rattle.dr_lent.specs.declared.lent.Lent.{Lent}
+use Rattle.dr_runs.specs.declared.counts.HandlerCounts.{HandlerCounts}
 use Rattle.dr_plain.specs.Meaning.Shape.{Shape, handlers_of}
 use Rattle.dr_plain.specs.Meaning.Words.{cell_of}
 use Rattle.dr_runs.specs.Words.{count_word}
@@ -17,8 +19,6 @@ use Rattle.dr_runs.specs.Looks.{last_look}
 use Rattle.dr_plain.specs.Calls.Plans.{IsPlan}
 use Rattle.dr_plain.specs.Calls.Ends.{SenderStand, ReceiverStand}
 use Rattle.dr_runs.specs.declared.written.Written.{Written}
-use Rattle.dr_plain.specs.declared.settled.HandlerCounts.{HandlerCounts}
-use Rattle.dr_plain.specs.declared.record.Lent.{Lent}
 use Rattle.dr_plain.specs.declared.record.SenderRecord.{SenderRecord}
 use Rattle.dr_plain.specs.declared.record.ReceiverRecord.{ReceiverRecord}
 use Rattle.dr_plain.specs.Inside.Noted.{Noted}
@@ -91,7 +91,3 @@ module _ {T : Type 0} where
     pub near : count ≤ done + e.knows.plan.size
     pub parts : PartsFit e.knows tokens
     pub hand : e.hand ≡ taken_slots e.knows
-
-  -- what lies in the cells
-  abbrev pub cells_of : List (Token T) → List (Option T)
-  cells_of tokens = map (λ (t : Token T). held t.hold) tokens

@@ -2,9 +2,9 @@
 use Rattle.std.specs.Prelude.{ℕ, replicate, Option, Some, None}
 use Rattle.dr_cells.specs.Hold.{Hold, blank, whole, part, kept}
 use Rattle.dr_runs.specs.Stretches.{stretch}
+use Rattle.dr_lent.specs.declared.lent.Lent.{Lent}
 use Rattle.dr_plain.specs.Meaning.Shape.{Shape, handlers_of}
 use Rattle.dr_plain.specs.Meaning.Lying.{placed}
-use Rattle.dr_plain.specs.declared.record.Lent.{Lent}
 use Rattle.dr_plain.specs.Calls.Ends.{EndOf}
 use Rattle.dr_plain.specs.Inside.Seats.{Hand}
 

@@ -7,15 +7,16 @@ use Rattle.dr_cells.specs.declared.token.Token.{Token}
 use Rattle.dr_cells.specs.Hold.{Hold, blank, whole, part, kept}
 use Rattle.dr_cells.specs.Tokens.{token_at}
 use Rattle.dr_runs.specs.Stretches.{rows}
+use Rattle.dr_lent.specs.Rows.{cells_of}
+use Rattle.dr_lent.specs.declared.lent.Lent.{Lent}
 use Rattle.dr_plain.specs.Meaning.Shape.{Shape, handlers_of}
 use Rattle.dr_plain.specs.Meaning.Words.{cell_of}
 use Rattle.dr_plain.specs.Meaning.Lying.{placed}
 use Rattle.dr_plain.specs.Meaning.Records.{events_of, laid, published_more}
-use Rattle.dr_plain.specs.declared.record.Lent.{Lent}
 use Rattle.dr_plain.specs.declared.record.SenderRecord.{SenderRecord}
 use Rattle.dr_plain.specs.declared.record.Step.TheVariants.{SenderPublishes}
 use Rattle.dr_plain.specs.Calls.Ends.{SenderStand, HasStored}
-use Rattle.dr_plain.specs.Inside.Fits.{Keeps, cells_of}
+use Rattle.dr_plain.specs.Inside.Fits.{Keeps}
 use Rattle.dr_plain.specs.Inside.Seats.{Hand, given_by_publication}
 
 module _ {T : Type 0} where

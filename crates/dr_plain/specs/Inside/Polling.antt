@@ -3,7 +3,7 @@ use Rattle.std.specs.Prelude.{◌≡◌, ℕ, ◌+◌, ◌-◌, ◌<◌, ◌≤�
 use Rattle.dr_graph.specs.Meaning.Graph.{upstreams_of}
 use Rattle.dr_runs.specs.Words.{cursor_word}
 use Rattle.dr_runs.specs.declared.look.Look.{Look}
-use Rattle.dr_plain.specs.declared.record.Lent.{Lent}
+use Rattle.dr_lent.specs.declared.lent.Lent.{Lent}
 use Rattle.dr_plain.specs.declared.record.ReceiverRecord.{ReceiverRecord}
 use Rattle.dr_plain.specs.Meaning.Records.{tells_drained}
 use Rattle.dr_runs.specs.Looks.{look, offered_by}

@@ -1,5 +1,5 @@
 -- The seats that stand for the ends of a ring, the rule that its table keeps, and what each kind of step tells.
-use Rattle.std.specs.Prelude.{◌⊎◌, ◌≡◌, ℕ, ◌-◌, ◌<◌, ◌==◌, if◌then◌else◌, List, [], ◌∷◌, ◌++◌, map, length, take, drop, Option, Some}
+use Rattle.std.specs.Prelude.{◌≡◌, ℕ, ◌-◌, ◌<◌, ◌==◌, if◌then◌else◌, List, [], ◌∷◌, ◌++◌, map, length, take, drop, Option, Some}
 use mathlib.Core.Option.{some}
 use denote.RawPtr.{null_ptr}
 use lib.ListN.{get_elem?}
@@ -12,7 +12,8 @@ use Rattle.dr_runs.specs.Runs.{Ends, Exchange}
 use Rattle.dr_runs.specs.Seats as seats
 use Rattle.dr_runs.specs.Seats.{holding, fresh_view}
 use Rattle.dr_runs.specs.Stretches.{stretch, rows}
-use Rattle.dr_plain.specs.declared.record.Lent.{Lent}
+use Rattle.dr_lent.specs.declared.lent.Lent.{Lent}
+use Rattle.dr_lent.specs.Over as over
 use Rattle.dr_plain.specs.declared.record.SenderRecord.{SenderRecord}
 use Rattle.dr_plain.specs.declared.record.ReceiverRecord.{ReceiverRecord}
 use Rattle.dr_plain.specs.declared.record.HalterRecord.{HalterRecord}
@@ -92,10 +93,10 @@ module _ {T : Type 0} where
 
   -- the rule of a ring as its table's: its ends keep it, or it is over, and no seat stands for an end any more
   abbrev pub IsOver : State (Token T) (View (EndRecord T) (Step T)) → Type 0
-  IsOver s = (seat : ℕ) (view : View (EndRecord T) (Step T)) → get_elem? s.views seat ≡ some view → view.ends ≡ []
+  IsOver s = over.IsOver s
 
   abbrev pub Ruled : Shape → State (Token T) (View (EndRecord T) (Step T)) → Type 0
-  Ruled k s = seats.Ruled (exchange k) s ⊎ IsOver s
+  Ruled k s = over.RuledOrOver (exchange k) s
 
   -- the ends of a new ring: the sender, the halter, and the receivers
   abbrev pub known_receivers : Shape → ℕ → ℕ → List (EndRecord T)

@@ -1,12 +1,7 @@
--- What the loops over the slots in hand come to.
-use Rattle.std.specs.Prelude.{◌≡◌, ◌≢◌, ℕ, ◌-◌, ◌<◌, ◌≤◌, List, length, take, drop, Some}
-use mathlib.Core.Option.{some}
-use lib.ListN.{get_elem?}
-use Rattle.dr_cells.specs.declared.token.Token.{Token}
+-- The slots of a receiver that a loop goes over.
+use Rattle.std.specs.Prelude.{ℕ, ◌-◌, take, drop}
 use Rattle.dr_runs.specs.Stretches.{stretch}
-use Rattle.dr_plain.specs.Meaning.Words.{cell_of}
-use Rattle.dr_plain.specs.Meaning.Lying.{part_of, placed}
-use Rattle.dr_plain.specs.declared.record.Lent.{Lent}
+use Rattle.dr_plain.specs.Meaning.Lying.{placed}
 use Rattle.dr_plain.specs.declared.record.ReceiverRecord.{ReceiverRecord}
 use Rattle.dr_plain.specs.Inside.Fits.{no_lents}
 use Rattle.dr_plain.specs.Inside.Seats.{Hand, lent_all}
@@ -18,20 +13,3 @@ module _ {T : Type 0} where
 
   abbrev pub blanks_between : ReceiverRecord T → ℕ → ℕ → Hand T
   blanks_between r first upto = stretch (placed r.plan r.number) first (no_lents (upto - first))
-
-  -- the parts of the events of some sequences stand in the places of their cells, and all others as before
-  pub record PartsTaken (r : ReceiverRecord T) (first upto : ℕ) (parts parts' : List (Token T)) : Type 0 where
-    pub count : length parts' ≡ length parts
-    pub taken : (s : ℕ) (l : Lent T) → first ≤ s → s < upto → get_elem? r.received s ≡ some l
-        → get_elem? parts' (cell_of r.plan s) ≡ some (part_of r.plan s (Some l))
-    pub others : (i : ℕ) → ((s : ℕ) → first ≤ s → s < upto → cell_of r.plan s ≢ i) → get_elem? parts' i ≡ get_elem? parts i
-
-  -- the parts of the events of some sequences stand in the places of their cells
-  abbrev pub ArePartsBetween : ReceiverRecord T → ℕ → ℕ → List (Token T) → Type 0
-  ArePartsBetween r first upto parts =
-      (s : ℕ) (l : Lent T) → first ≤ s → s < upto → get_elem? r.received s ≡ some l → get_elem? parts (cell_of r.plan s) ≡ some (part_of r.plan s (Some l))
-
-  -- as many, and the same in each place that is none of these cells
-  pub record SamePlaces (r : ReceiverRecord T) (first upto : ℕ) (parts parts' : List (Token T)) : Type 0 where
-    pub count : length parts' ≡ length parts
-    pub others : (i : ℕ) → ((s : ℕ) → first ≤ s → s < upto → cell_of r.plan s ≢ i) → get_elem? parts' i ≡ get_elem? parts i

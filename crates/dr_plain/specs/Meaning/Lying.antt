@@ -6,9 +6,9 @@ use lib.ListN.{get_elem?}
 use Rattle.dr_cells.specs.declared.token.Token.{Token}
 use Rattle.dr_cells.specs.Hold.{part}
 use Rattle.dr_cells.specs.Tokens.{token_at, no_token}
+use Rattle.dr_lent.specs.declared.lent.Lent.{Lent}
 use Rattle.dr_plain.specs.Meaning.Shape.{Shape}
 use Rattle.dr_plain.specs.Meaning.Words.{cell_of, slot_of, slots_of}
-use Rattle.dr_plain.specs.declared.record.Lent.{Lent}
 use Rattle.dr_plain.specs.declared.record.ReceiverRecord.{ReceiverRecord}
 use Rattle.dr_plain.specs.Meaning.Records.{claimed, laid}
 use Rattle.dr_plain.specs.Meaning.Rule.{World}

@@ -3,7 +3,7 @@
 ghost use Rattle.std.specs.Prelude.{◌≡◌, ◌≤◌, ◌++◌, List, ℕ, length, drop, Contains};
 ghost use Rattle.dr_cells.specs.declared.token.Token.{Token};
 ghost use Rattle.dr_graph.specs.Meaning.Graph.{upstreams_of};
-ghost use Rattle.dr_plain.specs.declared.record.Lent.{Lent};
+ghost use Rattle.dr_lent.specs.declared.lent.Lent.{Lent};
 ghost use Rattle.dr_plain.specs.declared.record.Step.TheVariants.{ReceiverCompletes};
 ghost use Rattle.dr_runs.specs.Words.{cursor_word, closed_word, count_word as count_word_of};
 ghost use Rattle.dr_plain.specs.Meaning.Records.{closed_looked, cursor_looked, receiver_looked, taken_at, completed_to};

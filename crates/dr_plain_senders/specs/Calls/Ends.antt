@@ -43,7 +43,8 @@ abbrev pub mark_looks : {T : Type 0} → Shape T → ℕ → List ℕ → List M
 mark_looks k s [] = []
 mark_looks k s (m ∷ marks) = mark_look s m ∷ mark_looks k (s + marked_from k s m) marks
 
--- a sender as its caller sees it: with what is written of each of its sequences, as it claimed them one after another, while it is not published, and what it has in the cells
+-- a sender as its caller sees it: with what is written of each of its sequences, as it
+-- claimed them one after another, while it is not published, and what it has in the cells
 pub record SenderEnd (T : Type 0) : Type 0 where
   pub ring : TableId
   pub plan : Shape T

@@ -19,7 +19,8 @@ exchanged c n found = if found == c then n else 0
 module _ {T : Type 0} where
   -- no fewer sequences are claimed than a receiver took, and no more than it took where it was told that the ring drained
   abbrev pub FindsClaims : ReceiverRecord T → ℕ → Type 0
-  FindsClaims r n = (last_look 0 r.looks claim_word ≤ n) × (length r.received ≤ claimed_in n) × (r.told ≡ true → (is_halted n ≡ true) × (claimed_in n ≡ length r.received))
+  FindsClaims r n =
+      (last_look 0 r.looks claim_word ≤ n) × (length r.received ≤ claimed_in n) × (r.told ≡ true → (is_halted n ≡ true) × (claimed_in n ≡ length r.received))
 
   -- an upstream completed no less than a receiver took, no more where it was told that the ring drained, nor more than a round beyond what it completed
   abbrev pub FindsEvents : Shape T → ReceiverRecord T → ℕ → ℕ → Type 0

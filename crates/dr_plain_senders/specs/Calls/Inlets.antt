@@ -13,7 +13,8 @@ use Rattle.dr_plain_senders.specs.Calls.Writing.{WriteCall}
 use Rattle.dr_plain_senders.specs.Calls.Publishing.{PublishCall}
 
 module _ {T : Type 0} where
-  -- A claim as an exchange's end answers it: where another sender claimed meanwhile, nothing is known of the room, and the claim may be tried again as after `NoRoom`.
+  -- A claim as an exchange's end answers it: where another sender claimed meanwhile,
+  -- nothing is known of the room, and the claim may be tried again as after `NoRoom`.
   abbrev pub ClaimsAsEnd : SenderEnd T → ℕ → SenderEnd T → Result Claimed Trouble → Type 0
   ClaimsAsEnd e n e' (Ok c) = SenderClaimCall e n e' (Ok c)
   ClaimsAsEnd e n e' (Err (IsRefused NoRoom)) = SenderClaimCall e n e' (Err (Refused NoRoom)) ⊎ SenderClaimCall e n e' (Err Contended)

@@ -23,7 +23,8 @@ module _ {T : Type 0} where
   abbrev pub receiver_at : TableId → Shape T → ReceiverRecord T → ReceiverEnd T
   receiver_at ring k r = record { ring = ring; plan = k; knows = r; past = []; stored = [] }
 
-  -- the ends of a new ring: nothing is claimed, received or halted, no end has stored anything, senders stand by their numbers, and receivers in the graph's order
+  -- the ends of a new ring: nothing is claimed, received or halted, no end has stored
+  -- anything, senders stand by their numbers, and receivers in the graph's order
   pub record AreFreshEnds (k : Shape T) (ss : List (SenderEnd T)) (rs : List (ReceiverEnd T)) (t : HalterStand T) : Type 0 where
     pub senders : ss ≡ map (sender_at t.ring k) (fresh_senders 0 k.senders)
     pub receivers : rs ≡ map (receiver_at t.ring k) (fresh_receivers 0 (handlers_of k))

@@ -1,5 +1,6 @@
 -- What a sender's publication answers, and what it leaves of what the sender knows.
-use Rattle.std.specs.Prelude.{◌≡◌, ◌≢◌, ℕ, ◌+◌, ◌<◌, ◌≤◌, ◌==◌, ◌&&◌, nat_lt, nat_le, if◌then◌else◌, Bool, true, false, min, List, [], ◌∷◌, ◌++◌, length, take, drop, Option, None, Some, Result, Ok, Err}
+use Rattle.std.specs.Prelude.{◌≡◌, ◌≢◌, ℕ, ◌+◌, ◌<◌, ◌≤◌, ◌==◌, ◌&&◌, nat_lt, nat_le, if◌then◌else◌, Bool, true, false, min, List, [], ◌∷◌, ◌++◌}
+use Rattle.std.specs.Prelude.{length, take, drop, Option, None, Some, Result, Ok, Err}
 use mathlib.Core.Option.{some}
 use lib.ListN.{get_elem?}
 use Rattle.dr_meaning.specs.declared.refusal.Refusal.{Refusal}
@@ -8,9 +9,9 @@ use Rattle.dr_meaning.specs.Calls.Ends.{Verdict, Exactly, IsAnswerOf, as_end}
 use Rattle.dr_runs.specs.declared.look.Look.{Look}
 use Rattle.dr_runs.specs.Looks.{look}
 use Rattle.dr_runs.specs.Runs.{IsBeginning, StoresWhereOk}
+use Rattle.dr_lent.specs.declared.lent.Lent.{Lent}
 use Rattle.dr_plain_senders.specs.Meaning.Shape.{Shape}
 use Rattle.dr_plain_senders.specs.Meaning.Words.{claim_word, claimed_in, cell_of, in_word}
-use Rattle.dr_plain_senders.specs.declared.record.Lent.{Lent}
 use Rattle.dr_plain_senders.specs.declared.record.Stage.{Stage}
 use Rattle.dr_plain_senders.specs.declared.record.Own.{Own}
 use Rattle.dr_plain_senders.specs.declared.record.SenderRecord.{SenderRecord}
@@ -20,7 +21,8 @@ use Rattle.dr_plain_senders.specs.Meaning.Records.{Owns, is_published, events_of
 use Rattle.dr_plain_senders.specs.Calls.Ends.{SenderEnd, sender_place}
 use Rattle.dr_plain_senders.specs.Calls.Writing.{Sight, Unasked, Holds, IsSight, marks_of, claims_of, sight_tests, written_where}
 
--- how a sender knows whether the last sequence of a stretch is claimed: it is its own, or never claimed, or it looked at the claim word, for one that is not its own, or published
+-- how a sender knows whether the last sequence of a stretch is claimed: it is its own, or
+-- never claimed, or it looked at the claim word, for one that is not its own, or published
 pub data Reach : Type 0 where
   Inside : Reach
   Outside : Reach

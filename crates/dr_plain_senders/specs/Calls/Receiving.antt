@@ -1,5 +1,6 @@
 -- What each call of a receiver answers, and what it leaves of what the receiver knows.
-use Rattle.std.specs.Prelude.{◌≡◌, ◌≢◌, ◌↔◌, ◌⊎◌, ℕ, ◌+◌, ◌-◌, ◌<◌, ◌≤◌, ◌==◌, ◌&&◌, ◌||◌, IsTrue, true, false, min, List, [], ◌∷◌, ◌++◌, length, Some, Result, Ok, Err}
+use Rattle.std.specs.Prelude.{◌≡◌, ◌≢◌, ◌↔◌, ◌⊎◌, ℕ, ◌+◌, ◌-◌, ◌<◌, ◌≤◌, ◌==◌, ◌&&◌, ◌||◌, IsTrue, true, false, min, List, [], ◌∷◌, ◌++◌, length}
+use Rattle.std.specs.Prelude.{Some, Result, Ok, Err}
 use mathlib.Core.Option.{some}
 use lib.ListN.{get_elem?}
 use Rattle.dr_graph.specs.Meaning.Graph.{upstreams_of}
@@ -10,15 +11,16 @@ use Rattle.dr_meaning.specs.Meaning.Refusals.{PollTests, CompleteTests, poll_cau
 use Rattle.dr_meaning.specs.Calls.Ends.{Verdict, Exactly, IsAnswerOf, Completes, poll_tests, complete_tests, as_end}
 use Rattle.dr_runs.specs.Looks.{look, offered_by}
 use Rattle.dr_runs.specs.Runs.{IsBeginning, StoresWhereOk}
+use Rattle.dr_lent.specs.declared.lent.Lent.{Lent}
 use Rattle.dr_plain_senders.specs.Meaning.Shape.{Shape}
 use Rattle.dr_plain_senders.specs.Meaning.Words.{claim_word, claimed_in, is_halted, in_word, marked_from}
-use Rattle.dr_plain_senders.specs.declared.record.Lent.{Lent}
 use Rattle.dr_plain_senders.specs.declared.record.ReceiverRecord.{ReceiverRecord}
 use Rattle.dr_plain_senders.specs.declared.record.Step.TheVariants.{ReceiverCompletes}
 use Rattle.dr_plain_senders.specs.Meaning.Records.{events_of}
 use Rattle.dr_plain_senders.specs.Calls.Ends.{ReceiverEnd, received_of, receiver_place, count_looks, mark_looks}
 
--- a walk over the words of marks from that of the sequence s on: all marks of its sequences from there on are there, up to an end or to the first word that has one which is not
+-- a walk over the words of marks from that of the sequence s on: all marks of its sequences
+-- from there on are there, up to an end or to the first word that has one which is not
 abbrev pub WalksTo : {T : Type 0} → Shape T → ℕ → ℕ → List ℕ → ℕ → Type 0
 WalksTo k end s [] upto = (end ≤ s) × (upto ≡ s)
 WalksTo k end s (m ∷ ms) upto = let n : ℕ = marked_from k s m in

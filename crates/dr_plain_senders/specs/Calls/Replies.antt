@@ -1,5 +1,6 @@
 -- What an end of a ring answers is what the machine replies on the ring's picture.
-use Rattle.std.specs.Prelude.{◌≡◌, ℕ, ◌+◌, ◌-◌, ◌<◌, ◌≤◌, ◌⊎◌, ◌==◌, nat_le, if◌then◌else◌, true, false, List, [], ◌∷◌, ◌++◌, length, slice_index, Option, Some, None, Result, Ok, Err, Contains}
+use Rattle.std.specs.Prelude.{◌≡◌, ℕ, ◌+◌, ◌-◌, ◌<◌, ◌≤◌, ◌⊎◌, ◌==◌, nat_le, if◌then◌else◌, true, false, List, [], ◌∷◌, ◌++◌, length, slice_index}
+use Rattle.std.specs.Prelude.{Option, Some, None, Result, Ok, Err, Contains}
 use mathlib.Core.Option.{some}
 use lib.ListN.{get_elem?}
 use Rattle.dr_graph.specs.Meaning.Graph.{finals}
@@ -124,7 +125,8 @@ module _ {T : Type 0} where
   DecidesPublication k w lo hi seen (Err refusal) = ReachesNow w hi seen.reach × FoundNow k w (lo + seen.ready) seen.stop
 
   -- Each call of an end, by what the end knows and, where it looks, by what the deciding look finds.
-  -- A write is no event of its own here: with its publication it is an entry of the run. So writes and publications are answered as on the picture with what is written.
+  -- A write is no event of its own here: with its publication it is an entry of the run.
+  -- So writes and publications are answered as on the picture with what is written.
   pub record RepliesAsAnswered (k : Shape T) (w : World T) : Type 0 where
     pub refused : (p n : ℕ) (refusal : Refusal) → p < k.senders → DecidesRefusal k w n refusal → Replies k w (Claim p n) (Refused refusal)
     pub claimed : (p n : ℕ) (c : Stretch) → p < k.senders → DecidesStretch k w n c → Replies k w (Claim p n) (Claimed c.lo c.hi)

@@ -1,5 +1,6 @@
 -- What a sender's claim answers, and what it leaves of what the sender knows.
-use Rattle.std.specs.Prelude.{◌≡◌, ◌≢◌, ℕ, ◌+◌, ◌-◌, ◌^◌, ◌<◌, ◌≤◌, ◌⊎◌, true, false, List, [], ◌∷◌, ◌++◌, length, slice_index, replicate, Some, None, Option, Result, Ok, Err}
+use Rattle.std.specs.Prelude.{◌≡◌, ◌≢◌, ℕ, ◌+◌, ◌-◌, ◌^◌, ◌<◌, ◌≤◌, ◌⊎◌, true, false, List, [], ◌∷◌, ◌++◌, length, slice_index, replicate, Some, None}
+use Rattle.std.specs.Prelude.{Option, Result, Ok, Err}
 use mathlib.Core.Option.{some}
 use lib.ListN.{get_elem?}
 use Rattle.dr_seq.specs.Size.{IsSize}
@@ -8,10 +9,10 @@ use Rattle.dr_meaning.specs.declared.command.Claimed.{Claimed}
 use Rattle.dr_graph.specs.Meaning.Graph.{finals}
 use Rattle.dr_runs.specs.declared.look.Look.{Look}
 use Rattle.dr_runs.specs.Looks.{look}
+use Rattle.dr_lent.specs.declared.lent.Lent.{Lent}
 use Rattle.dr_plain_senders.specs.Meaning.Shape.{Shape}
 use Rattle.dr_plain_senders.specs.Meaning.Words.{claim_word, is_halted, cell_of}
 use Rattle.dr_plain_senders.specs.Meaning.Records.{fresh_own, Owns}
-use Rattle.dr_plain_senders.specs.declared.record.Lent.{Lent}
 use Rattle.dr_plain_senders.specs.declared.record.Stage.{Stage}
 use Rattle.dr_plain_senders.specs.declared.record.SenderRecord.{SenderRecord}
 use Rattle.dr_plain_senders.specs.declared.record.Step.{Step}
@@ -58,15 +59,18 @@ Counts k n (Err (Refused BadCount)) = (n ≡ 0) ⊎ (k.size < n)
 Counts k n _ = IsCount k n
 
 module _ {T : Type 0} where
-  -- where a claim of the sender p looked, what it found, and what it exchanged: it looked at the claim word first, then at the finals' counts, and where it found room it exchanged the claim word from what it found there, by which it is decided
+  -- where a claim of the sender p looked, what it found, and what it exchanged: it looked at the claim word first, then at
+  -- the finals' counts, and where it found room it exchanged the claim word from what it found there, by which it is decided
   abbrev pub LooksToClaim : Shape T → ℕ → ℕ → List Look → List (Step T) → Result Claimed ClaimFault → Type 0
   LooksToClaim k p n seen steps (Ok c) =
-      (counts : List ℕ) × FoundRoom k c.lo n counts × (c.hi ≡ c.lo + n - 1) × (seen ≡ look claim_word c.lo ∷ gate_looks k counts ++ look claim_word (c.lo + n) ∷ [])
+      (counts : List ℕ) × FoundRoom k c.lo n counts × (c.hi ≡ c.lo + n - 1)
+      × (seen ≡ look claim_word c.lo ∷ gate_looks k counts ++ look claim_word (c.lo + n) ∷ [])
       × (steps ≡ SenderClaims p c.lo n ∷ [])
   LooksToClaim k p n seen steps (Err (Refused BadCount)) = (seen ≡ []) × (steps ≡ [])
   LooksToClaim k p n seen steps (Err (Refused Halted)) =
       (found : ℕ) × (is_halted found ≡ true) × (((seen ≡ look claim_word found ∷ []) × (steps ≡ []))
-      ⊎ ((c : ℕ) × (counts : List ℕ) × FoundRoom k c n counts × (seen ≡ look claim_word c ∷ gate_looks k counts ++ look claim_word found ∷ []) × (steps ≡ SenderClaims p c n ∷ [])))
+      ⊎ ((c : ℕ) × (counts : List ℕ) × FoundRoom k c n counts
+      × (seen ≡ look claim_word c ∷ gate_looks k counts ++ look claim_word found ∷ []) × (steps ≡ SenderClaims p c n ∷ [])))
   LooksToClaim k p n seen steps (Err (Refused Exhausted)) =
       (found : ℕ) × (is_halted found ≡ false) × (k.limit < found + n) × (seen ≡ look claim_word found ∷ []) × (steps ≡ [])
   LooksToClaim k p n seen steps (Err (Refused NoRoom)) =

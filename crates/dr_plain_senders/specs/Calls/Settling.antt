@@ -6,6 +6,7 @@ use Rattle.dr_meaning.specs.Meaning.Transcript.{Transcript, LeadsTo}
 use Rattle.dr_meaning.specs.Meaning.Laws.{Laws}
 use Rattle.dr_runs.specs.declared.counts.HandlerCounts.{HandlerCounts}
 use Rattle.dr_runs.specs.Gathering.{HasPart}
+use Rattle.dr_lent.specs.declared.lent.Lent.{Lent}
 use Rattle.dr_plain_senders.specs.Meaning.Shape.{Shape, handlers_of, ring_setup}
 use Rattle.dr_plain_senders.specs.Meaning.Words.{cell_of}
 use Rattle.dr_plain_senders.specs.Meaning.Records.{Owns}
@@ -13,7 +14,6 @@ use Rattle.dr_plain_senders.specs.Meaning.Stores.{stores_of_sender, stores_of_re
 use Rattle.dr_plain_senders.specs.Meaning.Rule.{World}
 use Rattle.dr_plain_senders.specs.Meaning.Moments.{new_world, picture_of, Runs}
 use Rattle.dr_plain_senders.specs.Meaning.Settling.{CameTo, Settles}
-use Rattle.dr_plain_senders.specs.declared.record.Lent.{Lent}
 use Rattle.dr_plain_senders.specs.declared.record.Stage.{Stage}
 use Rattle.dr_plain_senders.specs.declared.record.ReceiverRecord.{ReceiverRecord}
 use Rattle.dr_plain_senders.specs.declared.record.Step.{Step}

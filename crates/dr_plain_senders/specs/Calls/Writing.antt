@@ -1,5 +1,6 @@
 -- What a sender's write and change in place answer, and what it leaves of what the sender knows.
-use Rattle.std.specs.Prelude.{◌≡◌, ℕ, ◌<◌, ◌≤◌, ◌==◌, ◌%◌, if◌then◌else◌, Bool, true, false, is_none, slice_index_or, List, [], ◌∷◌, ◌++◌, length, Option, None, Some, Result, Ok, Err, slice_set}
+use Rattle.std.specs.Prelude.{◌≡◌, ℕ, ◌<◌, ◌≤◌, ◌==◌, ◌%◌, if◌then◌else◌, Bool, true, false, is_none, slice_index_or, List, [], ◌∷◌, ◌++◌, length}
+use Rattle.std.specs.Prelude.{Option, None, Some, Result, Ok, Err, slice_set}
 use mathlib.Core.Option.{some}
 use lib.ListN.{get_elem?}
 use Rattle.dr_meaning.specs.declared.refusal.Refusal.{Refusal}
@@ -17,9 +18,12 @@ use Rattle.dr_plain_senders.specs.declared.record.SenderRecord.{SenderRecord}
 use Rattle.dr_plain_senders.specs.Meaning.Records.{Owns, is_published, mark_look}
 use Rattle.dr_plain_senders.specs.Calls.Ends.{SenderEnd, sender_place}
 
--- The refusals of each call are the machine's, in its order. What a sender knows of its own sequences is exact. Of another's it learns by looks at the claim word, at its mark and at the claim word again whether it is published, which these tell exactly; all that is then left of the machine's tests is answered `NotClaimed`, as the machine answers it at one of these moments (`moments`). A sequence at the limit or beyond is never claimed.
+-- The refusals of each call are the machine's, in its order. What a sender knows of its own sequences is exact. Of another's it learns by looks at
+-- the claim word, at its mark and at the claim word again whether it is published, which these tell exactly; all that is then left of the machine's
+-- tests is answered `NotClaimed`, as the machine answers it at one of these moments (`moments`). A sequence at the limit or beyond is never claimed.
 
--- what a sender knows of a sequence when it answers: how far it brought its own, and what it wrote, else what it found at the claim word, at the mark and at the claim word again, or that it is never claimed; or it asked nothing of it
+-- what a sender knows of a sequence when it answers: how far it brought its own, and what it wrote, else what it found
+-- at the claim word, at the mark and at the claim word again, or that it is never claimed; or it asked nothing of it
 pub data Sight (T : Type 0) : Type 0 where
   Has : Stage T → Option T → Sight T
   Found : ℕ → ℕ → ℕ → Sight T
@@ -34,7 +38,8 @@ module _ {T : Type 0} where
   -- it looks at nothing for a sequence that is never claimed, and for its own only where it is published, and finds it so
   abbrev pub IsSight : SenderEnd T → ℕ → Sight T → Type 0
   IsSight e s (Has t w) = Holds e s t w
-  IsSight e s (Found before m after) = (s < e.plan.limit) × ((t : Stage T) → Owns e.knows s t → (is_published t ≡ true) × (is_out_by e.plan s before m after ≡ true))
+  IsSight e s (Found before m after) =
+      (s < e.plan.limit) × ((t : Stage T) → Owns e.knows s t → (is_published t ≡ true) × (is_out_by e.plan s before m after ≡ true))
   IsSight e s Never = e.plan.limit ≤ s
   IsSight e s Unasked = Unit {0}
 

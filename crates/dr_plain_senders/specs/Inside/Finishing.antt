@@ -1,18 +1,19 @@
 -- How every cell comes back whole, once all ends are together.
-use Rattle.std.specs.Prelude.{◌≡◌, ◌≢◌, ℕ, ◌+◌, ◌-◌, nat_le, nat_lt, ◌&&◌, Bool, true, false, if◌then◌else◌, List, [], ◌∷◌, ◌++◌, map, length, slice_index, Option, Some, None}
+use Rattle.std.specs.Prelude.{◌≡◌, ◌≢◌, ℕ, ◌+◌, ◌-◌, Bool, true, false, if◌then◌else◌, List, [], ◌∷◌, ◌++◌, map, length}
+use Rattle.std.specs.Prelude.{slice_index, Option, Some, None}
 use mathlib.Core.Option.{some}
 use lib.ListN.{get_elem?}
-use denote.RawPtr.{Ptr}
 use Rattle.dr_cells.specs.declared.token.Token.{Token}
 use Rattle.dr_cells.specs.Hold.{whole}
 use Rattle.dr_cells.specs.Tokens.{token_at}
 use Rattle.dr_runs.specs.declared.counts.HandlerCounts.{HandlerCounts}
 use Rattle.dr_runs.specs.declared.view.View.{View}
 use Rattle.dr_runs.specs.Gathering.{IsInView, ViewRan}
+use Rattle.dr_lent.specs.declared.lent.Lent.{Lent}
+use Rattle.dr_lent.specs.Slots.{is_in_hand}
 use Rattle.dr_plain_senders.specs.Meaning.Shape.{Shape, handlers_of}
 use Rattle.dr_plain_senders.specs.Meaning.Words.{claim_word, cell_of, keeping_lane, lane_of}
 use Rattle.dr_plain_senders.specs.Meaning.Lying.{Laid, unlent, lent, part_of, placed, IsLaid}
-use Rattle.dr_plain_senders.specs.declared.record.Lent.{Lent}
 use Rattle.dr_plain_senders.specs.declared.record.Stage.{Stage}
 use Rattle.dr_plain_senders.specs.declared.record.EndRecord.{EndRecord}
 use Rattle.dr_plain_senders.specs.declared.record.Step.{Step}
@@ -20,10 +21,6 @@ use Rattle.dr_plain_senders.specs.Calls.Ends.{SenderEnd, ReceiverEnd, HalterStan
 use Rattle.dr_plain_senders.specs.Calls.Settling.{AreAllEnds, handler_counts}
 use Rattle.dr_plain_senders.specs.Inside.Seats.{Hand, Sitting, ring_ends, exchange, IsOfRound}
 use Rattle.dr_plain_senders.specs.Inside.Gathering.{sender_known, receiver_known, halter_known}
-
--- a handler has its part of a sequence in hand
-abbrev pub is_in_hand : HandlerCounts → ℕ → Bool
-is_in_hand c s = nat_le c.completed s && nat_lt s c.taken
 
 module _ {T : Type 0} where
   -- the event in a cell
@@ -34,7 +31,8 @@ module _ {T : Type 0} where
   -- the parts of what lies lent in the cell that the sequence q takes next, from the handler h on: all but those that handlers have in hand
   abbrev pub parts_left : Shape T → ℕ → List HandlerCounts → ℕ → Lent T → Hand T
   parts_left k h [] q l = []
-  parts_left k h (c ∷ counts) q l = if is_in_hand c (q - k.size) then parts_left k (h + 1) counts q l else placed k (lane_of h) q (lent l) ∷ parts_left k (h + 1) counts q l
+  parts_left k h (c ∷ counts) q l =
+      if is_in_hand c (q - k.size) then parts_left k (h + 1) counts q l else placed k (lane_of h) q (lent l) ∷ parts_left k (h + 1) counts q l
 
   -- with what is kept of the cell
   abbrev pub row_left : Shape T → List HandlerCounts → ℕ → Laid T → Hand T
@@ -69,10 +67,6 @@ module _ {T : Type 0} where
     pub are_laid : AreLaid k ran.world.stages laid
     pub hand : me'.1 ≡ rows_left k (map handler_counts ran.world.receivers) (length ran.world.stages) laid ++ me.1
 
-  -- every cell of a strip is whole
-  abbrev pub AreAllWhole : Ptr → List (Token T) → Type 0
-  AreAllWhole strip tokens = (i : ℕ) (t : Token T) → get_elem? tokens i ≡ some t → (x : T) × (t ≡ token_at strip i (whole x))
-
   -- each handler has a row of as many places as there are cells
   pub record AreWide (k : Shape T) (hands : List (List (Token T))) : Type 0 where
     pub count : length hands ≡ handlers_of k
@@ -100,7 +94,8 @@ module _ {T : Type 0} where
   whole_of k q a = token_at k.strip (cell_of k q) (whole (value_of a))
 
   -- what lies in all cells
-  pub record AreRows (k : Shape T) (counts : List HandlerCounts) (c : ℕ) (laid : List (Option (Laid T))) (hand : Hand T) (hands : List (List (Token T))) (brought : List Bool) : Type 0 where
+  pub record AreRows (k : Shape T) (counts : List HandlerCounts) (c : ℕ) (laid : List (Option (Laid T)))
+      (hand : Hand T) (hands : List (List (Token T))) (brought : List Bool) : Type 0 where
     pub count : length laid ≡ k.size
     pub rounds : (i : ℕ) (a : Laid T) → get_elem? laid i ≡ some (Some a) → IsOfRound k (c + i) a
     pub held : (i : ℕ) (l : Lent T) → get_elem? laid i ≡ some (Some (lent l)) → HoldParts k counts (c + i) l hands

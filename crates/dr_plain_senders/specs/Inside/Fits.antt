@@ -1,32 +1,26 @@
 -- What the fields of an end have to do with what it knows.
-use Rattle.std.specs.Prelude.{◌≡◌, ℕ, zero, suc, ◌+◌, ◌-◌, ◌^◌, ◌<◌, ◌≤◌, ◌&&◌, Bool, true, false, not, if◌then◌else◌, List, [], ◌++◌, map, length, Option, None, slice_index_or}
+use Rattle.std.specs.Prelude.{◌≡◌, ℕ, zero, suc, ◌+◌, ◌-◌, ◌^◌, ◌<◌, ◌≤◌, Bool, true, false, if◌then◌else◌, List, [], ◌++◌, map, length}
+use Rattle.std.specs.Prelude.{Option, None, slice_index_or}
 use mathlib.Core.Option.{some}
 use lib.ListN.{get_elem?}
 use Rattle.dr_cells.specs.declared.token.Token.{Token}
 use Rattle.dr_cells.specs.Hold.{held}
 use Rattle.dr_seq.specs.Rounds.{is_marked}
+use Rattle.dr_lent.specs.Rows.{cells_of}
+use Rattle.dr_lent.specs.declared.lent.Lent.{Lent}
 use Rattle.dr_plain_senders.specs.Meaning.Shape.{Shape}
 use Rattle.dr_plain_senders.specs.Meaning.Words.{cell_of}
 use Rattle.dr_plain_senders.specs.Meaning.Lying.{lent, part_of}
 use Rattle.dr_plain_senders.specs.Meaning.Records.{Owns, is_published}
-use Rattle.dr_plain_senders.specs.declared.owned.Owned.{Owned}
-use Rattle.dr_plain_senders.specs.declared.record.Lent.{Lent}
 use Rattle.dr_plain_senders.specs.declared.record.Stage.{Stage}
 use Rattle.dr_plain_senders.specs.declared.record.Own.{Own}
 use Rattle.dr_plain_senders.specs.declared.record.SenderRecord.{SenderRecord}
 use Rattle.dr_plain_senders.specs.declared.record.ReceiverRecord.{ReceiverRecord}
 use Rattle.dr_plain_senders.specs.Calls.Ends.{SenderStand, ReceiverStand}
+use Rattle.dr_plain_senders.specs.Inside.Owned.{Owned, is_open, is_ready}
 use Rattle.dr_plain_senders.specs.Inside.Rows.{blank_row, IsWholeOf}
 use Rattle.dr_plain_senders.specs.Inside.Seats.{Hand}
 use Rattle.dr_plain_senders.specs.Inside.Trades.{blanks_between}
-
--- by a sender's marks, a sequence is its own and not published
-abbrev pub is_open : Owned → ℕ → Bool
-is_open o s = is_marked o.claimed s && not (is_marked o.published s)
-
--- and it may be published
-abbrev pub is_ready : Owned → ℕ → Bool
-is_ready o s = (is_marked o.claimed s && not (is_marked o.published s)) && is_marked o.written s
 
 -- how many of n sequences from s on are open
 abbrev pub open_count : (ℕ → Bool) → ℕ → ℕ → ℕ
@@ -48,7 +42,8 @@ module _ {T : Type 0} where
     pub parts : PartsFit e.plan e.knows tokens
     pub hand : e.hand ≡ blanks_between e.plan e.knows e.knows.completed (length e.knows.received)
 
-  -- A sender's marks: what is marked as claimed is its own, and written and published as far as it is marked so. What it has else is of an older round, and published, and its cell is claimed again.
+  -- A sender's marks: what is marked as claimed is its own, and written and published as far as it is
+  -- marked so. What it has else is of an older round, and published, and its cell is claimed again.
   pub record MarksFit (k : Shape T) (r : SenderRecord T) (o : Owned) : Type 0 where
     pub claims : length o.claimed ≡ k.size
     pub writes : length o.written ≡ k.size
@@ -56,7 +51,8 @@ module _ {T : Type 0} where
     pub own : (s : ℕ) → is_marked o.claimed s ≡ true → (t : Stage T) × Owns r s t
     pub written : (s : ℕ) → is_marked o.written s ≡ true → (t : Stage T) × Owns r s t
     pub published : (s : ℕ) → is_marked o.published s ≡ true → (t : Stage T) × Owns r s t
-    pub old : (s : ℕ) (t : Stage T) → Owns r s t → is_marked o.claimed s ≡ false → (is_published t ≡ true) × ((z : ℕ) × (u : Stage T) × Owns r z u × (s + k.size ≤ z))
+    pub old : (s : ℕ) (t : Stage T) → Owns r s t → is_marked o.claimed s ≡ false
+        → (is_published t ≡ true) × ((z : ℕ) × (u : Stage T) × Owns r z u × (s + k.size ≤ z))
     pub shown : (s : ℕ) (t : Stage T) → Owns r s t → is_marked o.claimed s ≡ true → is_published t ≡ is_marked o.published s
 
   -- the rows of the open ones of n sequences from s on, in rising order, with nothing in them
@@ -64,7 +60,8 @@ module _ {T : Type 0} where
   open_rows k opened s zero = []
   open_rows k opened s (suc n) = if opened s then blank_row k s ++ open_rows k opened (s + 1) n else open_rows k opened (s + 1) n
 
-  -- a sender's marks, one more than its last sequence, and its tokens: it has the cell of each open sequence, and their slots in hand in rising order, with nothing in them
+  -- a sender's marks, one more than its last sequence, and its tokens: it has the cell of
+  -- each open sequence, and their slots in hand in rising order, with nothing in them
   pub record SenderFits (e : SenderStand T) (o : Owned) (end : ℕ) (tokens : List (Token T)) : Type 0 where
     pub marks : MarksFit e.plan e.knows o
     pub limit : end ≤ 2 ^ 62
@@ -75,10 +72,6 @@ module _ {T : Type 0} where
     pub count : length tokens ≡ e.plan.size
     pub whole : (s : ℕ) (t : Token T) → is_open o s ≡ true → get_elem? tokens (cell_of e.plan s) ≡ some t → IsWholeOf e.plan s t
     pub hand : e.hand ≡ open_rows e.plan (is_open o) 0 end
-
-  -- what a sender has in the cells
-  abbrev pub cells_of : List (Token T) → List (Option T)
-  cells_of tokens = map (λ (t : Token T). held t.hold) tokens
 
   -- what is written of a sequence that is not published
   abbrev pub written_in : Shape T → Owned → List (Token T) → ℕ → Option T

@@ -19,9 +19,3 @@ pub record AreFirst {T : Type 0} (k : Shape T) (tokens : List (Token T)) : Type 
 pub record StandFirst {T : Type 0} (strip : Ptr) (n : ℕ) (tokens : List (Token T)) : Type 0 where
   pub count : n ≤ length tokens
   pub each : (i : ℕ) → i < n → (x : T) × (get_elem? tokens i ≡ some (token_at strip i (whole x)))
-
--- and so they do in a row that was dealt
-pub record IsDealt {T : Type 0} (strip : Ptr) (n : ℕ) (events : List T) (tokens tokens' : List (Token T)) : Type 0 where
-  pub count : length tokens' ≡ length tokens
-  pub each : (i : ℕ) (x : T) → get_elem? events i ≡ some x → get_elem? tokens' i ≡ some (token_at strip i (whole x))
-  pub others : (i : ℕ) → n ≤ i → get_elem? tokens' i ≡ get_elem? tokens i

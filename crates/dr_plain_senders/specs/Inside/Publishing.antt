@@ -6,22 +6,24 @@ use Rattle.dr_cells.specs.declared.token.Token.{Token}
 use Rattle.dr_cells.specs.Hold.{held}
 use Rattle.dr_cells.specs.Tokens.{no_token}
 use Rattle.dr_runs.specs.Runs.{IsBeginning}
+use Rattle.dr_lent.specs.Rows.{cells_of}
+use Rattle.dr_lent.specs.declared.lent.Lent.{Lent}
 use Rattle.dr_plain_senders.specs.Meaning.Shape.{Shape}
 use Rattle.dr_plain_senders.specs.Meaning.Words.{claim_word, claimed_in, cell_of}
 use Rattle.dr_plain_senders.specs.Meaning.Records.{events_of, has_published, sender_looked}
-use Rattle.dr_plain_senders.specs.declared.owned.Owned.{Owned}
-use Rattle.dr_plain_senders.specs.declared.record.Lent.{Lent}
 use Rattle.dr_plain_senders.specs.declared.record.SenderRecord.{SenderRecord}
 use Rattle.dr_plain_senders.specs.declared.record.Step.{Step}
 use Rattle.dr_plain_senders.specs.declared.record.Step.TheVariants.{SenderPublishes}
 use Rattle.dr_plain_senders.specs.Calls.Ends.{SenderStand, Stays, HasLoaded}
 use Rattle.dr_plain_senders.specs.Calls.Publishing.{is_between, LosesCells, ArePublished}
 use Rattle.dr_plain_senders.specs.Inside.Rows.{IsWholeOf}
-use Rattle.dr_plain_senders.specs.Inside.Fits.{is_ready, cells_of, written_in}
+use Rattle.dr_plain_senders.specs.Inside.Fits.{written_in}
+use Rattle.dr_plain_senders.specs.Inside.Owned.{Owned, is_ready}
 
 module _ {T : Type 0} where
   -- a sender's sequences from lo up to before upto are published, each with what was written of it: what it knew, its marks and its tokens, before and after
-  pub record ArePublic (k : Shape T) (r : SenderRecord T) (o : Owned) (tokens : List (Token T)) (lo upto : ℕ) (lents : List (Lent T)) (r' : SenderRecord T) (o' : Owned) (tokens' : List (Token T)) : Type 0 where
+  pub record ArePublic (k : Shape T) (r : SenderRecord T) (o : Owned) (tokens : List (Token T)) (lo upto : ℕ)
+      (lents : List (Lent T)) (r' : SenderRecord T) (o' : Owned) (tokens' : List (Token T)) : Type 0 where
     pub many : lo + length lents ≡ upto
     pub events : (i : ℕ) (l : Lent T) → get_elem? lents i ≡ some l → written_in k o tokens (lo + i) ≡ Some l.event
     pub knows : r' ≡ has_published r lo lents
@@ -31,7 +33,8 @@ module _ {T : Type 0} where
     pub ready : (q : ℕ) → upto ≤ q → is_ready o' q ≡ is_ready o q
 
   -- it has published them at once
-  pub record HasPublishedRun (e : SenderStand T) (o : Owned) (tokens : List (Token T)) (lo upto : ℕ) (e' : SenderStand T) (o' : Owned) (tokens' : List (Token T)) : Type 0 where
+  pub record HasPublishedRun (e : SenderStand T) (o : Owned) (tokens : List (Token T))
+      (lo upto : ℕ) (e' : SenderStand T) (o' : Owned) (tokens' : List (Token T)) : Type 0 where
     pub lents : List (Lent T)
     pub all : ArePublic e.plan e.knows o tokens lo upto lents e'.knows o' tokens'
     pub stays : Stays e e'
@@ -39,7 +42,8 @@ module _ {T : Type 0} where
     pub stored : e'.stored ≡ e.stored ++ SenderPublishes e.knows.number lo (events_of lents) ∷ []
 
   -- or word after word of marks
-  pub record HasPublishedAll (e : SenderStand T) (o : Owned) (tokens : List (Token T)) (lo upto : ℕ) (e' : SenderStand T) (o' : Owned) (tokens' : List (Token T)) : Type 0 where
+  pub record HasPublishedAll (e : SenderStand T) (o : Owned) (tokens : List (Token T))
+      (lo upto : ℕ) (e' : SenderStand T) (o' : Owned) (tokens' : List (Token T)) : Type 0 where
     pub lents : List (Lent T)
     pub all : ArePublic e.plan e.knows o tokens lo upto lents e'.knows o' tokens'
     pub stays : Stays e e'
@@ -55,7 +59,8 @@ module _ {T : Type 0} where
 
   -- what is lent of the sequences from s on is what the cells had
   abbrev pub LendsCells : Shape T → List (Token T) → ℕ → List (Lent T) → Type 0
-  LendsCells k tokens s lents = (i : ℕ) (l : Lent T) → get_elem? lents i ≡ some l → (t : Token T) × (get_elem? tokens (cell_of k (s + i)) ≡ some t) × (held t.hold ≡ Some l.event)
+  LendsCells k tokens s lents =
+      (i : ℕ) (l : Lent T) → get_elem? lents i ≡ some l → (t : Token T) × (get_elem? tokens (cell_of k (s + i)) ≡ some t) × (held t.hold ≡ Some l.event)
 
   -- the cells of n sequences from s on are whole in their places
   abbrev pub AreWhole : Shape T → List (Token T) → ℕ → ℕ → Type 0

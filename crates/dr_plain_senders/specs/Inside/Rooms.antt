@@ -3,7 +3,7 @@ use Rattle.std.specs.Prelude.{◌≡◌, ℕ, List, map, replicate}
 use Rattle.std.specs.Global.{Vec}
 use Rattle.dr_cells.specs.declared.token.Token.{Token}
 use Rattle.dr_cells.specs.Tokens.{no_token}
-use Rattle.dr_plain_senders.specs.declared.owned.Owned.{Owned}
+use Rattle.dr_plain_senders.specs.Inside.Owned.{Owned}
 use Rattle.dr_plain_senders.specs.declared.rooms.Rooms.{Rooms}
 use Rattle.dr_plain_senders.specs.Meaning.Shape.{Shape, handlers_of}
 use Rattle.dr_plain_senders.specs.Meaning.Words.{words_of}

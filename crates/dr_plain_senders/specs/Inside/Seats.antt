@@ -1,5 +1,5 @@
 -- The seats that stand for the ends of a ring, the rule that its table keeps, and what each kind of step tells.
-use Rattle.std.specs.Prelude.{◌⊎◌, ◌≡◌, ℕ, ◌+◌, ◌-◌, ◌<◌, ◌≤◌, List, [], ◌∷◌, ◌++◌, map, length, take, drop, Some}
+use Rattle.std.specs.Prelude.{◌≡◌, ℕ, ◌+◌, ◌-◌, ◌<◌, ◌≤◌, List, [], ◌∷◌, ◌++◌, map, length, take, drop, Some}
 use mathlib.Core.Option.{some}
 use denote.RawPtr.{null_ptr}
 use lib.ListN.{get_elem?}
@@ -11,9 +11,10 @@ use Rattle.dr_runs.specs.Runs.{Ends, Exchange}
 use Rattle.dr_runs.specs.Seats as seats
 use Rattle.dr_runs.specs.Seats.{holding, fresh_view}
 use Rattle.dr_runs.specs.Stretches.{stretch, rows}
+use Rattle.dr_lent.specs.declared.lent.Lent.{Lent}
+use Rattle.dr_lent.specs.Over as over
 use Rattle.dr_plain_senders.specs.Meaning.Shape.{Shape, IsShape, handlers_of}
 use Rattle.dr_plain_senders.specs.Meaning.Words.{claim_word, halted_from, words_of, lanes_of, lane_of, slots_of}
-use Rattle.dr_plain_senders.specs.declared.record.Lent.{Lent}
 use Rattle.dr_plain_senders.specs.declared.record.Stage.{Stage}
 use Rattle.dr_plain_senders.specs.declared.record.SenderRecord.{SenderRecord}
 use Rattle.dr_plain_senders.specs.declared.record.ReceiverRecord.{ReceiverRecord}
@@ -84,10 +85,10 @@ module _ {T : Type 0} where
 
   -- the rule of a ring as its table's: its ends keep it, or it is over, and no seat stands for an end any more
   abbrev pub IsOver : State (Token T) (View (EndRecord T) (Step T)) → Type 0
-  IsOver s = (seat : ℕ) (view : View (EndRecord T) (Step T)) → get_elem? s.views seat ≡ some view → view.ends ≡ []
+  IsOver s = over.IsOver s
 
   abbrev pub Ruled : Shape T → State (Token T) (View (EndRecord T) (Step T)) → Type 0
-  Ruled k s = seats.Ruled (exchange k) s ⊎ IsOver s
+  Ruled k s = over.RuledOrOver (exchange k) s
 
   -- n senders of a new ring, from the number p on
   abbrev pub known_senders : ℕ → ℕ → List (EndRecord T)
@@ -156,7 +157,8 @@ module _ {T : Type 0} where
 
   -- of a cell whose last sequence a sender published itself, there lay what it lent
   abbrev pub LayAsLent : Shape T → SenderRecord T → ℕ → List (Laid T) → Type 0
-  LayAsLent k r c laid = (i s : ℕ) (a : Laid T) (t : Stage T) (l : Lent T) → get_elem? laid i ≡ some a → c + i ≡ k.size + s → Owns r s t → t.lent ≡ Some l → a ≡ lent l
+  LayAsLent k r c laid =
+      (i s : ℕ) (a : Laid T) (t : Stage T) (l : Lent T) → get_elem? laid i ≡ some a → c + i ≡ k.size + s → Owns r s t → t.lent ≡ Some l → a ≡ lent l
 
   -- something is lent for each
   abbrev pub lent_all : List (Lent T) → List (Laid T)
@@ -183,7 +185,9 @@ module _ {T : Type 0} where
 
   -- one look tells how many sequences are claimed, and what a sender has is among these
   abbrev pub SenderLookedAtClaims : Tells T
-  SenderLookedAtClaims s me n me' = let r : SenderRecord T = sender_of me.0 in (me' ≡ as_sender (sender_looked r s.word n) me.1) × FindsMore r.looks s.word n × FindsOwn r n
+  SenderLookedAtClaims s me n me' =
+      let r : SenderRecord T = sender_of me.0 in
+      (me' ≡ as_sender (sender_looked r s.word n) me.1) × FindsMore r.looks s.word n × FindsOwn r n
 
   abbrev pub SenderClaimed : Shape T → Tells T
   SenderClaimed k s me n me' = let r : SenderRecord T = sender_of me.0 in let more : ℕ = s.second - s.first in

@@ -1,9 +1,10 @@
 -- How an end's caller sees it.
 use Rattle.std.specs.Prelude.{List}
 use Rattle.dr_cells.specs.declared.token.Token.{Token}
-use Rattle.dr_plain_senders.specs.declared.owned.Owned.{Owned}
+use Rattle.dr_lent.specs.Rows.{cells_of}
+use Rattle.dr_plain_senders.specs.Inside.Owned.{Owned}
 use Rattle.dr_plain_senders.specs.Calls.Ends.{SenderStand, SenderEnd, ReceiverStand, ReceiverEnd}
-use Rattle.dr_plain_senders.specs.Inside.Fits.{cells_of, writes_of}
+use Rattle.dr_plain_senders.specs.Inside.Fits.{writes_of}
 
 module _ {T : Type 0} where
   abbrev pub sender_end : SenderStand T → Owned → List (Token T) → SenderEnd T

@@ -5,9 +5,9 @@ use lib.ListN.{get_elem?}
 use Rattle.dr_cells.specs.declared.token.Token.{Token}
 use Rattle.dr_cells.specs.Hold.{whole, part, kept}
 use Rattle.dr_cells.specs.Tokens.{token_at, no_token}
+use Rattle.dr_lent.specs.declared.lent.Lent.{Lent}
 use Rattle.dr_plain_senders.specs.Meaning.Shape.{Shape, handlers_of}
 use Rattle.dr_plain_senders.specs.Meaning.Words.{cell_of, keeping_lane, lane_of, slot_of, slots_of}
-use Rattle.dr_plain_senders.specs.declared.record.Lent.{Lent}
 use Rattle.dr_plain_senders.specs.declared.record.Stage.{Stage}
 use Rattle.dr_plain_senders.specs.declared.record.ReceiverRecord.{ReceiverRecord}
 use Rattle.dr_plain_senders.specs.Meaning.Rule.{World, IsFree, IsOutWith}
@@ -44,7 +44,8 @@ module _ {T : Type 0} where
 
   -- What is kept of a cell is with the sender of a sequence from its claim to its publication, and a handler's part is so too,
   -- and with its handler from the poll that takes it to the completion. Else each lies in its slot.
-  pub record LiesIn (k : Shape T) (receivers : List (ReceiverRecord T)) (stages : List (Stage T)) (homes : List (Option (Token T))) (q : ℕ) (a : Laid T) : Type 0 where
+  pub record LiesIn (k : Shape T) (receivers : List (ReceiverRecord T)) (stages : List (Stage T))
+      (homes : List (Option (Token T))) (q : ℕ) (a : Laid T) : Type 0 where
     pub laid : IsLaid k stages q a
     pub keeps : get_elem? homes (slot_of k keeping_lane q) ≡ some (some (token_of k keeping_lane q a))
     pub parts : (h : ℕ) (r : ReceiverRecord T) → get_elem? receivers h ≡ some r → (q < k.size + r.completed) ⊎ (k.size + length r.received ≤ q)

@@ -12,15 +12,17 @@ use Rattle.dr_meaning.specs.Meaning.Machine.{State, available}
 use Rattle.dr_meaning.specs.Meaning.Transcript.{Transcript}
 use Rattle.dr_runs.specs.Runs as runs
 use Rattle.dr_runs.specs.Entries.{entry, told_drained}
+use Rattle.dr_lent.specs.declared.lent.Lent.{Lent}
 use Rattle.dr_plain_senders.specs.Meaning.Shape.{Shape, handlers_of, ring_setup}
 use Rattle.dr_plain_senders.specs.Meaning.Words.{claim_word, is_halted, count_word, mark_word, is_out_by, words_of}
-use Rattle.dr_plain_senders.specs.declared.record.Lent.{Lent}
 use Rattle.dr_plain_senders.specs.declared.record.Stage.{Stage}
 use Rattle.dr_plain_senders.specs.declared.record.SenderRecord.{SenderRecord}
 use Rattle.dr_plain_senders.specs.declared.record.ReceiverRecord.{ReceiverRecord}
 use Rattle.dr_plain_senders.specs.declared.record.Step.{Step}
-use Rattle.dr_plain_senders.specs.declared.record.Step.TheVariants.{SenderLooksAtClaims, SenderLooksAtCount, SenderClaims, SenderPublishes, SenderLooksAtMark, SenderHalts}
-use Rattle.dr_plain_senders.specs.declared.record.Step.TheVariants.{ReceiverLooksAtClaims, ReceiverLooksAtMark, ReceiverLooksAtCount, ReceiverCompletes, HalterHalts}
+use Rattle.dr_plain_senders.specs.declared.record.Step.TheVariants.{SenderLooksAtClaims, SenderLooksAtCount, SenderClaims, SenderPublishes}
+use Rattle.dr_plain_senders.specs.declared.record.Step.TheVariants.{SenderLooksAtMark, SenderHalts}
+use Rattle.dr_plain_senders.specs.declared.record.Step.TheVariants.{ReceiverLooksAtClaims, ReceiverLooksAtMark, ReceiverLooksAtCount}
+use Rattle.dr_plain_senders.specs.declared.record.Step.TheVariants.{ReceiverCompletes, HalterHalts}
 use Rattle.dr_plain_senders.specs.Meaning.Records.{fresh_stage, is_published, tells_drained, taken_at_mark, taken_at_count}
 use Rattle.dr_plain_senders.specs.Meaning.Rule.{World, is_out_now}
 use Rattle.dr_plain_senders.specs.Meaning.Steps.{Happens}
@@ -131,7 +133,8 @@ module _ {T : Type 0} where
   -- the machine refuses a write as the claim word and the mark in the sequence's cell say
   abbrev pub RefusesByWords : Shape T → World T → ℕ → ℕ → T → Type 0
   RefusesByWords k w p s event =
-      machine.step (ring_setup k) (picture_of k w) (Write p s event) ≡ machine.unchanged (Refused (if is_out_now k w s then AlreadyPublished else NotClaimed)) (picture_of k w)
+      machine.step (ring_setup k) (picture_of k w) (Write p s event) ≡ machine.unchanged
+      (Refused (if is_out_now k w s then AlreadyPublished else NotClaimed)) (picture_of k w)
 
   -- Looks at the claim word, at a mark and at the claim word again, one after the other, say that a sequence is published or not as it was at one of them.
   abbrev pub ToldByLooks : Shape T → World T → World T → World T → Type 0
@@ -139,7 +142,8 @@ module _ {T : Type 0} where
       let said : Bool = is_out_by k s (slice_index w.words claim_word) (slice_index u.words (mark_word k s)) (slice_index v.words claim_word) in
       ((picture_of k w).published s ≡ said) ⊎ ((picture_of k u).published s ≡ said) ⊎ ((picture_of k v).published s ≡ said)
 
-  -- No handler's count falls, and no claim is taken back: so what the last look of a claim without room finds was so already at its first, and what is claimed stays so.
+  -- No handler's count falls, and no claim is taken back: so what the last look of a
+  -- claim without room finds was so already at its first, and what is claimed stays so.
   abbrev pub NothingFalls : Shape T → World T → World T → Type 0
   NothingFalls k w u =
       ((f : ℕ) → f < handlers_of k → slice_index w.words (count_word f) ≤ slice_index u.words (count_word f)) × (length w.stages ≤ length u.stages)

@@ -3,16 +3,19 @@ use Rattle.std.specs.Prelude.{◌≡◌, ℕ, ◌+◌, ◌<◌, ◌≤◌, ◌==
 use mathlib.Core.Option.{some}
 use lib.ListN.{get_elem?}
 use Rattle.dr_graph.specs.Meaning.Graph.{upstreams_of, finals}
+use Rattle.dr_lent.specs.declared.lent.Lent.{Lent}
 use Rattle.dr_plain_senders.specs.Meaning.Shape.{Shape}
 use Rattle.dr_plain_senders.specs.Meaning.Words.{claim_word, halted_from, count_word, mark_word, mark_bit, in_word, flipped}
-use Rattle.dr_plain_senders.specs.declared.record.Lent.{Lent}
 use Rattle.dr_plain_senders.specs.declared.record.Stage.{Stage}
 use Rattle.dr_plain_senders.specs.declared.record.Step.{Step}
-use Rattle.dr_plain_senders.specs.declared.record.Step.TheVariants.{SenderLooksAtClaims, SenderLooksAtCount, SenderClaims, SenderPublishes, SenderLooksAtMark, SenderHalts}
-use Rattle.dr_plain_senders.specs.declared.record.Step.TheVariants.{ReceiverLooksAtClaims, ReceiverLooksAtMark, ReceiverLooksAtCount, ReceiverCompletes, HalterHalts}
+use Rattle.dr_plain_senders.specs.declared.record.Step.TheVariants.{SenderLooksAtClaims, SenderLooksAtCount, SenderClaims, SenderPublishes}
+use Rattle.dr_plain_senders.specs.declared.record.Step.TheVariants.{SenderLooksAtMark, SenderHalts}
+use Rattle.dr_plain_senders.specs.declared.record.Step.TheVariants.{ReceiverLooksAtClaims, ReceiverLooksAtMark, ReceiverLooksAtCount}
+use Rattle.dr_plain_senders.specs.declared.record.Step.TheVariants.{ReceiverCompletes, HalterHalts}
 use Rattle.dr_plain_senders.specs.declared.record.SenderRecord.{SenderRecord}
 use Rattle.dr_plain_senders.specs.declared.record.ReceiverRecord.{ReceiverRecord}
-use Rattle.dr_plain_senders.specs.Meaning.Records.{fresh_stage, published, Owns, brought, sender_looked, mark_found, claimed_from, receiver_looked, claims_looked}
+use Rattle.dr_plain_senders.specs.Meaning.Records.{fresh_stage, published, Owns, brought, sender_looked, mark_found, claimed_from, receiver_looked}
+use Rattle.dr_plain_senders.specs.Meaning.Records.{claims_looked}
 use Rattle.dr_plain_senders.specs.Meaning.Records.{taken_at_mark, mark_looked, taken_at_count, completed_to, halter_halted, SeesRoom}
 use Rattle.dr_plain_senders.specs.Meaning.Rule.{World, IsOutWith}
 
@@ -24,7 +27,11 @@ module _ {T : Type 0} where
   -- a sender exchanges the claim word c for c + n, and the n sequences from c on are its own
   abbrev pub sender_claims : World T → ℕ → SenderRecord T → ℕ → ℕ → World T
   sender_claims w p r c n =
-      record w { words = slice_set w.words claim_word (c + n); stages = w.stages ++ replicate n (fresh_stage p); senders = slice_set w.senders p (claimed_from r c n) }
+      record w {
+        words = slice_set w.words claim_word (c + n);
+        stages = w.stages ++ replicate n (fresh_stage p);
+        senders = slice_set w.senders p (claimed_from r c n);
+      }
 
   -- a sender flips the mark of the sequence s, which is at the stage t, and so publishes what it lent
   abbrev pub sender_publishes : Shape T → World T → ℕ → SenderRecord T → ℕ → Stage T → Lent T → World T
@@ -76,13 +83,15 @@ module _ {T : Type 0} where
   -- an exchange claims where it finds c, and is a look where it finds another number
   Happens k (SenderClaims p c n) w w' =
       BySender w p (λ r. (0 < n) × SeesRoom k r c n
-      × (w' ≡ (if slice_index w.words claim_word == c then sender_claims w p r c n else sender_knows w p (sender_looked r claim_word (slice_index w.words claim_word)))))
+      × (w' ≡ (if slice_index w.words claim_word == c then sender_claims w p r c n
+      else sender_knows w p (sender_looked r claim_word (slice_index w.words claim_word)))))
   -- the marks of all these sequences are in one word
   Happens k (SenderPublishes p s events) w w' = (length events ≤ in_word k s) × PublishesAll k p s events w w'
   Happens k (SenderLooksAtMark p s) w w' =
       BySender w p (λ r. w' ≡ sender_knows w p (mark_found r s (slice_index w.words (mark_word k s))))
   Happens k (SenderHalts p) w w' =
-      BySender w p (λ r. w' ≡ record w { words = halted_words w; senders = slice_set w.senders p (sender_looked r claim_word (halted_from (slice_index w.words claim_word))) })
+      BySender w p (λ r.
+      w' ≡ record w { words = halted_words w; senders = slice_set w.senders p (sender_looked r claim_word (halted_from (slice_index w.words claim_word))) })
   Happens k (ReceiverLooksAtClaims h) w w' =
       ByReceiver w h (λ r. w' ≡ receiver_knows w h (claims_looked r (slice_index w.words claim_word)))
   -- a receiver without upstreams takes what the marks in the word let through, as far as it has room

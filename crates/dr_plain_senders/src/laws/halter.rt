@@ -2,10 +2,12 @@
 
 ghost use Rattle.std.specs.Arc.{arc_value};
 ghost use Rattle.std.specs.Prelude.{◌≡◌, ℕ};
+ghost use Rattle.dr_runs.specs.Seats.{end_of};
 ghost use Rattle.dr_plain_senders.specs.Meaning.Records.{halter_halted};
 ghost use Rattle.dr_plain_senders.specs.declared.record.Step.TheVariants.{HalterHalts};
 ghost use Rattle.dr_plain_senders.specs.Calls.Ends.{HasStored};
 ghost use Rattle.dr_plain_senders.specs.Inside.Leaving.{BelongsHalter};
+ghost use Rattle.dr_plain_senders.specs.Inside.Stations.{halter_stand, HalterSits};
 
 use super::RingSeat;
 use super::plays::Halt;
@@ -29,6 +31,7 @@ pub struct Halter<T> {
 }
 
 impl<T> Model for Halter<T> {
+    ghost use base.Fml.{ftrue};
     ghost use Rattle.std.specs.Arc.{arc_value};
     ghost use Rattle.dr_runs.specs.Seats.{end_of};
     ghost use Rattle.dr_plain_senders.specs.Calls.Ends.{HalterStand};
@@ -39,9 +42,34 @@ impl<T> Model for Halter<T> {
     ghost view = { λ s. halter_stand s.seat.table_id (arc_value s.ring).plan s.seat.me };
 
     ghost invariant = { λ s. HalterSits (arc_value s.ring).table.shared.table_id s.seat.table_id (arc_value s.ring).table.shared.key (arc_value s.ring).plan (end_of s.seat.me) s.strip.cells.ptr s.strip.len s.gathered };
+
+    ghost also_owns = { λ _. ftrue };
+
+    ghost also_shares = { λ _ _ _. ftrue };
 }
 
+// One lemma shows it, so that a search for `Send` ends here.
+unsafe impl<T: Send + Sync> Send for Halter<T> {}
+
 impl<T> Halter<T> {
+    // One with all that it has.
+    pub(crate) fn of(
+        ring: Arc<RingBody<T>, Global>,
+        seat: RingSeat<T>,
+        strip: Strip<T>,
+        gathered: Gathered<T>,
+    ) -> Halter<T>
+        requires { HalterSits (arc_value ring).table.shared.table_id seat.table_id (arc_value ring).table.shared.key (arc_value ring).plan (end_of seat.me) strip.cells.ptr strip.len gathered }
+        ensures { result ≡ halter_stand seat.table_id (arc_value ring).plan seat.me }
+    {
+        Halter {
+            ring,
+            seat,
+            strip,
+            gathered,
+        }
+    }
+
     /// Halts the ring, in one step. It always succeeds, and may be repeated. What is claimed may
     /// still be written and published; a receiver that took all of it is told `Drained`.
     pub fn halt(&mut self)

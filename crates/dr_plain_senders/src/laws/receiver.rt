@@ -3,7 +3,7 @@
 ghost use Rattle.std.specs.Prelude.{◌≡◌, ◌≤◌, ◌^◌, ◌<◌, ◌++◌, [], List, ℕ, length, drop, Contains};
 ghost use Rattle.dr_cells.specs.declared.token.Token.{Token};
 ghost use Rattle.dr_graph.specs.Meaning.Graph.{upstreams_of};
-ghost use Rattle.dr_plain_senders.specs.declared.record.Lent.{Lent};
+ghost use Rattle.dr_lent.specs.declared.lent.Lent.{Lent};
 ghost use Rattle.dr_plain_senders.specs.declared.record.Step.TheVariants.{ReceiverCompletes};
 ghost use Rattle.dr_plain_senders.specs.Meaning.Words.{count_word as count_word_of};
 ghost use Rattle.dr_plain_senders.specs.Meaning.Records.{claims_looked, taken_at_mark, mark_looked, taken_at_count, receiver_looked, completed_to};

@@ -1,95 +1,13 @@
 //! The worked runs, played on the ends of a ring from one thread until they are brought together.
 
-ghost use Rattle.dr_plain.specs.Calls.Settling.{AreAllEnds, IsHalterOf};
-
-use super::{Ends, open_words};
-use crate::calls::Call::{Claim, Close, Complete, Halt, Poll, Publish, Write};
-use crate::calls::{Call, Run, claimed, done, polled};
-use crate::checks::check_at;
+use super::open_words;
+use crate::playing::check_run;
 use crate::rows::RUNS;
-use dr_meaning::{Outlet, Polled, Refusal, Reply, Trouble};
-use dr_plain::{Receiver, Settled, finish};
-use dr_seq::Event;
-use std::alloc::Global;
-use std::process::Abort;
-
-/// A ring never answers that memory ran out.
-fn answered(answer: Result<Polled, Trouble>) -> Result<Polled, Refusal> {
-    match answer {
-        Ok(polled) => Ok(polled),
-        Err(Trouble::Refused(refusal)) => Err(refusal),
-        Err(Trouble::Memory) => Err(Refusal::NoHandler),
-    }
-}
-
-/// A call's answer, as the machine would give it; a close that succeeds is `Halting`.
-fn answer(rt: &impl Abort, ends: &mut Ends<Event>, call: Call, out: &mut [Event; 8]) -> Reply
-    requires { AreAllEnds ends.old.sender ends.old.receivers.items × IsHalterOf ends.old.sender ends.old.halter }
-    ensures { AreAllEnds ends.new.sender ends.new.receivers.items × IsHalterOf ends.new.sender ends.new.halter }
-{
-    match call {
-        Claim(n) => claimed(ends.sender.try_claim(n)),
-        Write(s, event) => done(ends.sender.write(s, event), Reply::Written),
-        Publish(lo, hi) => done(ends.sender.publish(lo, hi), Reply::Published),
-        Close => done(ends.sender.close(), Reply::Halting),
-        Halt => {
-            ends.halter.halt();
-            Reply::Halting
-        }
-        Poll(h, room) => {
-            assert!(rt; h < ends.receivers.len() && room <= 8);
-            let (front, _) = out.split_at_mut(room);
-            polled(answered(Outlet::poll_into(&mut ends.receivers[h], front)))
-        }
-        Complete(h, upto) => {
-            assert!(rt; h < ends.receivers.len());
-            done(
-                Receiver::complete(&mut ends.receivers[h], upto),
-                Reply::Completed,
-            )
-        }
-    }
-}
-
-/// Makes the calls of a run.
-fn play(rt: &impl Abort, ends: &mut Ends<Event>, run: &Run)
-    requires { AreAllEnds ends.old.sender ends.old.receivers.items × IsHalterOf ends.old.sender ends.old.halter }
-    ensures { AreAllEnds ends.new.sender ends.new.receivers.items × IsHalterOf ends.new.sender ends.new.halter }
-{
-    let mut row = 0u64;
-    for (call, reply, events) in run.rows {
-        let mut out = [Event::NONE; 8];
-        let given = answer(rt, ends, *call, &mut out);
-        check_at(rt, given, *reply, (row, run.name));
-        assert!(rt; events.len() <= 8);
-        check_at(rt, &out[..events.len()], *events, (row, run.name));
-        row = row.wrapping_add(1);
-    }
-}
-
-fn check_settled(rt: &impl Abort, settled: &Settled, run: &Run) {
-    let name = run.name;
-    check_at(rt, settled.claimed(), run.claimed, name);
-    check_at(rt, settled.published(), run.published, name);
-    check_at(rt, settled.handlers(), run.handlers.len(), name);
-    for h in 0..settled.handlers() {
-        assert!(rt; h < run.handlers.len());
-        let (taken, completed) = run.handlers[h];
-        check_at(rt, settled.taken(h), taken, (h, name));
-        check_at(rt, settled.completed(h), completed, (h, name));
-    }
-}
-
-fn check_run(rt: &impl Abort, alloc: Global, run: &Run) {
-    let mut ends = open_words(rt, alloc, run.shape, run.size, run.limit);
-    play(rt, &mut ends, run);
-    let (settled, _) = finish(ends.sender, ends.receivers, ends.halter);
-    check_settled(rt, &settled, run);
-}
 
 #[test]
 fn worked_rows(rt: HostRuntime) {
     for run in &RUNS {
-        check_run(&rt, rt.alloc(), run);
+        let ends = open_words(&rt, rt.alloc(), run.shape, run.size, run.limit);
+        let _came = check_run(&rt, ends, run);
     }
 }

@@ -3,7 +3,7 @@
 use super::{Ends, open};
 use crate::checks::{check, check_at};
 use crate::graphs::Shape;
-use crate::texts::{empty_texts, text_of};
+use crate::texts::{check_drained, empty_texts, receive_three_each, send_three, text_of};
 use dr_meaning::Polled::{Batch, Drained};
 use dr_meaning::{Claimed, MAX_LIMIT, Refusal};
 use dr_plain::{Receiver, Sender};
@@ -20,69 +20,12 @@ pub fn open_texts(rt: &impl Abort, alloc: Global, shape: Shape, slots: u64) -> E
     open(rt, alloc, shape, size, MAX_LIMIT, texts)
 }
 
-// Three texts go to a sender.
-fn send_three(rt: &impl Abort, alloc: Global, sender: &mut Sender<String>, lo: u64) {
-    let hi = lo.wrapping_add(2);
-    check(rt, sender.try_claim(3), Ok(Claimed { lo, hi }));
-    for k in 0..3 {
-        let s = lo.wrapping_add(k);
-        check_at(rt, sender.write(s, text_of(rt, alloc, s)), Ok(()), s);
-    }
-    check_at(rt, sender.publish(lo, hi), Ok(()), lo);
-}
-
-// A text is that of its sequence, under which its receiver shows it too.
-fn check_text(rt: &impl Abort, alloc: Global, receiver: &Receiver<String>, text: &String, s: u64) {
-    let wanted = text_of(rt, alloc, s);
-    check(rt, text.as_str(), wanted.as_str());
-    check(rt, receiver.event(s), Some(text));
-}
-
-// The texts in a receiver's hand are those of the sequences from `lo` up to `hi`.
-fn check_texts(rt: &impl Abort, alloc: Global, receiver: &Receiver<String>, lo: u64, hi: u64) {
-    let mut next = lo;
-    for text in receiver.events() {
-        check_text(rt, alloc, receiver, text, next);
-        next = next.wrapping_add(1);
-    }
-    check(rt, next, hi);
-    check(rt, receiver.event(hi), None);
-}
-
-// A receiver takes three texts, reads them where they lie, and completes them.
-fn receive_three(rt: &impl Abort, alloc: Global, receiver: &mut Receiver<String>, lo: u64) {
-    let upto = lo.wrapping_add(3);
-    let batch = Batch {
-        first: lo,
-        count: 3,
-        end: true,
-    };
-    check_at(rt, receiver.poll(8), Ok(batch), lo);
-    check_texts(rt, alloc, receiver, lo, upto);
-    check_at(rt, receiver.complete(upto), Ok(()), lo);
-    check(rt, receiver.event(lo), None);
-}
-
-fn receive_three_each(rt: &impl Abort, alloc: Global, receivers: &mut [Receiver<String>], lo: u64) {
-    for receiver in receivers {
-        receive_three(rt, alloc, receiver, lo);
-    }
-}
-
 // Twenty times three texts through all receivers.
 fn send_turns(rt: &impl Abort, alloc: Global, ends: &mut Ends<String>) {
     for turn in 0..20u64 {
         let lo = turn.wrapping_mul(3);
         send_three(rt, alloc, &mut ends.sender, lo);
-        check_at(rt, ends.sender.try_claim(2), Err(Refusal::NoRoom), lo);
-        receive_three_each(rt, alloc, &mut ends.receivers, lo);
-    }
-}
-
-fn drain(rt: &impl Abort, ends: &mut Ends<String>) {
-    check(rt, ends.sender.close(), Ok(()));
-    for receiver in &mut ends.receivers {
-        check(rt, receiver.poll(1), Ok(Drained));
+        receive_three_each(rt, alloc, ends.receivers.as_mut_slice(), lo, &[8]);
     }
 }
 
@@ -90,7 +33,8 @@ fn drain(rt: &impl Abort, ends: &mut Ends<String>) {
 fn texts_through_a_diamond(rt: HostRuntime) {
     let mut ends = open_texts(&rt, rt.alloc(), Shape::Diamond, 4);
     send_turns(&rt, rt.alloc(), &mut ends);
-    drain(&rt, &mut ends);
+    check(&rt, ends.sender.close(), Ok(()));
+    check_drained(&rt, ends.receivers.as_mut_slice());
 }
 
 fn again(rt: &impl Abort, number: &Arc<u64>) -> Arc<u64> {
@@ -192,7 +136,7 @@ fn a_receiver_that_leaves_holds_the_sender_up_alone(rt: HostRuntime) {
     let mut ends = open_texts(&rt, rt.alloc(), Shape::SideBySide, 4);
     send_three(&rt, rt.alloc(), &mut ends.sender, 0);
     leave(&rt, &mut ends);
-    receive_three_each(&rt, rt.alloc(), &mut ends.receivers, 0);
+    receive_three_each(&rt, rt.alloc(), ends.receivers.as_mut_slice(), 0, &[8]);
     send_last(&rt, rt.alloc(), &mut ends);
     for receiver in &mut ends.receivers {
         receive_last(&rt, receiver);

@@ -2,26 +2,20 @@
 
 use super::open_words;
 use crate::checks::check;
+use crate::events::THREE;
 use crate::graphs::Shape;
 use crate::threads::{Receive, check_received, start};
-use crate::work::Adder;
+use crate::threes::receive_threes;
 use dr_meaning::MAX_LIMIT;
 use dr_plain::{Receiver, Sender};
 use dr_seq::Event;
-use dr_workers::{OpenGate, Produced, consume, produce};
+use dr_workers::{OpenGate, Produced, produce};
 use std::alloc::Global;
 use std::sync::Wait;
 
 impl Receive for Receiver<Event> {
-    /// How many events came, where each had a three.
     fn receive<R: Wait>(mut self, rt: &R, _alloc: Global, who: usize) -> Option<u64> {
-        let mut adder = Adder { total: 0, count: 0 };
-        let mut buffer = [Event::NONE; 64];
-        let fault = consume(rt, &mut self, &OpenGate, who, &mut adder, &mut buffer);
-        if fault.is_some() || adder.total != adder.count.wrapping_mul(3) {
-            return None;
-        }
-        Some(adder.count)
+        receive_threes(rt, &mut self, who)
     }
 }
 
@@ -34,11 +28,7 @@ fn send<R: Wait>(rt: &R, mut sender: Sender<Event>, script: &[Event]) -> Produce
 
 #[test]
 fn workers_over_a_diamond(rt: HostRuntime) {
-    let event = Event {
-        first: 3,
-        second: 0,
-    };
-    let script = vec![in rt.alloc(); event; 10_000].expect(&rt, "memory");
+    let script = vec![in rt.alloc(); THREE; 10_000].expect(&rt, "memory");
     let ends = open_words(&rt, rt.alloc(), Shape::Diamond, 64, MAX_LIMIT);
     let started = start(rt, rt.alloc(), ends.receivers);
     let all = Produced {

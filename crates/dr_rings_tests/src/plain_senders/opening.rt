@@ -2,7 +2,7 @@
 
 use super::rows::LIMIT;
 use crate::checks::check;
-use crate::counted::four;
+use crate::counted::{none_alive, some_events};
 use crate::graphs::{Shape, graph};
 use dr_meaning::OpenFault;
 use dr_plain_senders::senders_ring;
@@ -13,10 +13,10 @@ use std::sync::Arc;
 
 // A ring of four slots is refused so, and of its events none is left.
 fn check_refused(rt: &impl Abort, alloc: Global, limit: u64, senders: usize, fault: OpenFault) {
-    let alive = Arc::new(alloc, 0u64).expect(rt, "memory");
+    let alive = none_alive(rt, alloc);
     let size = Size::new(4).expect(rt, "a size");
     let graph = graph(rt, alloc, Shape::Chain);
-    let events = four(rt, alloc, &alive);
+    let events = some_events(rt, alloc, &alive, 4);
     assert!(rt; events.len() as u64 == size.get());
     let made = senders_ring(alloc, &graph, size, limit, senders, events);
     check(rt, made.err(), Some(fault));

@@ -2,33 +2,22 @@
 
 use super::open;
 use crate::checks::check;
+use crate::events::THREE;
 use crate::graphs::Shape;
 use crate::threads::{Receive, check_received, start};
-use crate::work::Adder;
+use crate::threes::receive_threes;
 use dr_meaning::MAX_LIMIT;
 use dr_plain_senders::{Receiver, Sender};
 use dr_seq::Event;
-use dr_workers::{OpenGate, Produced, consume, produce};
+use dr_workers::{OpenGate, Produced, produce};
 use std::alloc::Global;
 use std::process::Abort;
 use std::sync::Wait;
 use std::thread::{self, JoinHandle, Threads};
 
-const THREE: Event = Event {
-    first: 3,
-    second: 0,
-};
-
 impl Receive for Receiver<Event> {
-    /// How many events came, where each had a three.
     fn receive<R: Wait>(mut self, rt: &R, _alloc: Global, who: usize) -> Option<u64> {
-        let mut adder = Adder { total: 0, count: 0 };
-        let mut buffer = [Event::NONE; 64];
-        let fault = consume(rt, &mut self, &OpenGate, who, &mut adder, &mut buffer);
-        if fault.is_some() || adder.total != adder.count.wrapping_mul(3) {
-            return None;
-        }
-        Some(adder.count)
+        receive_threes(rt, &mut self, who)
     }
 }
 

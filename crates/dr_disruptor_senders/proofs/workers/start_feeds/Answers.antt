@@ -1,4 +1,3 @@
-use Rattle.dr_disruptor_senders.proofs.Crossing.{crosses}
 use Rattle.std.proofs.Common.{rules, ◌≡◌, ◌++◌, ◌∷◌, [], ap, arith, length, length-append, map, subst, All}
 use Rattle.std.specs.Vec.Iter.{into_iter_items}
 use Rattle.std.proofs.lemmas.List.Elements.{All-head, All-rest}
@@ -34,9 +33,3 @@ spawn_with-requires-clause-runs g c =
     let Callable : g.row.F.Denot → Type 0 = λ f. g.F.Feed.callable f in
     let callable : g.F.Feed.callable c.in-Some-next.feed = All-head Callable c.in-Some-next.feed left (subst (All Callable) next c.loop-sender.invariant.4) in
     search rules
-
-pub spawn_with-requires-send-F : goal.spawn_with-requires-send-F
-spawn_with-requires-send-F g c κs within = let bound = c.type_bounds.send-F in search crosses depth 60 fits 20000
-
-pub spawn_with-requires-send-T : goal.spawn_with-requires-send-T
-spawn_with-requires-send-T g c κs within = let bound = c.type_bounds.send-F in search crosses depth 60 fits 20000

@@ -1,4 +1,3 @@
-use Rattle.dr_disruptor_senders.proofs.Crossing.{crosses}
 use Rattle.std.proofs.Common.{rules, ◌≡◌, ◌++◌, ◌∷◌, [], All, ap, arith, length, length-append, map, subst, sym}
 use Rattle.std.specs.Vec.Iter.{into_iter_items}
 use Rattle.std.proofs.lemmas.List.Elements.{All-append, All-cons, All-nil}
@@ -27,9 +26,3 @@ loop-sender-preserved g c =
       omega arith,
       subst (All IsSized) (sym is_started) (All-append IsSized c.loop-sender.started.items (c.in-Ok.worker ∷ []) inv.4 (All-cons IsSized c.in-Ok.worker [] size (All-nil IsSized))),
     )
-
-pub spawn_with-requires-send-F : goal.spawn_with-requires-send-F
-spawn_with-requires-send-F g c κs within = let bound = c.type_bounds.send-R in search crosses depth 60 fits 20000
-
-pub spawn_with-requires-send-T : goal.spawn_with-requires-send-T
-spawn_with-requires-send-T g c κs within = let bound = c.type_bounds.send-R in search crosses depth 60 fits 20000

@@ -3,8 +3,8 @@ use Rattle.std.proofs.lemmas.List.{length-map}
 use denote.RawPtr.{Ptr}
 use Rattle.dr_cells.specs.declared.token.Token.{Token}
 use Rattle.dr_cells.specs.Hold.{held}
+use Rattle.dr_lent.specs.Rows.{AreAllWhole}
 use Rattle.dr_plain.specs.Meaning.Shape.{Shape}
-use Rattle.dr_plain.specs.Inside.Finishing.{AreAllWhole}
 use Rattle.dr_plain.proofs.Departed.{lanes_kept}
 use Rattle.dr_plain.proofs.finishing.take_back.Goals as goal
 

@@ -1,6 +1,6 @@
 use Rattle.std.proofs.Common.{length, sym, ap, ◌∙◌}
+use Rattle.dr_lent.specs.Rows.{cells_of}
 use Rattle.dr_plain.specs.Calls.Ends.{SenderStand}
-use Rattle.dr_plain.specs.Inside.Fits.{cells_of}
 use Rattle.dr_plain.specs.Inside.Noted.{writes_from}
 use Rattle.dr_plain.proofs.Opened.{fits_new, cells_new}
 use Rattle.dr_plain.proofs.opening.ends.Goals as goal

@@ -1,11 +1,11 @@
 use Rattle.std.proofs.Common.{◌<◌, length, arith, ap, sym, subst, ◌∙◌}
 use Rattle.std.proofs.lemmas.List.{length-replicate}
 use Rattle.dr_cells.specs.Tokens.{no_token}
+use Rattle.dr_lent.proofs.Going.{cut_on}
 use Rattle.dr_plain.specs.Meaning.Shape.{handlers_of}
 use Rattle.dr_runs.specs.Seats.{end_of}
 use Rattle.dr_plain.specs.Inside.Seats.{Sitting}
 use Rattle.dr_plain.specs.Inside.Stations.{ReceiverSits}
-use Rattle.dr_plain.proofs.Going.{cut_on}
 use Rattle.dr_plain.proofs.Making.{cut_own, cut_rest, sits_fresh, fits_fresh, listed_next, view_fresh}
 use Rattle.dr_plain.proofs.opening.receivers.Goals as goal
 

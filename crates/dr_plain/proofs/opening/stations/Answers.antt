@@ -3,13 +3,13 @@ use Rattle.atomic_table.specs.Seated.{TableId}
 use Rattle.dr_seq.proofs.Sizes.{size_positive}
 use Rattle.dr_cells.specs.Tokens.{no_token}
 use Rattle.dr_runs.specs.Seats.{first_view, rest_view}
+use Rattle.dr_lent.proofs.Going.{cut_on}
 use Rattle.dr_plain.specs.Meaning.Shape.{handlers_of}
 use Rattle.dr_plain.specs.Meaning.Moments.{fresh_receivers}
 use Rattle.dr_plain.specs.declared.record.ReceiverRecord.{ReceiverRecord}
 use Rattle.dr_plain.specs.Calls.Making.{at_ring}
 use Rattle.dr_plain.specs.Inside.Seats.{Sitting}
 use Rattle.dr_plain.specs.Inside.Stations.{sender_stand, halter_stand}
-use Rattle.dr_plain.proofs.Going.{cut_on}
 use Rattle.dr_plain.proofs.Making.{ruled_new, some_words}
 use Rattle.dr_plain.proofs.opening.stations.Goals as goal
 

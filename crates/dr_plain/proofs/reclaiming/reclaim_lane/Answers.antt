@@ -1,9 +1,10 @@
 use Rattle.std.proofs.Common.{ℕ, ◌≡◌, ◌%◌, ◌<◌, arith, refl, ap, ◌∙◌, subst}
 use Rattle.std.proofs.Math.Nat.{mod-lt}
 use lib.ListN.{get_elem?}
+use Rattle.dr_lent.proofs.Tokens.{can_join}
+use Rattle.dr_plain.specs.Meaning.Words.{cell_of}
 use Rattle.dr_plain.specs.Inside.Finishing.{TakesLane, OnePartBack}
 use Rattle.dr_runs.proofs.Elements.{there}
-use Rattle.dr_plain.proofs.Tokens.{can_join}
 use Rattle.dr_plain.proofs.Returning.{untouched_none, back_none, back_more, lane_begins, may_draw, drawn, next_out}
 use Rattle.dr_plain.proofs.reclaiming.reclaim_lane.Goals as goal
 
@@ -31,7 +32,7 @@ join_at-requires g c =
     let out_now = next_out _ _ _ _ _ s lane.0 lane.1 _ _ _ _ l.0 L inv.4 inv.1 (omega arith) l.1 in (
       _,
       ap (λ (n : ℕ). get_elem? c.loop-sequence.tokens.items n) place ∙ out_now,
-      can_join c.args.plan.now s _ _ lane.0 l.0 refl (D.is l.0 l.1) L.some_part,
+      can_join c.args.plan.now.strip (cell_of c.args.plan.now s) _ _ lane.0 l.0 refl (D.is l.0 l.1) L.some_part,
     )
 
 pub loop-sequence-preserved : goal.loop-sequence-preserved

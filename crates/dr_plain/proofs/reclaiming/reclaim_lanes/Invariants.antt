@@ -1,7 +1,7 @@
 use Rattle.std.proofs.Common.{◌≡◌, ◌-◌, ◌++◌, List, map, drop}
+use Rattle.dr_lent.specs.Rows.{cells_of}
+use Rattle.dr_lent.specs.declared.lent.Lent.{Lent}
 use Rattle.dr_plain.specs.Meaning.Shape.{handlers_of}
-use Rattle.dr_plain.specs.declared.record.Lent.{Lent}
-use Rattle.dr_plain.specs.Inside.Fits.{cells_of}
 use Rattle.dr_plain.specs.Inside.Seats.{Hand}
 use Rattle.dr_plain.specs.Inside.Finishing.{all_left, AreOut, AreLanes}
 use Rattle.dr_plain.proofs.Returning.{SameFrom}

@@ -1,7 +1,8 @@
 use Rattle.std.proofs.Common.{ℕ, ◌%◌, arith, refl, ap, ◌∙◌}
 use lib.ListN.{get_elem?}
 use Rattle.dr_runs.proofs.Elements.{there}
-use Rattle.dr_plain.proofs.Tokens.{is_back}
+use Rattle.dr_lent.proofs.Tokens.{is_back}
+use Rattle.dr_plain.specs.Meaning.Words.{cell_of}
 use Rattle.dr_plain.proofs.Returning.{whole_next, whole_cells, whole_all}
 use Rattle.dr_plain.proofs.reclaiming.regain_all.Goals as goal
 
@@ -15,7 +16,7 @@ regain_at-requires g c =
     let place = c.slot-place.ensures ∙ ap (λ (n : ℕ). s % n) c.size.ensures in (
       _,
       ap (λ (n : ℕ). get_elem? c.loop-sequence.tokens.items n) place ∙ at,
-      is_back c.args.plan.now s _ 0 l.0 refl refl,
+      is_back c.args.plan.now.strip (cell_of c.args.plan.now s) _ 0 l.0 refl refl,
     )
 
 pub loop-sequence-preserved : goal.loop-sequence-preserved

@@ -1,6 +1,6 @@
 use Rattle.std.proofs.Common.{◌≡◌, List}
-use Rattle.dr_plain.specs.declared.record.Lent.{Lent}
-use Rattle.dr_plain.specs.Inside.Fits.{cells_of}
+use Rattle.dr_lent.specs.Rows.{cells_of}
+use Rattle.dr_lent.specs.declared.lent.Lent.{Lent}
 use Rattle.dr_plain.specs.Inside.Finishing.{AreOut}
 use Rattle.dr_plain.proofs.reclaiming.regain_all.Given as goal
 

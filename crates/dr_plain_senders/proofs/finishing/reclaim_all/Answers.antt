@@ -1,7 +1,8 @@
 use Rattle.std.proofs.Common.{subst, ◌∙◌}
 use denote.RawPtr.{Ptr}
+use Rattle.dr_lent.specs.Rows.{AreAllWhole}
 use Rattle.dr_plain_senders.specs.Meaning.Shape.{Shape}
-use Rattle.dr_plain_senders.specs.Inside.Finishing.{TookAll, AreAllWhole}
+use Rattle.dr_plain_senders.specs.Inside.Finishing.{TookAll}
 use Rattle.dr_plain_senders.proofs.Departed.{claimed_few, counts_all, wide_all, rows_all, whole_all, many_all, events_all}
 use Rattle.dr_plain_senders.proofs.finishing.reclaim_all.Goals as goal
 use Rattle.dr_plain_senders.proofs.finishing.reclaim_all.Given.{Over}
@@ -9,7 +10,9 @@ use Rattle.dr_plain_senders.proofs.finishing.reclaim_all.Goals.{After-take_all-f
 
 -- what it took, by what the ring is made for
 took : (g : Over) (c : After-take_all-found g) → TookAll c.args.plan.now c.args.seat.me c.take_all-found.result c.take_all-found.new.seat.me
-took g c = subst (λ (k : Shape g.row.T.Denot). TookAll k c.args.seat.me c.take_all-found.result c.take_all-found.new.seat.me) c.requires.made.0 c.take_all-found.ensures.took
+took g c =
+    subst (λ (k : Shape g.row.T.Denot). TookAll k c.args.seat.me c.take_all-found.result c.take_all-found.new.seat.me)
+    c.requires.made.0 c.take_all-found.ensures.took
 
 pub take_all-found-requires-clause-ends : goal.take_all-found-requires-clause-ends
 take_all-found-requires-clause-ends g c =

@@ -1,7 +1,7 @@
 use Rattle.std.proofs.Common.{ℕ, List, length, sym, ap, subst, ◌∙◌}
 use Rattle.dr_cells.specs.declared.token.Token.{Token}
 use Rattle.dr_cells.specs.Tokens.{IsAll}
-use Rattle.dr_plain_senders.specs.Inside.Finishing.{AreAllWhole}
+use Rattle.dr_lent.specs.Rows.{AreAllWhole}
 use Rattle.dr_plain_senders.proofs.Untouched.{first_whole, length_take}
 use Rattle.dr_plain_senders.proofs.giving_up.give_up.Goals as goal
 

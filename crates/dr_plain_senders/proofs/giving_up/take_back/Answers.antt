@@ -11,7 +11,8 @@ use Rattle.dr_plain_senders.proofs.giving_up.take_back.Goals as goal
 pub loop-slot-init : goal.loop-slot-init
 loop-slot-init g c =
     let k = c.args.table.shared.key in let seat = c.args.seat in let values = c.close_with-closed.ensures.values in
-    let final = subst (λ (v : View (EndRecord g.row.T.Denot) (Step g.row.T.Denot)). Final (Seen (Ruled k) seat.id v) (slots_items c.close_with-closed.result.words)
+    let final =
+    subst (λ (v : View (EndRecord g.row.T.Denot) (Step g.row.T.Denot)). Final (Seen (Ruled k) seat.id v) (slots_items c.close_with-closed.result.words)
     (slots_items c.close_with-closed.result.slots)) c.requires.fresh values.2 in (
       values.1,
       (λ j none. absurd (omega arith)),
@@ -31,5 +32,9 @@ loop-slot-preserved g c =
 
 pub returns : goal.returns
 returns g c =
-    let k = c.args.table.shared.key in let inv = c.loop-slot.invariant in let over = c.loop-slot-test.false in let count = c.slot_count.ensures in let room = inv.2 in
+    let k = c.args.table.shared.key in
+    let inv = c.loop-slot.invariant in
+    let over = c.loop-slot-test.false in
+    let count = c.slot_count.ensures in
+    let room = inv.2 in
     taken_all k.strip k.size c.loop-slot.slot _ _ inv.3 (omega arith)

@@ -37,7 +37,8 @@ returns-clause-leads g c = leads
 
 pub returns-clause-writes : goal.returns-clause-writes
 returns-clause-writes g c k steps entries w shape runs wrote opened =
-    leads_writes k w (keeps_runs k steps entries (new_world k) w runs (kept_new_world _ k shape)) (owned_since k steps entries w shape runs) entries wrote opened
+    leads_writes k w (keeps_runs k steps entries (new_world k) w runs (kept_new_world _ k shape))
+    (owned_since k steps entries w shape runs) entries wrote opened
     (leads k steps entries w shape runs)
 
 pub returns-clause-laws : goal.returns-clause-laws
@@ -58,7 +59,9 @@ returns-clause-marks g c k steps entries w shape runs s =
 
 pub returns-clause-sees : goal.returns-clause-sees
 returns-clause-sees g c k steps more later entries rest last w u v shape runs on further =
-    let K = keeps_runs k steps entries (new_world k) w runs (kept_new_world _ k shape) in let L = keeps_runs k more rest w u on K in let M = keeps_runs k later last u v further L in
+    let K = keeps_runs k steps entries (new_world k) w runs (kept_new_world _ k shape) in
+    let L = keeps_runs k more rest w u on K in
+    let M = keeps_runs k later last u v further L in
     told_by_looks k w u v K L M (let rose = rose_runs k more rest w u on K in rose.claimed) (let rose = rose_runs k later last u v further L in rose.claimed)
 
 pub returns-clause-refused : goal.returns-clause-refused

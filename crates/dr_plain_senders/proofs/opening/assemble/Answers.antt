@@ -1,5 +1,5 @@
 use Rattle.std.proofs.Common.{◌<◌, ap, sym, subst, ◌∙◌, arith}
-use Rattle.dr_plain_senders.proofs.Going.{cut_on}
+use Rattle.dr_lent.proofs.Going.{cut_on}
 use Rattle.dr_plain_senders.proofs.opening.assemble.Goals as goal
 
 pub split_seat-rest-requires : goal.split_seat-rest-requires

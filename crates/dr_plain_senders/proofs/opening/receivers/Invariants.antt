@@ -11,6 +11,7 @@ use Rattle.dr_plain_senders.proofs.opening.receivers.Given as goal
 abbrev pub invariant-loop-number : goal.invariant-loop-number
 invariant-loop-number g l = let k = (arc_value l.ring).plan in (l.rest.table_id ≡ l.fn.rest.table_id)
     × (l.rest.me ≡ fresh_seat (known_receivers l.number (handlers_of k - l.number)))
-    × (l.receivers.items ++ map (receiver_at l.fn.rest.table_id k) (fresh_receivers l.number (handlers_of k - l.number)) ≡ map (receiver_at l.fn.rest.table_id k)
+    × (l.receivers.items
+    ++ map (receiver_at l.fn.rest.table_id k) (fresh_receivers l.number (handlers_of k - l.number)) ≡ map (receiver_at l.fn.rest.table_id k)
     (fresh_receivers 0 (handlers_of k)))
     × AreBlankRows (handlers_of k - l.number) k.size l.rows.items

@@ -2,8 +2,8 @@ use Rattle.std.proofs.Common.{◌<◌, length, arith, ap, refl, sym, subst, ◌�
 use Rattle.std.proofs.lemmas.List.{length-replicate}
 use Rattle.dr_cells.specs.Tokens.{no_token}
 use Rattle.dr_runs.specs.Seats.{end_of}
+use Rattle.dr_lent.proofs.Going.{cut_on}
 use Rattle.dr_plain_senders.specs.Inside.Stations.{SenderSits}
-use Rattle.dr_plain_senders.proofs.Going.{cut_on}
 use Rattle.dr_plain_senders.proofs.Making.{cut_own, cut_rest, senders_next, sender_sits, sender_fits, sender_view, sender_listed}
 use Rattle.dr_plain_senders.proofs.Alike.{alike_last, alike_left, blank_row_last, blank_rows_left, blank_rows_many}
 use Rattle.dr_plain_senders.proofs.opening.senders.Goals as goal
@@ -35,15 +35,15 @@ loop-number-preserved g c =
       own.3 ∙ inv.0,
       cut_rest _ _ _ _ _ inv.1 (senders_next c.loop-number.number _ _ (omega arith)) own.4,
       sender_listed c.args.rest.table_id _ c.loop-number.number _ c.loop-number.senders.items _ _ _ (omega arith) inv.2 c.in_ok-push.ensures.items
-          (sender_view c.args.rest.table_id _ _ _ _ c.loop-number.number _ _ _ (own.0 ∙ inv.0) (ap (λ r. r.plan) c.in_ok-own.ensures)
+          (c.of-sender.ensures ∙ sender_view c.args.rest.table_id _ _ _ _ c.loop-number.number _ _ _ (own.0 ∙ inv.0) (ap (λ r. r.plan) c.in_ok-own.ensures)
           (cut_own _ _ _ _ _ inv.1 (senders_next c.loop-number.number _ _ (omega arith)) own.2)
           (blank_row_last _ _ _ _ _ inv.4 c.take_last-tokens.ensures) refl),
       alike_left _ _ _ _ _ c.loop-number.number (omega arith) inv.3 c.take_last-owned.ensures,
       blank_rows_left _ _ c.loop-number.number _ _ _ (omega arith) inv.4 c.take_last-tokens.ensures,
     )
 
-pub invariant_of-push : goal.invariant_of-push
-invariant_of-push g c =
+pub of-sender-requires : goal.of-sender-requires
+of-sender-requires g c =
     let count = c.senders-count.ensures.count ∙ ap (λ r. r.plan.senders) c.deref.ensures in let test = c.loop-number-test.true in
     let me = cut_own _ _ _ _ _ c.loop-number.invariant.1 (senders_next c.loop-number.number _ _ (omega arith)) c.split_seat-next.ensures.2 in
     let ring = sym (ap (λ r. r.plan.size) c.in_ok-own.ensures) in

@@ -1,12 +1,12 @@
 use Rattle.std.proofs.Common.{◌<◌, List, false, map, replicate, ap, sym, subst, arith, ◌∙◌}
 use Rattle.dr_plain_senders.specs.Meaning.Shape.{Shape, handlers_of}
-use Rattle.dr_plain_senders.specs.Meaning.Words.{claimed_in}
+use Rattle.dr_plain_senders.specs.Meaning.Words.{claimed_in, is_halted}
 use Rattle.dr_plain_senders.specs.Inside.Bringing.{AreTogether}
 use Rattle.dr_plain_senders.specs.Calls.Plans.{IsPlan}
 use Rattle.dr_plain_senders.specs.Calls.Ends.{HalterStand, EndPlace}
 use Rattle.dr_plain_senders.specs.Calls.Settling.{GivesBack}
 use Rattle.dr_plain_senders.proofs.Plans.{is_shape}
-use Rattle.dr_plain_senders.proofs.Gathering.{Together, has_all}
+use Rattle.dr_plain_senders.proofs.Gathering.{Together, has_all, has_run}
 use Rattle.dr_plain_senders.proofs.Departed.{halter_in}
 use Rattle.dr_plain_senders.proofs.over.end.Goals as goal
 use Rattle.dr_plain_senders.proofs.over.end.Given.{Over}
@@ -99,8 +99,12 @@ close-requires g c =
 
 pub returns : goal.returns
 returns g c =
-    let A = come g (goal.at.returns g c).After-gather_receivers_left in (
-      claimed_in c.reclaim_all-row.result.0,
-      subst (λ (events : List g.row.T.Denot). GivesBack c.args.plan.now (claimed_in c.reclaim_all-row.result.0) c.args.senders events) (sym c.close.ensures)
+    let A = come g (goal.at.returns g c).After-gather_receivers_left in
+    let found = c.reclaim_all-row.result.0 in
+    let ran = c.reclaim_all-row.ensures.ran in (
+      claimed_in found,
+      is_halted found,
+      has_run _ _ _ _ _ found A.ends ran.0 ran.1 A.plan c.moments.ensures.rule c.moments.ensures.leads c.moments.ensures.laws,
+      subst (λ (events : List g.row.T.Denot). GivesBack c.args.plan.now (claimed_in found) c.args.senders events) (sym c.close.ensures)
           (c.reclaim_all-row.ensures.events c.args.senders c.args.receivers c.args.halter A),
     )

@@ -9,9 +9,11 @@ use Rattle.dr_plain_senders.specs.Inside.Publishing.{HasPublishedRun, LendsCells
 use Rattle.dr_plain_senders.specs.Inside.Seats.{given_by_publication}
 use Rattle.dr_plain_senders.proofs.Bits.{few_in_word}
 use Rattle.dr_plain_senders.proofs.Showing.{small_product}
-use Rattle.dr_plain_senders.proofs.RunShown.{Run, round, rows_whole, before, behind, slots_before, slots_behind, before_room, rows_first, rows_given, behind_room, word_given, own_given, hand_given, run_shown}
+use Rattle.dr_plain_senders.proofs.RunShown.{Run, round, rows_whole, before, behind, slots_before, slots_behind, before_room, rows_first, rows_given}
+use Rattle.dr_plain_senders.proofs.RunShown.{behind_room, word_given, own_given, hand_given, run_shown}
 use Rattle.dr_plain_senders.proofs.publishing.publish_run.Goals as goal
-use Rattle.dr_plain_senders.proofs.publishing.publish_run.Goals.{After-plan, After-saturating_sub, After-count_open, After-count_open-2, After-lend_rows, After-publish}
+use Rattle.dr_plain_senders.proofs.publishing.publish_run.Goals.{After-plan, After-saturating_sub, After-count_open, After-count_open-2}
+use Rattle.dr_plain_senders.proofs.publishing.publish_run.Goals.{After-lend_rows, After-publish}
 use Rattle.dr_plain_senders.proofs.publishing.publish_run.Given.{Over}
 
 -- the sequences that it publishes
@@ -30,43 +32,57 @@ from_is : (g : Over) (c : After-saturating_sub g) → c.saturating_sub.result �
 from_is g c = c.saturating_sub.ensures ∙ ap (λ (m : ℕ). c.args.end - m) (size_is g c)
 
 -- so many slots are before and behind them
-few_before : (g : Over) (c : After-count_open g) (R : Run c.args.station.now c.args.owned.now c.args.end c.args.lo (c.args.upto - c.args.lo) c.args.tokens.now.items) → c.saturating_sub.result ≡ c.args.end - c.args.station.now.plan.size
+few_before : (g : Over) (c : After-count_open g)
+    (R : Run c.args.station.now c.args.owned.now c.args.end c.args.lo (c.args.upto - c.args.lo) c.args.tokens.now.items)
+    → c.saturating_sub.result ≡ c.args.end - c.args.station.now.plan.size
     → c.get-size.result ≡ c.args.station.now.plan.size → (c.handlers.result + 1) * c.count_open.result ≤ 1114112
 few_before g c R from size =
     let r = round R in let few = c.count_open.ensures.few in let h = c.handlers.ensures.few in let most = size_at_most _ c.get-size.ensures.size in
     small_product (c.handlers.result + 1) c.count_open.result (omega arith) (omega arith)
 
-few_behind : (g : Over) (c : After-count_open-2 g) (R : Run c.args.station.now c.args.owned.now c.args.end c.args.lo (c.args.upto - c.args.lo) c.args.tokens.now.items)
+few_behind : (g : Over) (c : After-count_open-2 g)
+    (R : Run c.args.station.now c.args.owned.now c.args.end c.args.lo (c.args.upto - c.args.lo) c.args.tokens.now.items)
     → c.get-size.result ≡ c.args.station.now.plan.size → (c.handlers.result + 1) * c.count_open-2.result ≤ 1114112
 few_behind g c R size =
     let r = round R in let few = c.count_open-2.ensures.few in let h = c.handlers.ensures.few in let most = size_at_most _ c.get-size.ensures.size in
     let order = c.requires.order.0 in small_product (c.handlers.result + 1) c.count_open-2.result (omega arith) (omega arith)
 
-many_before : (g : Over) (c : After-count_open g) (R : Run c.args.station.now c.args.owned.now c.args.end c.args.lo (c.args.upto - c.args.lo) c.args.tokens.now.items) → c.saturating_sub.result ≡ c.args.end - c.args.station.now.plan.size
+many_before : (g : Over) (c : After-count_open g)
+    (R : Run c.args.station.now c.args.owned.now c.args.end c.args.lo (c.args.upto - c.args.lo) c.args.tokens.now.items)
+    → c.saturating_sub.result ≡ c.args.end - c.args.station.now.plan.size
     → length (before R) ≡ (c.handlers.result + 1) * c.count_open.result
 many_before g c R from = let h = c.handlers.ensures.count in slots_before R c.saturating_sub.result _ _ from (omega arith) c.count_open.ensures.count
 
-many_behind : (g : Over) (c : After-count_open-2 g) (R : Run c.args.station.now c.args.owned.now c.args.end c.args.lo (c.args.upto - c.args.lo) c.args.tokens.now.items)
+many_behind : (g : Over) (c : After-count_open-2 g)
+    (R : Run c.args.station.now c.args.owned.now c.args.end c.args.lo (c.args.upto - c.args.lo) c.args.tokens.now.items)
     → length (behind R) ≡ (c.handlers.result + 1) * c.count_open-2.result
-many_behind g c R = let h = c.handlers.ensures.count in let order = c.requires.order.0 in slots_behind R c.args.upto _ _ (omega arith) (omega arith) c.count_open-2.ensures.count
+many_behind g c R =
+    let h = c.handlers.ensures.count in
+    let order = c.requires.order.0 in
+    slots_behind R c.args.upto _ _ (omega arith) (omega arith) c.count_open-2.ensures.count
 
 -- once their events are lent, their rows are first in hand
 lent : (g : Over) (c : After-lend_rows g) (R : Run c.args.station.now c.args.owned.now c.args.end c.args.lo (c.args.upto - c.args.lo) c.args.tokens.now.items)
     → length (before R) ≡ (c.handlers.result + 1) * c.count_open.result
-    → c.lend_rows.new.self ≡ with_hand c.args.station.now (given_by_publication c.args.station.now.plan c.args.lo c.lend_rows.ensures.lent.0 ++ (behind R ++ before R))
+    → c.lend_rows.new.self ≡ with_hand c.args.station.now
+    (given_by_publication c.args.station.now.plan c.args.lo c.lend_rows.ensures.lent.0 ++ (behind R ++ before R))
 lent g c R many = rows_given R _ many c.turn_all.new.self c.turn_all.ensures c.lend_rows.ensures.lent.0 c.lend_rows.new.self c.lend_rows.ensures.lent.3
 
-done : (g : Over) (c : After-publish g) (R : Run c.args.station.now c.args.owned.now c.args.end c.args.lo (c.args.upto - c.args.lo) c.args.tokens.now.items) → length (before R) ≡ (c.handlers.result + 1) * c.count_open.result
+done : (g : Over) (c : After-publish g) (R : Run c.args.station.now c.args.owned.now c.args.end c.args.lo (c.args.upto - c.args.lo) c.args.tokens.now.items)
+    → length (before R) ≡ (c.handlers.result + 1) * c.count_open.result
     → length (behind R) ≡ (c.handlers.result + 1) * c.count_open-2.result
-    → c.lend_rows.new.self ≡ with_hand c.args.station.now (given_by_publication c.args.station.now.plan c.args.lo c.lend_rows.ensures.lent.0 ++ (behind R ++ before R))
+    → c.lend_rows.new.self ≡ with_hand c.args.station.now
+    (given_by_publication c.args.station.now.plan c.args.lo c.lend_rows.ensures.lent.0 ++ (behind R ++ before R))
     → SenderFits c.turn_all-2.new.self c.publish.new.self c.args.end c.lend_rows.new.tokens.items
-    × HasPublishedRun c.args.station.now c.args.owned.now c.args.tokens.now.items c.args.lo (c.args.lo + (c.args.upto - c.args.lo)) c.turn_all-2.new.self c.publish.new.self c.lend_rows.new.tokens.items
+    × HasPublishedRun c.args.station.now c.args.owned.now c.args.tokens.now.items c.args.lo
+    (c.args.lo + (c.args.upto - c.args.lo)) c.turn_all-2.new.self c.publish.new.self c.lend_rows.new.tokens.items
 done g c R many more given =
     let T = g.row.T.Denot in let ts = c.args.tokens.now.items in let lo = c.args.lo in let n = c.args.upto - lo in
     let lents = c.lend_rows.ensures.lent.0 in let count = c.lend_rows.ensures.lent.1 in
     run_shown R lents count (subst (λ (x : SenderStand T). LendsCells x.plan ts lo lents) c.turn_all.ensures c.lend_rows.ensures.lent.2)
     c.lend_rows.new.self c.publish_rows.new.self c.turn_all-2.new.self _ c.publish.new.self c.lend_rows.new.tokens.items given
-    (c.publish_rows.ensures lents (behind R ++ before R) count (hand_given R lents count c.lend_rows.new.self given)) more c.turn_all-2.ensures c.publish.ensures
+    (c.publish_rows.ensures lents (behind R ++ before R) count (hand_given R lents count c.lend_rows.new.self given))
+    more c.turn_all-2.ensures c.publish.ensures
     (c.lend_rows.ensures.tokens ∙ ap (λ (x : SenderStand T). cleared x.plan ts lo n) c.turn_all.ensures)
 
 pub count_open-requires : goal.count_open-requires
@@ -76,7 +92,10 @@ count_open-requires g c =
 
 pub overflow_mul-before : goal.overflow_mul-before
 overflow_mul-before g c =
-    let P = goal.at.overflow_mul-before g c in let R = run g P.After-plan in let from = from_is g P.After-saturating_sub in let size = size_is g P.After-saturating_sub in
+    let P = goal.at.overflow_mul-before g c in
+    let R = run g P.After-plan in
+    let from = from_is g P.After-saturating_sub in
+    let size = size_is g P.After-saturating_sub in
     let few = few_before g P.After-count_open R from size in
     let t : (c.handlers.result + 1) * c.count_open.result < 18446744073709551616 = omega arith in search rules
 
@@ -99,7 +118,10 @@ turn_all-requires g c =
 
 pub overflow_add-behind : goal.overflow_add-behind
 overflow_add-behind g c =
-    let P = goal.at.overflow_add-behind g c in let R = run g P.After-plan in let from = from_is g P.After-saturating_sub in let size = size_is g P.After-saturating_sub in
+    let P = goal.at.overflow_add-behind g c in
+    let R = run g P.After-plan in
+    let from = from_is g P.After-saturating_sub in
+    let size = size_is g P.After-saturating_sub in
     let few = few_before g P.After-count_open R from size in let few2 = few_behind g P.After-count_open-2 R size in
     let t : (c.handlers.result + 1) * c.count_open-2.result + (c.handlers.result + 1) * c.count_open.result < 18446744073709551616 = omega arith in search rules
 
@@ -115,11 +137,15 @@ lend_rows-requires-clause-count g c =
 pub lend_rows-requires-clause-whole : goal.lend_rows-requires-clause-whole
 lend_rows-requires-clause-whole g c =
     let P = goal.at.lend_rows-requires-clause-whole g c in let R = run g P.After-plan in
-    subst (λ (x : SenderStand g.row.T.Denot). AreWhole x.plan c.args.tokens.now.items c.args.lo (c.args.upto - c.args.lo)) (sym c.turn_all.ensures) (rows_whole R)
+    subst (λ (x : SenderStand g.row.T.Denot). AreWhole x.plan c.args.tokens.now.items c.args.lo (c.args.upto - c.args.lo))
+    (sym c.turn_all.ensures) (rows_whole R)
 
 pub lend_rows-requires-clause-small : goal.lend_rows-requires-clause-small
 lend_rows-requires-clause-small g c =
-    let P = goal.at.lend_rows-requires-clause-small g c in let R = run g P.After-plan in let from = from_is g P.After-saturating_sub in let size = size_is g P.After-saturating_sub in
+    let P = goal.at.lend_rows-requires-clause-small g c in
+    let R = run g P.After-plan in
+    let from = from_is g P.After-saturating_sub in
+    let size = size_is g P.After-saturating_sub in
     let few = few_before g P.After-count_open R from size in let few2 = few_behind g P.After-count_open-2 R size in
     let inside = few_in_word c.args.station.now.plan c.args.lo in let most = inside.0 in let word = c.requires.order.1 in (omega arith, omega arith)
 
@@ -165,9 +191,12 @@ turn_all-requires-2 g c =
     let S = c.publish_rows.ensures lents (behind R ++ before R) count (hand_given R lents count c.lend_rows.new.self given) in
     behind_room R _ c.publish_rows.new.self more S.2
 
-pub publish-requires : goal.publish-requires
-publish-requires g c =
-    let P = goal.at.publish-requires g c in let R = run g P.After-plan in
+pub publish-requires-clause-ready : goal.publish-requires-clause-ready
+publish-requires-clause-ready g c s low high = c.requires.ready s low high
+
+pub publish-requires-clause-order : goal.publish-requires-clause-order
+publish-requires-clause-order g c =
+    let P = goal.at.publish-requires-clause-order g c in let R = run g P.After-plan in
     let r = round R in let order = c.requires.order.0 in let limit = c.requires.fits.limit in (omega arith, omega arith)
 
 pub returns-clause-fits : goal.returns-clause-fits
@@ -183,4 +212,6 @@ returns-clause-published g c =
     let many = many_before g P.After-count_open R from in let more = many_behind g P.After-count_open-2 R in
     let all = done g P.After-publish R many more (lent g P.After-lend_rows R many) in
     let order = c.requires.order.0 in let here : c.args.lo + (c.args.upto - c.args.lo) ≡ c.args.upto = omega arith in
-    subst (λ (q : ℕ). HasPublishedRun c.args.station.now c.args.owned.now c.args.tokens.now.items c.args.lo q c.turn_all-2.new.self c.publish.new.self c.lend_rows.new.tokens.items) here all.1
+    subst (λ (q : ℕ). HasPublishedRun c.args.station.now c.args.owned.now c.args.tokens.now.items
+    c.args.lo q c.turn_all-2.new.self c.publish.new.self c.lend_rows.new.tokens.items)
+    here all.1

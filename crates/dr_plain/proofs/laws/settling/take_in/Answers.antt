@@ -1,6 +1,6 @@
 use Rattle.std.proofs.Common.{ap, ◌∙◌}
+use Rattle.dr_lent.proofs.Going.{leave_on, join_on}
 use Rattle.dr_plain.specs.Inside.Seats.{Sitting}
-use Rattle.dr_plain.proofs.Going.{leave_on, join_on}
 use Rattle.dr_plain.proofs.laws.settling.take_in.Goals as goal
 
 pub split_seat-view-requires : goal.split_seat-view-requires

@@ -1,9 +1,10 @@
 use Rattle.std.proofs.Common.{◌≤◌, List, take, drop, length, arith, sym, ap, ◌∙◌, subst}
 use Rattle.std.proofs.lemmas.List.{length-append, length-map}
-use Rattle.dr_plain.specs.declared.record.Lent.{Lent}
+use Rattle.dr_lent.specs.declared.lent.Lent.{Lent}
+use Rattle.dr_lent.proofs.Copying.{copied_all}
 use Rattle.dr_plain.specs.Meaning.Records.{events_of}
 use Rattle.dr_plain.specs.Calls.Ends.{ReceiverEnd}
-use Rattle.dr_plain.proofs.Copying.{takes_batch, copied_all}
+use Rattle.dr_plain.proofs.Copying.{takes_batch}
 use Rattle.dr_plain.proofs.outlets.ReceiverOutlet.poll_into.Goals as goal
 
 pub copy_events-requires-clause-held : goal.copy_events-requires-clause-held

@@ -2,11 +2,11 @@ use Rattle.std.proofs.Common.{◌≡◌, ℕ, ◌+◌, ◌<◌, ◌≤◌, rules
 use mathlib.Core.Option.{some}
 use lib.ListN.{get_elem?}
 use Rattle.dr_runs.proofs.Lists.{map_there}
-use Rattle.dr_plain.specs.declared.record.Lent.{Lent}
+use Rattle.dr_lent.specs.declared.lent.Lent.{Lent}
+use Rattle.dr_lent.proofs.Copying.{copied_more}
 use Rattle.dr_plain.specs.Meaning.Records.{events_of}
 use Rattle.dr_plain.specs.Calls.Ends.{ReceiverEnd}
 use Rattle.dr_runs.proofs.Elements.{there}
-use Rattle.dr_plain.proofs.Copying.{copied_more}
 use Rattle.dr_plain.proofs.receiver.Receiver.copy_events.Goals as goal
 
 pub read-requires : goal.read-requires

@@ -1,11 +1,11 @@
 use Rattle.std.proofs.Common.{◌≡◌, List, [], ◌∷◌, ◌++◌, length, Ok, arith, refl, ap, ◌∙◌, subst, append_assoc}
+use Rattle.dr_lent.specs.Rows.{cells_of}
 use Rattle.dr_plain.specs.Meaning.Records.{sender_halted, sender_closed}
 use Rattle.dr_plain.specs.declared.record.SenderRecord.{SenderRecord}
 use Rattle.dr_plain.specs.declared.record.Step.{Step}
 use Rattle.dr_plain.specs.declared.record.Step.TheVariants.{SenderHalts, SenderCloses}
 use Rattle.dr_plain.specs.Calls.Ends.{SenderEnd}
 use Rattle.dr_plain.specs.Calls.Sending.{CloseCall}
-use Rattle.dr_plain.specs.Inside.Fits.{cells_of}
 use Rattle.dr_plain.specs.Inside.Noted.{writes_from}
 use Rattle.dr_plain.specs.Inside.Views.{sender_end}
 use Rattle.dr_plain.proofs.Stations.{begins_on}

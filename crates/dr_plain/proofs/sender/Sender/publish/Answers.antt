@@ -1,12 +1,12 @@
 use Rattle.std.proofs.Common.{◌≡◌, ℕ, ◌+◌, ◌-◌, ◌≤◌, ◌<◌, List, [], ◌∷◌, ◌++◌, Ok, arith, refl, sym, ap, ◌∙◌, subst}
 use Rattle.dr_seq.proofs.Sizes.{size_at_most}
 use Rattle.dr_runs.specs.Runs.{IsBeginning}
+use Rattle.dr_lent.specs.Rows.{cells_of}
 use Rattle.dr_plain.specs.Meaning.Records.{events_of}
 use Rattle.dr_plain.specs.declared.record.Step.{Step}
 use Rattle.dr_plain.specs.declared.record.Step.TheVariants.{SenderPublishes}
 use Rattle.dr_plain.specs.Calls.Ends.{SenderEnd, SenderStand}
 use Rattle.dr_plain.specs.Calls.Sending.{PublishCall}
-use Rattle.dr_plain.specs.Inside.Fits.{cells_of}
 use Rattle.dr_runs.specs.declared.written.Written.{Written}
 use Rattle.dr_plain.specs.Inside.Lending.{lents_of}
 use Rattle.dr_plain.specs.Inside.Views.{sender_end}

@@ -1,12 +1,13 @@
 use Rattle.std.proofs.Common.{rules, ◌≡◌, ◌+◌, ◌-◌, ◌≤◌, ◌<◌, ◌⊎◌, inl, inr, List, length, Err, Ok, arith, refl, sym, ap, ◌∙◌, subst}
 use Rattle.dr_meaning.specs.declared.command.Claimed.{Claimed}
 use Rattle.dr_meaning.specs.declared.refusal.Refusal.TheVariants.{BadCount, NoRoom, Halted, Exhausted}
+use Rattle.dr_lent.specs.Rows.{cells_of}
 use Rattle.dr_plain.specs.Meaning.Shape.{Shape}
 use Rattle.dr_runs.specs.declared.look.Look.{Look}
 use Rattle.dr_plain.specs.declared.record.SenderRecord.{SenderRecord}
 use Rattle.dr_plain.specs.Calls.Ends.{SenderEnd, SenderStand}
 use Rattle.dr_plain.specs.Calls.Sending.{ClaimCall}
-use Rattle.dr_plain.specs.Inside.Fits.{SenderFits, cells_of}
+use Rattle.dr_plain.specs.Inside.Fits.{SenderFits}
 use Rattle.dr_plain.specs.Inside.Scans.{LooksAtFinals}
 use Rattle.dr_plain.specs.Inside.Views.{sender_end}
 use Rattle.dr_plain.specs.declared.record.Step.{Step}

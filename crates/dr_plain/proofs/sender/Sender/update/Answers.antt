@@ -3,6 +3,7 @@ use denote.RawPtr.{Ptr}
 use Rattle.std.specs.Fn.{FnOnceReturnsAtMut}
 use mathlib.Core.Option.{some}
 use lib.ListN.{get_elem?}
+use Rattle.dr_lent.specs.Rows.{cells_of}
 use Rattle.dr_plain.specs.Meaning.Words.{cell_of}
 use Rattle.dr_plain.proofs.Publishing.{cell_at}
 use Rattle.dr_cells.specs.declared.token.Token.{Token}
@@ -10,7 +11,6 @@ use Rattle.dr_cells.specs.Hold.{Hold, whole, held}
 use Rattle.dr_cells.specs.Tokens.{token_at}
 use Rattle.dr_plain.specs.Calls.Ends.{SenderEnd}
 use Rattle.dr_plain.specs.Calls.Sending.{UpdateCall}
-use Rattle.dr_plain.specs.Inside.Fits.{cells_of}
 use Rattle.dr_plain.specs.Inside.Views.{sender_end}
 use Rattle.dr_plain.proofs.Stations.{begins_same}
 use Rattle.dr_plain.proofs.Writing.{fits_write, write_done, answers_unclaimed, answers_published}

@@ -3,9 +3,9 @@ use denote.RawPtr.{Ptr}
 use Rattle.dr_cells.specs.declared.token.Token.{Token}
 use Rattle.dr_cells.specs.Hold.{whole}
 use Rattle.dr_cells.specs.Tokens.{token_at}
+use Rattle.dr_lent.specs.Rows.{cells_of}
 use Rattle.dr_plain.specs.Calls.Ends.{SenderEnd}
 use Rattle.dr_plain.specs.Calls.Sending.{WriteCall}
-use Rattle.dr_plain.specs.Inside.Fits.{cells_of}
 use Rattle.dr_plain.specs.Inside.Views.{sender_end}
 use Rattle.dr_plain.proofs.Stations.{begins_same}
 use Rattle.dr_plain.proofs.Writing.{fits_write, write_done, write_unclaimed}

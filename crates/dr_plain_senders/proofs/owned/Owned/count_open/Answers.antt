@@ -1,6 +1,6 @@
 use Rattle.std.proofs.Common.{◌∙◌, arith}
 use Rattle.dr_plain_senders.proofs.Opened.{count_next, count_end}
-use Rattle.dr_plain_senders.specs.Inside.Fits.{is_open}
+use Rattle.dr_plain_senders.specs.Inside.Owned.{is_open}
 use Rattle.dr_plain_senders.proofs.owned.Owned.count_open.Goals as goal
 
 pub loop-sequence-preserved : goal.loop-sequence-preserved

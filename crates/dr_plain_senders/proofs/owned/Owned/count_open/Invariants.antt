@@ -1,5 +1,6 @@
 use Rattle.std.proofs.Common.{◌≡◌, ◌+◌, ◌-◌, ◌≤◌}
-use Rattle.dr_plain_senders.specs.Inside.Fits.{is_open, open_count}
+use Rattle.dr_plain_senders.specs.Inside.Fits.{open_count}
+use Rattle.dr_plain_senders.specs.Inside.Owned.{is_open}
 use Rattle.dr_plain_senders.proofs.owned.Owned.count_open.Given as goal
 
 abbrev pub invariant-loop-sequence : goal.invariant-loop-sequence

@@ -1,4 +1,4 @@
-use Rattle.std.proofs.Common.{arith}
+use Rattle.std.proofs.Common.{arith, refl}
 use Rattle.dr_plain_senders.specs.Inside.Trades.{blanks_between}
 use Rattle.dr_plain_senders.proofs.Taken.{first_in_hand, may_turn, may_give, fits_completed}
 use Rattle.dr_plain_senders.proofs.receiver.Receiver.complete.Goals as goal
@@ -24,6 +24,10 @@ complete-requires-clause-hand g c =
 
 pub invariant_of-self : goal.invariant_of-self
 invariant_of-self g c =
-    let low = c.if-upto-self.false in let high = c.if-upto-self-2.false in
-    fits_completed c.self.inside.station c.args.upto _ _ _ c.self.invariant (omega arith) (omega arith) _ c.give_back.ensures.hand _ c.turn_all.ensures _ _ _ c.complete.ensures
-    c.give_back.ensures.parts
+    let low = c.if-upto-self.false in let high = c.if-upto-self-2.false in (
+      refl,
+      tt,
+      fits_completed c.self.inside.station c.args.upto _ _ _ c.self.invariant (omega arith)
+          (omega arith) _ c.give_back.ensures.hand _ c.turn_all.ensures _ _ _ c.complete.ensures
+          c.give_back.ensures.parts,
+    )

@@ -1,7 +1,7 @@
 use Rattle.std.proofs.Common.{arith, sym, ap, ◌∙◌, subst}
 use mathlib.Core.Option.{some}
 use Rattle.dr_runs.proofs.Lists.{map_there}
-use Rattle.dr_plain_senders.specs.declared.record.Lent.{Lent}
+use Rattle.dr_lent.specs.declared.lent.Lent.{Lent}
 use Rattle.dr_plain_senders.specs.Calls.Ends.{ReceiverEnd}
 use Rattle.dr_plain_senders.specs.Calls.Receiving.{ReadsInHand}
 use Rattle.dr_runs.proofs.Elements.{there}

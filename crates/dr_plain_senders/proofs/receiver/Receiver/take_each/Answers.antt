@@ -33,10 +33,13 @@ loop-front-preserved g c =
     let all = c.self.invariant.taken ∙ ap (λ (x : ReceiverEnd g.row.T.Denot). length x.knows.received) c.self.view_is in let near = c.requires.next.1 in
     let inv = c.loop-front.invariant in let front = c.loop-front.front in let s = c.loop-front.self in let lt = c.loop-front-test.true in let low = inv.1.low in
     let rest = room - (front - c.self.inside.taken) in let left : rest ≡ room - (front - length r.received) = ap (λ (n : ℕ). room - (front - n)) all in
-    let word = c.in_word.ensures.count ∙ ap (λ (p : Shape g.row.T.Denot). in_word p front) (c.plan.ensures ∙ ap (λ (x : ReceiverEnd g.row.T.Denot). x.plan) c.self-in-loop-front.view_is ∙ inv.0.1) in
+    let word = c.in_word.ensures.count
+    ∙ ap (λ (p : Shape g.row.T.Denot). in_word p front)
+    (c.plan.ensures ∙ ap (λ (x : ReceiverEnd g.row.T.Denot). x.plan) c.self-in-loop-front.view_is ∙ inv.0.1) in
     let far = c.if-front-whole.false in (
       loads_more c.args.self.now s c.take_next-front.new.self inv.0 c.take_next-front.ensures.loads,
-      walking_more k s.plan r s.knows c.take_next-front.new.self.knows room end front rest c.take_next-front.result inv.0.1 inv.1 lt near left c.take_next-front.ensures.took (omega arith),
+      walking_more k s.plan r s.knows c.take_next-front.new.self.knows room end front rest
+          c.take_next-front.result inv.0.1 inv.1 lt near left c.take_next-front.ensures.took (omega arith),
     )
 
 pub returns-then-front-whole-clause-loads : goal.returns-then-front-whole-clause-loads
@@ -52,12 +55,17 @@ returns-then-front-whole-clause-took g c =
     let all = c.self.invariant.taken ∙ ap (λ (x : ReceiverEnd g.row.T.Denot). length x.knows.received) c.self.view_is in let near = c.requires.next.1 in
     let inv = c.loop-front.invariant in let front = c.loop-front.front in let s = c.loop-front.self in let lt = c.loop-front-test.true in let low = inv.1.low in
     let rest = room - (front - c.self.inside.taken) in let left : rest ≡ room - (front - length r.received) = ap (λ (n : ℕ). room - (front - n)) all in
-    let word = c.in_word.ensures.count ∙ ap (λ (p : Shape g.row.T.Denot). in_word p front) (c.plan.ensures ∙ ap (λ (x : ReceiverEnd g.row.T.Denot). x.plan) c.self-in-loop-front.view_is ∙ inv.0.1) in
+    let word = c.in_word.ensures.count
+    ∙ ap (λ (p : Shape g.row.T.Denot). in_word p front)
+    (c.plan.ensures ∙ ap (λ (x : ReceiverEnd g.row.T.Denot). x.plan) c.self-in-loop-front.view_is ∙ inv.0.1) in
     let short = c.if-front-whole.true in
-    walked_stop k s.plan r s.knows c.take_next-front.new.self.knows room end front rest c.take_next-front.result inv.0.1 inv.1 lt near left c.take_next-front.ensures.took (omega arith)
+    walked_stop k s.plan r s.knows c.take_next-front.new.self.knows room end front rest
+    c.take_next-front.result inv.0.1 inv.1 lt near left c.take_next-front.ensures.took (omega arith)
 
 pub returns-clause-took : goal.returns-clause-took
 returns-clause-took g c =
     let k = c.args.self.now.plan in let r = c.args.self.now.knows in let room = c.args.room in let end = c.args.end in
     let all = c.self.invariant.taken ∙ ap (λ (x : ReceiverEnd g.row.T.Denot). length x.knows.received) c.self.view_is in let near = c.requires.next.1 in
-    let inv = c.loop-front.invariant in let over = c.loop-front-test.false in walked_end k r c.loop-front.self.knows room end c.loop-front.front inv.1 (omega arith)
+    let inv = c.loop-front.invariant in
+    let over = c.loop-front-test.false in
+    walked_end k r c.loop-front.self.knows room end c.loop-front.front inv.1 (omega arith)

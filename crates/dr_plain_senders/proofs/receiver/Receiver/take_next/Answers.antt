@@ -1,4 +1,4 @@
-use Rattle.std.proofs.Common.{◌≡◌, ℕ, min, length, sym, ap, ◌∙◌}
+use Rattle.std.proofs.Common.{◌≡◌, ℕ, min, length, sym, ap, ◌∙◌, refl}
 use Rattle.dr_plain_senders.specs.Meaning.Shape.{Shape}
 use Rattle.dr_plain_senders.specs.Meaning.Words.{marked_from}
 use Rattle.dr_plain_senders.specs.Meaning.Records.{taken_at_mark}
@@ -28,8 +28,11 @@ invariant_of-self g c =
     let e = c.self.inside.station in let e' = c.look_at_mark-found.new.self in let F = c.self.invariant in let step = c.look_at_mark-found.ensures.step in
     let plan = step.2.0.1 in let found = c.look_at_mark-found.result in
     let count = counted e.plan e'.plan e.knows found _ c.marked-marked.result c.args.room c.min.result plan F.taken
-    (c.marked-marked.ensures.count ∙ ap (λ (p : Shape g.row.T.Denot). marked_from p c.self.inside.taken found) c.plan.ensures) c.min.ensures in
-    fits_taken e e' _ _ c.min.result _ step.0 F plan (ap (λ (r : ReceiverRecord g.row.T.Denot). r.number) step.2.1)
-    (ap (λ (r : ReceiverRecord g.row.T.Denot). r.completed) step.2.1) (ap (λ (r : ReceiverRecord g.row.T.Denot). r.received) step.2.1) step.2.2
-    (step.1 ∙ sym count) (next_near e _ _ _ found c.args.room _ F c.look_at_mark-found.ensures.finds count)
-    _ c.take_in.ensures.parts _ c.take_in.ensures.hand
+    (c.marked-marked.ensures.count ∙ ap (λ (p : Shape g.row.T.Denot). marked_from p c.self.inside.taken found) c.plan.ensures) c.min.ensures in (
+      refl,
+      tt,
+      fits_taken e e' _ _ c.min.result _ step.0 F plan (ap (λ (r : ReceiverRecord g.row.T.Denot). r.number) step.2.1)
+          (ap (λ (r : ReceiverRecord g.row.T.Denot). r.completed) step.2.1) (ap (λ (r : ReceiverRecord g.row.T.Denot). r.received) step.2.1) step.2.2
+          (step.1 ∙ sym count) (next_near e _ _ _ found c.args.room _ F c.look_at_mark-found.ensures.finds count)
+          _ c.take_in.ensures.parts _ c.take_in.ensures.hand,
+    )

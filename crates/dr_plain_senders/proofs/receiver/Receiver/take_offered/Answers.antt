@@ -14,7 +14,8 @@ take_marked-requires-clause-first g c =
 pub returns-then-is_empty-clause-took : goal.returns-then-is_empty-clause-took
 returns-then-is_empty-clause-took g c =
     let k = c.args.self.now.plan in let r = c.args.self.now.knows in let same = ap (λ (x : ReceiverEnd g.row.T.Denot). ups_of x.plan x.knows) c.self.view_is in
-    let none = no_elements (ups_of k r) (sym (ap length (c.upstreams.ensures ∙ same)) ∙ eqb-true (length c.upstreams.result.now) 0 (sym c.if-is_empty.ensures)) in
+    let none =
+    no_elements (ups_of k r) (sym (ap length (c.upstreams.ensures ∙ same)) ∙ eqb-true (length c.upstreams.result.now) 0 (sym c.if-is_empty.ensures)) in
     offered_marked k r _ _ _ _ none c.take_marked.ensures.took
 
 pub returns-clause-took : goal.returns-clause-took

@@ -1,10 +1,8 @@
-use Rattle.std.proofs.Common.{◌≡◌, ◌+◌, ◌-◌, ◌*◌, ◌++◌, ℕ, arith, refl, ap, sym, ◌∙◌, subst, drop, length}
+use Rattle.std.proofs.Common.{◌≡◌, ◌+◌, ◌-◌, ◌*◌, ◌++◌, ℕ, arith, refl, ap, sym, ◌∙◌, subst, drop}
 use Rattle.std.specs.Prelude.{Ok, Err}
-use Rattle.dr_seq.specs.Rounds.{entry_of}
-use Rattle.dr_seq.specs.Stamped.{stamped}
 use Rattle.dr_plain_senders.specs.Meaning.Shape.{Shape}
 use Rattle.dr_plain_senders.specs.Meaning.Words.{lanes_of}
-use Rattle.dr_plain_senders.specs.declared.owned.Owned.{Owned}
+use Rattle.dr_plain_senders.specs.Inside.Owned.{Owned, after_claim}
 use Rattle.dr_plain_senders.specs.declared.record.SenderRecord.{SenderRecord}
 use Rattle.dr_plain_senders.specs.Calls.Ends.{SenderStand, SenderEnd}
 use Rattle.dr_plain_senders.specs.Calls.Sending.{SenderClaimCall}
@@ -26,7 +24,11 @@ collect-requires-clause-room g c = c.self.invariant.count ∙ ap (λ (k : Shape 
 
 pub collect-requires-clause-hand : goal.collect-requires-clause-hand
 collect-requires-clause-hand g c =
-    let H = c.in-Ok.ensures.hand in let e = c.self.inside.station in let plan = sym c.in-Ok.ensures.call.stays.1 in let lo = c.in-Ok.claimed.lo in let n = c.args.n in
+    let H = c.in-Ok.ensures.hand in
+    let e = c.self.inside.station in
+    let plan = sym c.in-Ok.ensures.call.stays.1 in
+    let lo = c.in-Ok.claimed.lo in
+    let n = c.args.n in
     let back : n ≡ lo + n - lo = omega arith in (
       H.0,
       e.hand,
@@ -34,33 +36,53 @@ collect-requires-clause-hand g c =
       H.2 ∙ ap (λ (k : Shape g.row.T.Denot). taken_by_claim k lo H.0 ++ e.hand) plan,
     )
 
+pub claim-requires-clause-round : goal.claim-requires-clause-round
+claim-requires-clause-round g c = let few = c.in-Ok.ensures.fits.1.1 in let len = c.self.invariant.marks.claims in omega arith
+
 pub invariant_of-self : goal.invariant_of-self
 invariant_of-self g c =
-    let F = c.self.invariant in let e = c.self.inside.station in let e1 = c.try_claim.new.self in let e2 = c.collect.new.self in let o : Owned = c.self.inside.owned in
+    let F = c.self.invariant in
+    let e = c.self.inside.station in
+    let e1 = c.try_claim.new.self in
+    let e2 = c.collect.new.self in
+    let o : Owned = c.self.inside.owned in
     let lo = c.in-Ok.claimed.lo in let n = c.args.n in let E = c.in-Ok.ensures in let C = E.call in let H = E.hand in let step = c.collect.ensures.hand in
-    let back : lo + n - lo ≡ n = omega arith in let m = lo + n - lo in
-    fits_claim e o _ lo n _ _ F (subst (λ (k : Shape g.row.T.Denot). AreCollected k lo (lo + n) c.self.inside.tokens.items c.collect.new.tokens.items) C.stays.1 c.collect.ensures.collected) E.fits.1.0 E.fits.1.1 E.own e1.knows
-    (ap (λ (r : SenderRecord g.row.T.Denot). r.own) C.knows) e2 _ _ (ap (λ (x : SenderStand g.row.T.Denot). x.plan) step ∙ C.stays.1)
-    (ap (λ (x : SenderStand g.row.T.Denot). x.knows) step)
-    (ap (λ (x : SenderStand g.row.T.Denot). x.hand) step ∙ ap (λ (k : Shape g.row.T.Denot). drop (lanes_of k * m) e1.hand ++ blank_rows k lo m) C.stays.1
-    ∙ hand_after e.plan lo m n H.0 e.hand e1.hand H.1 H.2 back)
-    E.fits.0 (c.claim.ensures ∙ ap (λ (z : ℕ). record o { claimed = stamped (entry_of (length o.claimed)) o.claimed lo z }) back) refl
+    let back : lo + n - lo ≡ n = omega arith in let m = lo + n - lo in (
+      refl,
+      tt,
+      fits_claim e o _ lo n _ _ F
+          (subst (λ (k : Shape g.row.T.Denot). AreCollected k lo (lo + n) c.self.inside.tokens.items c.collect.new.tokens.items)
+          C.stays.1 c.collect.ensures.collected)
+          E.fits.1.0 E.fits.1.1 E.own e1.knows
+          (ap (λ (r : SenderRecord g.row.T.Denot). r.own) C.knows) e2 _ _ (ap (λ (x : SenderStand g.row.T.Denot). x.plan) step ∙ C.stays.1)
+          (ap (λ (x : SenderStand g.row.T.Denot). x.knows) step)
+          (ap (λ (x : SenderStand g.row.T.Denot). x.hand) step ∙ ap (λ (k : Shape g.row.T.Denot). drop (lanes_of k * m) e1.hand ++ blank_rows k lo m) C.stays.1
+          ∙ hand_after e.plan lo m n H.0 e.hand e1.hand H.1 H.2 back)
+          E.fits.0 (c.claim.ensures ∙ ap (λ (z : ℕ). after_claim o lo z) back) refl,
+    )
 
 pub returns-in-Ok : goal.returns-in-Ok
 returns-in-Ok g c =
-    let F = c.self.invariant in let e = c.self.inside.station in let e1 = c.try_claim.new.self in let e2 = c.collect.new.self in let o : Owned = c.self.inside.owned in
+    let F = c.self.invariant in
+    let e = c.self.inside.station in
+    let e1 = c.try_claim.new.self in
+    let e2 = c.collect.new.self in
+    let o : Owned = c.self.inside.owned in
     let lo = c.in-Ok.claimed.lo in let n = c.args.n in let E = c.in-Ok.ensures in let C = E.call in let step = c.collect.ensures.hand in
     let back : lo + n - lo ≡ n = omega arith in
-    let collected = subst (λ (k : Shape g.row.T.Denot). AreCollected k lo (lo + n) c.self.inside.tokens.items c.collect.new.tokens.items) C.stays.1 c.collect.ensures.collected in
+    let collected = subst (λ (k : Shape g.row.T.Denot). AreCollected k lo (lo + n) c.self.inside.tokens.items c.collect.new.tokens.items)
+    C.stays.1 c.collect.ensures.collected in
     let H = E.hand in
     let events = subst (λ (k : Shape g.row.T.Denot). HaveThoseOf k e1.hand lo (lo + n) c.collect.new.tokens.items) C.stays.1 c.collect.ensures.events in
     let laid = laid_back e.plan lo (lo + n) H.0 e.hand e1.hand c.collect.new.tokens.items (H.1.count ∙ sym back) H.2 events in
     let grown = ap (λ (r : SenderRecord g.row.T.Denot). r.own) C.knows in
-    let marks = c.claim.ensures ∙ ap (λ (z : ℕ). record o { claimed = stamped (entry_of (length o.claimed)) o.claimed lo z }) back in
-    subst (λ (x : SenderEnd g.row.T.Denot). SenderClaimCall x n (sender_end e2 c.claim.new.self c.collect.new.tokens.items) (Ok c.in-Ok.claimed)) c.self.view_is (
+    let marks = c.claim.ensures ∙ ap (λ (z : ℕ). after_claim o lo z) back in
+    subst (λ (x : SenderEnd g.row.T.Denot). SenderClaimCall x n (sender_end e2 c.claim.new.self c.collect.new.tokens.items) (Ok c.in-Ok.claimed))
+    c.self.view_is (
       bare_call e e1 e2 _ n (Ok c.in-Ok.claimed) C step,
       (
-        writes_stay e o _ lo n _ _ F collected E.fits.1.0 E.fits.1.1 E.own e1.knows grown _ _ _ (ap (λ (x : SenderStand g.row.T.Denot). x.plan) step ∙ C.stays.1)
+        writes_stay e o _ lo n _ _ F collected E.fits.1.0 E.fits.1.1 E.own e1.knows
+            grown _ _ _ (ap (λ (x : SenderStand g.row.T.Denot). x.plan) step ∙ C.stays.1)
             marks (ap (λ (x : SenderStand g.row.T.Denot). x.knows.own) step ∙ grown),
         gains_cells e o _ lo n _ _ F collected E.fits.1.0 E.fits.1.1 E.own e1.knows grown H.0 H.1 H.3 laid,
       ),
@@ -68,8 +90,12 @@ returns-in-Ok g c =
 
 pub invariant_of-self-in-Err : goal.invariant_of-self-in-Err
 invariant_of-self-in-Err g c =
-    let C = c.in-Err.ensures.call in fits_same c.self.inside.station c.try_claim.new.self _ _ _ C.stays.1 (ap (λ (r : SenderRecord g.row.T.Denot). r.own) C.knows)
-    c.in-Err.ensures.hand c.self.invariant
+    let C = c.in-Err.ensures.call in (
+      refl,
+      tt,
+      fits_same c.self.inside.station c.try_claim.new.self _ _ _ C.stays.1 (ap (λ (r : SenderRecord g.row.T.Denot). r.own) C.knows)
+          c.in-Err.ensures.hand c.self.invariant,
+    )
 
 pub returns-in-Err : goal.returns-in-Err
 returns-in-Err g c =

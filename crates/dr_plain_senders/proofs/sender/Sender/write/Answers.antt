@@ -1,4 +1,4 @@
-use Rattle.std.proofs.Common.{arith, sym, ap, ◌∙◌, subst, ◌<◌, set, Ok, Err}
+use Rattle.std.proofs.Common.{◌&&◌, not, arith, sym, ap, ◌∙◌, subst, ◌<◌, set, Ok, Err, refl}
 use denote.RawPtr.{Ptr}
 use Rattle.dr_cells.specs.declared.token.Token.{Token}
 use Rattle.dr_cells.specs.Hold.{whole}
@@ -16,20 +16,30 @@ use Rattle.dr_plain_senders.proofs.sender.Sender.write.Goals as goal
 
 pub invariant_of-self : goal.invariant_of-self
 invariant_of-self g c =
-    let looked = c.refusal.ensures.loaded in fits_same c.self.inside.station c.refusal.new.self _ _ _ looked.0.1
-    (ap (λ (r : SenderRecord g.row.T.Denot). r.own) looked.1) looked.2 c.self.invariant
+    let looked = c.refusal.ensures.loaded in (
+      refl,
+      tt,
+      fits_same c.self.inside.station c.refusal.new.self _ _ _ looked.0.1
+          (ap (λ (r : SenderRecord g.row.T.Denot). r.own) looked.1) looked.2 c.self.invariant,
+    )
 
 pub returns-then-not-has-clause-call : goal.returns-then-not-has-clause-call
 returns-then-not-has-clause-call g c =
     let limit = c.limit.ensures.limit ∙ ap (λ (k : Shape g.row.T.Denot). k.limit) c.plan.ensures.plan in let below = c.if-sequence-limit.false in
     let o = c.self.inside.owned in let tokens = c.self.inside.tokens.items in
-    subst (λ (x : SenderEnd g.row.T.Denot). WriteCall x c.args.sequence c.args.event (sender_end c.refusal.new.self o tokens) (Err c.refusal.result)) c.self.view_is
-    (write_refused c.self.inside.station o _ c.args.sequence tokens c.args.event c.self.invariant c.refusal.new.self c.refusal.result (omega arith) (sym c.if-not-has.ensures) c.refusal.ensures)
+    subst (λ (x : SenderEnd g.row.T.Denot). WriteCall x c.args.sequence c.args.event (sender_end c.refusal.new.self o tokens) (Err c.refusal.result))
+    c.self.view_is
+    (write_refused c.self.inside.station o _ c.args.sequence tokens c.args.event c.self.invariant
+    c.refusal.new.self c.refusal.result (omega arith) (sym c.if-not-has.ensures) c.refusal.ensures)
 
 pub returns-then-is_published-clause-call : goal.returns-then-is_published-clause-call
 returns-then-is_published-clause-call g c =
     subst (λ (x : SenderEnd g.row.T.Denot). WriteCall x c.args.sequence c.args.event x (Err AlreadyPublished)) c.self.view_is
-    (write_late c.self.inside.station c.self.inside.owned _ c.args.sequence c.self.inside.tokens.items c.args.event c.self.invariant (sym c.if-not-has.ensures) (sym c.if-is_published.ensures))
+    (write_late c.self.inside.station c.self.inside.owned _ c.args.sequence c.self.inside.tokens.items
+    c.args.event c.self.invariant (sym c.if-not-has.ensures) (sym c.if-is_published.ensures))
+
+pub write-requires-clause-opened : goal.write-requires-clause-opened
+write-requires-clause-opened g c = (λ i. sym c.if-not-has.ensures i && not (sym c.if-is_published.ensures i))
 
 pub invariant_of-self-2 : goal.invariant_of-self-2
 invariant_of-self-2 g c =
@@ -37,9 +47,13 @@ invariant_of-self-2 g c =
     let size = subst (λ (k : Shape g.row.T.Denot). 0 < k.size) c.plan.ensures.plan (size_positive _ c.plan.ensures.made.size) in
     let strip = c.cells-cells.ensures ∙ ap (λ (k : Shape g.row.T.Denot). k.strip) c.plan-2.ensures.plan in
     let token = c.write_in.ensures ∙ ap (λ (p : Ptr). let t : Token g.row.T.Denot = token_at p place (whole event) in t) strip in
-    let put = c.put_at.ensures.row ∙ (λ i. set (c.put_at-token.ensures.row i) place (token i)) in
-    fits_write c.self.inside.station c.self.inside.owned _ c.args.sequence place c.self.inside.tokens.items c.put_at.new.row.items c.blank.result event c.self.invariant size
-    (sym c.if-not-has.ensures) (sym c.if-is_published.ensures) c.place-place.ensures.place put c.write.new.self c.write.ensures
+    let put = c.put_at.ensures.row ∙ (λ i. set (c.put_at-token.ensures.row i) place (token i)) in (
+      refl,
+      tt,
+      fits_write c.self.inside.station c.self.inside.owned _ c.args.sequence place
+          c.self.inside.tokens.items c.put_at.new.row.items c.blank.result event c.self.invariant size
+          (sym c.if-not-has.ensures) (sym c.if-is_published.ensures) c.place-place.ensures.place put c.write.new.self c.write.ensures,
+    )
 
 pub returns-clause-call : goal.returns-clause-call
 returns-clause-call g c =

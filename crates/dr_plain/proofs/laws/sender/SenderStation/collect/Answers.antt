@@ -1,8 +1,8 @@
 use Rattle.std.proofs.Common.{rules, ◌≡◌, ℕ, ◌+◌, ◌-◌, ◌*◌, ◌++◌, List, Option, None, arith, ap, sym, ◌∙◌, subst, length, set, drop}
 use Rattle.dr_cells.specs.declared.token.Token.{Token}
+use Rattle.dr_lent.specs.declared.lent.Lent.{Lent}
 use Rattle.dr_plain.specs.Meaning.Shape.{Shape, handlers_of}
 use Rattle.dr_plain.specs.Meaning.Words.{cell_of}
-use Rattle.dr_plain.specs.declared.record.Lent.{Lent}
 use Rattle.dr_plain.specs.Calls.Ends.{SenderStand}
 use Rattle.dr_plain.specs.Inside.Fits.{no_lents, Keeps}
 use Rattle.dr_plain.specs.Inside.Hands.{row, with_hand}

@@ -1,7 +1,7 @@
 use Rattle.std.proofs.Common.{◌≡◌, ℕ, ◌++◌, Option, None, arith, ap, ◌∙◌, subst, length, take, drop}
 use Rattle.std.proofs.lemmas.List.{length-append}
+use Rattle.dr_lent.specs.declared.lent.Lent.{Lent}
 use Rattle.dr_plain.specs.Meaning.Shape.{Shape, handlers_of}
-use Rattle.dr_plain.specs.declared.record.Lent.{Lent}
 use Rattle.dr_plain.specs.Inside.Fits.{Keeps}
 use Rattle.dr_plain.specs.Inside.Hands.{row, with_hand, lent_by}
 use Rattle.dr_plain.specs.Inside.Seats.{Hand}

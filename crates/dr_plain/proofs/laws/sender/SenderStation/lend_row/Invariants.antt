@@ -1,10 +1,10 @@
 use Rattle.std.proofs.Common.{◌≡◌, ◌-◌, drop, None, Some}
 use Rattle.dr_cells.specs.Hold.{held}
+use Rattle.dr_lent.proofs.Trading.{traded}
+use Rattle.dr_lent.specs.declared.lent.Lent.{Lent}
 use Rattle.dr_plain.specs.Meaning.Shape.{handlers_of}
-use Rattle.dr_plain.specs.declared.record.Lent.{Lent}
 use Rattle.dr_plain.specs.Inside.Hands.{with_hand, row}
 use Rattle.dr_plain.proofs.Tokens.{out}
-use Rattle.dr_plain.proofs.Trading.{traded}
 use Rattle.dr_plain.proofs.laws.sender.SenderStation.lend_row.Given as goal
 
 abbrev pub invariant-loop-handler : goal.invariant-loop-handler

@@ -1,5 +1,5 @@
 use Rattle.std.proofs.Common.{List, length, ◌++◌, arith, sym, ap, ◌∙◌, subst}
-use Rattle.dr_plain.specs.declared.record.Lent.{Lent}
+use Rattle.dr_lent.specs.declared.lent.Lent.{Lent}
 use Rattle.dr_plain.specs.Inside.Lending.{HasPublished}
 use Rattle.dr_plain.specs.Inside.Seats.{Hand, given_by_publication}
 use Rattle.dr_plain.proofs.laws.sender.SenderStation.publish_lent.Goals as goal

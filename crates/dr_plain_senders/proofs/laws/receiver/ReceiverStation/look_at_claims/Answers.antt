@@ -1,5 +1,5 @@
 use Rattle.std.proofs.Common.{rules}
-use Rattle.dr_plain_senders.proofs.Allowed.{receiver_looks_at_claims}
+use Rattle.dr_plain_senders.proofs.AllowedReceiving.{receiver_looks_at_claims}
 use Rattle.dr_plain_senders.proofs.laws.receiver.ReceiverStation.look_at_claims.Goals as goal
 
 pub load-requires : goal.load-requires

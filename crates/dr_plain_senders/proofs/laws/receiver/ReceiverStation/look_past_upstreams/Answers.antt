@@ -19,9 +19,15 @@ returns-clause-answer g c =
     let first = c.see_counts-least.ensures.answer in let plan = s.0.1 in
     let same : ups_of c.see_counts-least.new.self.plan c.see_counts-least.new.self.knows ≡ ups_of k r =
     (λ j. ups_of (plan j) c.see_counts-least.new.self.knows) ∙ ap (λ (x : ReceiverRecord g.row.T.Denot). ups_of k x) first.is in
-    let rising = subst (λ (e : ReceiverStand g.row.T.Denot). IsStrictlyIncreasing (ups_of e.plan e.knows)) c.self.view_is (c.self.invariant.keyed.made.graph.rising _) in
+    let rising =
+    subst (λ (e : ReceiverStand g.row.T.Denot). IsStrictlyIncreasing (ups_of e.plan e.knows)) c.self.view_is (c.self.invariant.keyed.made.graph.rising _) in
     round_last k r _ _ c.args.room c.args.claimed _ _ i _ c.look_at_count-count.result c.args.self.now.hand _ t.0 rising first
     (let len = ap length last in omega arith) (ap (λ (xs : List ℕ). get_or xs i 0) (sym (c.upstreams-2.ensures ∙ same)))
-    (t.1 ∙ ap (λ (p : Shape g.row.T.Denot). taken_at_count p c.see_counts-least.new.self.knows (count_word (get_or c.upstreams-2.result.now i 0)) c.look_at_count-count.result c.args.room) plan)
+    (t.1 ∙ ap (λ (p : Shape g.row.T.Denot).
+    taken_at_count p c.see_counts-least.new.self.knows (count_word (get_or c.upstreams-2.result.now i 0)) c.look_at_count-count.result c.args.room)
+    plan)
     t.2.1 (t.2.2 ∙ (λ j. taken_by_poll (plan j) c.see_counts-least.new.self.knows t.0 ++ s.2 j))
-    (subst (λ (p : Shape g.row.T.Denot). FindsEvents p c.see_counts-least.new.self.knows (count_word (get_or c.upstreams-2.result.now i 0)) c.look_at_count-count.result) plan c.look_at_count-count.ensures.finds) c.lesser.ensures
+    (subst (λ (p : Shape g.row.T.Denot).
+    FindsEvents p c.see_counts-least.new.self.knows (count_word (get_or c.upstreams-2.result.now i 0)) c.look_at_count-count.result)
+    plan c.look_at_count-count.ensures.finds)
+    c.lesser.ensures

@@ -8,7 +8,8 @@ use Rattle.dr_runs.proofs.Elements.{at_below}
 use Rattle.dr_plain_senders.proofs.laws.receiver.ReceiverStation.read.Goals as goal
 
 pub at-requires : goal.at-requires
-at-requires g c = at_below c.args.parts.now.items c.place-place.result _ (ap (λ (n : ℕ). get_elem? c.args.parts.now.items n) c.place-place.ensures.place ∙ c.requires.1)
+at-requires g c =
+    at_below c.args.parts.now.items c.place-place.result _ (ap (λ (n : ℕ). get_elem? c.args.parts.now.items n) c.place-place.ensures.place ∙ c.requires.1)
 
 pub returns : goal.returns
 returns g c l at =

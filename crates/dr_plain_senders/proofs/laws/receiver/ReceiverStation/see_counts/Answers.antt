@@ -15,5 +15,8 @@ loop-place-preserved g c =
       (λ i. ups_of (step.0.1 i) (step.1 i)) ∙ inv.1,
       first_more k _ _ _ c.args.claimed c.loop-place.least _ c.loop-place.place _ c.see_count-count.result inv.2 (omega arith)
           (ap (λ (xs : List ℕ). get_or xs c.loop-place.place 0) (sym (c.upstreams.ensures ∙ inv.1))) step.1
-          (subst (λ (p : Shape g.row.T.Denot). FindsEvents p c.loop-place.self.knows (count_word (get_or c.upstreams.result.now c.loop-place.place 0)) c.see_count-count.result) plan c.see_count-count.ensures.finds) c.lesser-least.ensures,
+          (subst (λ (p : Shape g.row.T.Denot).
+          FindsEvents p c.loop-place.self.knows (count_word (get_or c.upstreams.result.now c.loop-place.place 0)) c.see_count-count.result)
+          plan c.see_count-count.ensures.finds)
+          c.lesser-least.ensures,
     )

@@ -15,15 +15,22 @@ compare_exchange-requires g c =
     let room = subst (λ (e : SenderStand g.row.T.Denot). SeesRoom e.plan e.knows c.args.found c.args.count) (sym c.self.view_is) c.requires.room in (
       search rules,
       search rules,
-      sender_claims_more _ J _ _ c.args.found c.args.count _ (ap (λ r. r.table.shared.key) c.deref.ensures ∙ c.self.invariant.keyed.key ∙ plan) refl c.self.invariant.end c.requires.some
+      sender_claims_more _ J _ _ c.args.found c.args.count _ (ap (λ r. r.table.shared.key) c.deref.ensures ∙ c.self.invariant.keyed.key ∙ plan)
+          refl c.self.invariant.end c.requires.some
           (subst (λ (p : Shape g.row.T.Denot). SeesRoom p (sender_of c.self.inside.seat.me.0.ends) c.args.found c.args.count) plan room),
     )
 
 pub returns-clause-own : goal.returns-clause-own
 returns-clause-own g c =
-    let plan = ap (λ (e : SenderStand g.row.T.Denot). e.plan) c.self.view_is ∙ c.requires.named in let found = c.args.found in let upto = c.args.found + c.args.count in
-    subst (λ (e : SenderStand g.row.T.Denot). c.compare_exchange.result ≡ found → (s : ℕ) (t : Stage g.row.T.Denot) → Owns e.knows s t → IsEarlier e.plan found upto s t) c.self.view_is
-    (subst (λ (k : Shape g.row.T.Denot). c.compare_exchange.result ≡ found → (s : ℕ) (t : Stage g.row.T.Denot) → Owns (sender_of c.self.inside.seat.me.0.ends) s t → IsEarlier k found upto s t) (sym plan) c.compare_exchange.ensures.2.0.4)
+    let plan = ap (λ (e : SenderStand g.row.T.Denot). e.plan) c.self.view_is ∙ c.requires.named in
+    let found = c.args.found in
+    let upto = c.args.found + c.args.count in
+    subst (λ (e : SenderStand g.row.T.Denot).
+    c.compare_exchange.result ≡ found → (s : ℕ) (t : Stage g.row.T.Denot) → Owns e.knows s t → IsEarlier e.plan found upto s t)
+    c.self.view_is
+    (subst (λ (k : Shape g.row.T.Denot).
+    c.compare_exchange.result ≡ found → (s : ℕ) (t : Stage g.row.T.Denot) → Owns (sender_of c.self.inside.seat.me.0.ends) s t → IsEarlier k found upto s t)
+    (sym plan) c.compare_exchange.ensures.2.0.4)
 
 pub returns-clause-step : goal.returns-clause-step
 returns-clause-step g c =

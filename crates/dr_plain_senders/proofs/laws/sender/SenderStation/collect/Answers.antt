@@ -5,7 +5,8 @@ use Rattle.dr_plain_senders.specs.Calls.Ends.{SenderStand}
 use Rattle.dr_plain_senders.specs.Inside.Hands.{with_hand}
 use Rattle.dr_plain_senders.specs.Inside.Rows.{row, blank_row, IsWholeOf, AreCollected}
 use Rattle.dr_plain_senders.specs.Inside.Seats.{IsOfRound}
-use Rattle.dr_plain_senders.proofs.Collecting.{collecting_none, row_next, collecting_next, collecting_all, collected_none, collected_more, row_event, have_none, have_more, have_all, HaveLaid}
+use Rattle.dr_plain_senders.proofs.Collecting.{collecting_none, row_next, collecting_next, collecting_all, collected_none, collected_more, row_event}
+use Rattle.dr_plain_senders.proofs.Collecting.{have_none, have_more, have_all, HaveLaid}
 use Rattle.dr_plain_senders.proofs.laws.sender.SenderStation.collect.Goals as goal
 
 pub loop-sequence-init : goal.loop-sequence-init
@@ -22,7 +23,11 @@ loop-sequence-init g c =
 
 pub collect_row-whole-requires : goal.collect_row-whole-requires
 collect_row-whole-requires g c =
-    let e = c.args.self.now in let first = c.args.first in let n = c.args.upto - first in let inv = c.loop-sequence.invariant in let lt = c.loop-sequence-test.true in
+    let e = c.args.self.now in
+    let first = c.args.first in
+    let n = c.args.upto - first in
+    let inv = c.loop-sequence.invariant in
+    let lt = c.loop-sequence-test.true in
     let s = c.loop-sequence.sequence in let low = inv.3 in let next = row_next e e.plan first n inv.0 inv.1 s _ low (omega arith) inv.2 in
     let plan = ap (λ (x : SenderStand g.row.T.Denot). x.plan) inv.2 in (
       next.0,
@@ -47,7 +52,8 @@ loop-sequence-preserved g c =
       collected_more k first s c.place-place.result _ _ _ _ inv.4 low (omega arith) place (omega arith)
           (subst (λ (p : Shape g.row.T.Denot). IsWholeOf p s c.collect_row-whole.result) plan c.collect_row-whole.ensures.whole) c.put_at.ensures.row,
       inv.5,
-      have_more k first s c.place-place.result inv.0 _ _ _ was.0 inv.6 low (omega arith) place (omega arith) was.1 (c.collect_row-whole.ensures.event ∙ was.2) c.put_at.ensures.row,
+      have_more k first s c.place-place.result inv.0 _ _ _ was.0 inv.6 low (omega arith) place
+          (omega arith) was.1 (c.collect_row-whole.ensures.event ∙ was.2) c.put_at.ensures.row,
     )
 
 pub returns-clause-hand : goal.returns-clause-hand
@@ -58,7 +64,11 @@ returns-clause-hand g c =
 
 pub returns-clause-collected : goal.returns-clause-collected
 returns-clause-collected g c =
-    let over = c.loop-sequence-test.false in let end = c.loop-sequence.auto.sequence-end in let le = c.requires.order.0 in let inv = c.loop-sequence.invariant in let low = inv.3 in
+    let over = c.loop-sequence-test.false in
+    let end = c.loop-sequence.auto.sequence-end in
+    let le = c.requires.order.0 in
+    let inv = c.loop-sequence.invariant in
+    let low = inv.3 in
     let all : c.loop-sequence.sequence ≡ c.args.upto = omega arith in
     subst (λ (q : ℕ). AreCollected c.args.self.now.plan c.args.first q c.args.tokens.now.items c.loop-sequence.tokens.items) all inv.4
 
@@ -67,4 +77,5 @@ returns-clause-events g c =
     let e = c.args.self.now in let first = c.args.first in let inv = c.loop-sequence.invariant in
     let over = c.loop-sequence-test.false in let end = c.loop-sequence.auto.sequence-end in let le = c.requires.order.0 in let low = inv.3 in
     let all : c.loop-sequence.sequence ≡ c.args.upto = omega arith in
-    have_all e.plan first c.args.upto inv.0 inv.5.0 e.hand _ inv.1.count inv.5.1 (subst (λ (q : ℕ). HaveLaid e.plan first q inv.0 c.loop-sequence.tokens.items) all inv.6)
+    have_all e.plan first c.args.upto inv.0 inv.5.0 e.hand _ inv.1.count inv.5.1
+    (subst (λ (q : ℕ). HaveLaid e.plan first q inv.0 c.loop-sequence.tokens.items) all inv.6)

@@ -27,7 +27,8 @@ pub returns-then-sequence-get-clause-hand : goal.returns-then-sequence-get-claus
 returns-then-sequence-get-clause-hand g c =
     let e = c.args.self.now in let R = c.requires in let s = c.args.sequence in let slot = c.slot-slot.result in let hand : Hand g.row.T.Denot = e.hand in
     let first = c.exchange-kept.ensures.hand ∙ ap (λ (t : Token g.row.T.Denot). with_hand e (rest hand ++ (slot, t) ∷ [])) c.blank.ensures in
-    let size = c.get.ensures.value ∙ c.size.ensures ∙ ap (λ (k : Shape g.row.T.Denot). k.size) c.plan.ensures.plan ∙ ap (λ (x : SenderStand g.row.T.Denot). x.plan.size) first in
+    let size = c.get.ensures.value ∙ c.size.ensures ∙ ap (λ (k : Shape g.row.T.Denot). k.size) c.plan.ensures.plan
+    ∙ ap (λ (x : SenderStand g.row.T.Denot). x.plan.size) first in
     let early = c.if-sequence-get.true in let nothing = unlent_of e.plan s R.0 R.2 (omega arith) in
     let count = c.handlers.ensures.count ∙ ap (λ (x : SenderStand g.row.T.Denot). handlers_of x.plan) first in
     row_taken e e.plan s R.0 R.1 R.3 slot _ _ c.slot-slot.ensures first
@@ -37,7 +38,8 @@ pub returns-then-sequence-get-clause-whole : goal.returns-then-sequence-get-clau
 returns-then-sequence-get-clause-whole g c =
     let e = c.args.self.now in let R = c.requires in let s = c.args.sequence in let slot = c.slot-slot.result in let hand : Hand g.row.T.Denot = e.hand in
     let first = c.exchange-kept.ensures.hand ∙ ap (λ (t : Token g.row.T.Denot). with_hand e (rest hand ++ (slot, t) ∷ [])) c.blank.ensures in
-    let size = c.get.ensures.value ∙ c.size.ensures ∙ ap (λ (k : Shape g.row.T.Denot). k.size) c.plan.ensures.plan ∙ ap (λ (x : SenderStand g.row.T.Denot). x.plan.size) first in
+    let size = c.get.ensures.value ∙ c.size.ensures ∙ ap (λ (k : Shape g.row.T.Denot). k.size) c.plan.ensures.plan
+    ∙ ap (λ (x : SenderStand g.row.T.Denot). x.plan.size) first in
     let early = c.if-sequence-get.true in let nothing = unlent_of e.plan s R.0 R.2 (omega arith) in
     (nothing.0, first_kept e e.plan s R.0 R.1 R.3 slot _ c.exchange-kept.ensures.was ∙ ap (λ (a : Laid g.row.T.Denot). kept_of e.plan s a) nothing.1)
 
@@ -46,7 +48,8 @@ join_parts-requires g c =
     let e = c.args.self.now in let R = c.requires in let s = c.args.sequence in let slot = c.slot-slot.result in let hand : Hand g.row.T.Denot = e.hand in
     let first = c.exchange-kept.ensures.hand ∙ ap (λ (t : Token g.row.T.Denot). with_hand e (rest hand ++ (slot, t) ∷ [])) c.blank.ensures in
     let plan = ap (λ (x : SenderStand g.row.T.Denot). x.plan) first in
-    let size = c.get.ensures.value ∙ c.size.ensures ∙ ap (λ (k : Shape g.row.T.Denot). k.size) c.plan.ensures.plan ∙ ap (λ (k : Shape g.row.T.Denot). k.size) plan in
+    let size =
+    c.get.ensures.value ∙ c.size.ensures ∙ ap (λ (k : Shape g.row.T.Denot). k.size) c.plan.ensures.plan ∙ ap (λ (k : Shape g.row.T.Denot). k.size) plan in
     let late = c.if-sequence-get.false in let something = lent_of e.plan s R.0 R.2 (omega arith) in
     let at = parts_first e e.plan s R.0 R.1 R.3 slot _ first in let behind : Hand g.row.T.Denot = R.1 ++ (slot, no_token) ∷ [] in (
       something.0,

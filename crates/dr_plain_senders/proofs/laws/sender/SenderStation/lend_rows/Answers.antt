@@ -6,7 +6,8 @@ use Rattle.dr_plain_senders.specs.Calls.Ends.{SenderStand}
 use Rattle.dr_plain_senders.specs.Inside.Hands.{with_hand}
 use Rattle.dr_plain_senders.specs.Inside.Rows.{row, blank_row, blank_rows, IsWholeOf}
 use Rattle.dr_plain_senders.specs.Inside.Seats.{Hand, given_by_publication}
-use Rattle.dr_plain_senders.proofs.RowsLent.{cleared_count, others_count, lending_none, row_next, rest_count, lending_more, next_whole, lent_room, lent_all_rows, many_lent, all_cleared}
+use Rattle.dr_plain_senders.proofs.RowsLent.{cleared_count, others_count, lending_none, row_next, rest_count, lending_more, next_whole, lent_room}
+use Rattle.dr_plain_senders.proofs.RowsLent.{lent_all_rows, many_lent, all_cleared}
 use Rattle.dr_plain_senders.proofs.Showing.{small_product}
 use Rattle.dr_plain_senders.proofs.laws.sender.SenderStation.lend_rows.Goals as goal
 
@@ -92,7 +93,8 @@ loop-sequence-preserved g c =
     let left = c.loop-sequence.tokens.items in let plan = ap (λ (x : SenderStand T). x.plan) L.is in let place = c.place-place.result in
     let at = c.place-place.ensures.place ∙ ap (λ (p : Shape g.row.T.Denot). cell_of p s) plan in
     let N = c.lend_behind.ensures in
-    lending_more e k ts first n s place now c.lend_behind.new.self left c.put_at-whole.new.row.items N.0 c.put_at-whole.result c.blank.result L (omega arith) (omega arith) at c.put_at-whole.ensures.was N.1
+    lending_more e k ts first n s place now c.lend_behind.new.self left c.put_at-whole.new.row.items N.0
+    c.put_at-whole.result c.blank.result L (omega arith) (omega arith) at c.put_at-whole.ensures.was N.1
     c.put_at-whole.ensures.row c.blank.ensures (N.2 ∙ ap (λ (p : Shape g.row.T.Denot). with_hand now (drop (lanes_of p) now.hand ++ row p s (lent N.0))) plan)
 
 pub turn_all-requires : goal.turn_all-requires
@@ -101,7 +103,8 @@ turn_all-requires g c =
     let ts = c.args.tokens.now.items in let R = c.requires.hand in
     let order = c.requires.order.0 in let round = c.requires.order.1 in
     let L = c.loop-sequence.invariant in let over = c.loop-sequence-test.false in let end = c.loop-sequence.auto.sequence-end (omega arith) in
-    lent_room e k ts first n c.loop-sequence.sequence c.loop-sequence.self c.loop-sequence.tokens.items L (omega arith) c.args.others (others_count e k ts first n R.0 c.args.others R.1 R.2)
+    lent_room e k ts first n c.loop-sequence.sequence c.loop-sequence.self c.loop-sequence.tokens.items
+    L (omega arith) c.args.others (others_count e k ts first n R.0 c.args.others R.1 R.2)
 
 pub returns-clause-lent : goal.returns-clause-lent
 returns-clause-lent g c =

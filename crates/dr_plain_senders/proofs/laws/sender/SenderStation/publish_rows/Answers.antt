@@ -1,5 +1,5 @@
 use Rattle.std.proofs.Common.{List, length, drop, ap, subst, ◌∙◌}
-use Rattle.dr_plain_senders.specs.declared.record.Lent.{Lent}
+use Rattle.dr_lent.specs.declared.lent.Lent.{Lent}
 use Rattle.dr_plain_senders.specs.declared.record.Step.TheVariants.{SenderPublishes}
 use Rattle.dr_plain_senders.specs.Meaning.Words.{lanes_of}
 use Rattle.dr_plain_senders.specs.Meaning.Records.{has_published, events_of}

@@ -17,9 +17,11 @@ returns g c =
     let A = c.look_at_claims-before.ensures.step in let B = c.look_at_mark-mark.ensures in let C = c.look_at_claims-after.ensures.step in
     let plan = c.plan.ensures.plan ∙ C.0.1 ∙ B.0.1 ∙ A.0.1 in let plan2 = c.plan-2.ensures.plan ∙ C.0.1 ∙ B.0.1 ∙ A.0.1 in
     let pos = subst (λ (p : Shape g.row.T.Denot). 0 < p.size) plan (size_positive _ c.plan.ensures.made.size) in
-    let marked : nat_lt 0 c.marked-is_marked.result ≡ is_there e.plan s m = (λ i. nat_lt 0 ((c.marked-is_marked.ensures.count ∙ ap (λ (p : Shape g.row.T.Denot). marked_from p s m) plan) i)) ∙ some_marked e.plan s m pos in
+    let marked : nat_lt 0 c.marked-is_marked.result ≡ is_there e.plan s m =
+    (λ i. nat_lt 0 ((c.marked-is_marked.ensures.count ∙ ap (λ (p : Shape g.row.T.Denot). marked_from p s m) plan) i)) ∙ some_marked e.plan s m pos in
     let size = c.get.ensures.value ∙ c.size.ensures ∙ ap (λ (p : Shape g.row.T.Denot). p.size) plan2 in
-    refuses e c.look_at_claims-before.new.self c.look_at_mark-mark.new.self e3 s c.look_at_claims-before.result m c.look_at_claims-after.result c.refusal_where.result A B C
+    refuses e c.look_at_claims-before.new.self c.look_at_mark-mark.new.self e3 s
+    c.look_at_claims-before.result m c.look_at_claims-after.result c.refusal_where.result A B C
     c.look_at_claims-before.ensures.own c.look_at_claims-after.ensures.own
     (c.refusal_where.ensures ∙ ap (λ (b : Bool). if b then AlreadyPublished else NotClaimed)
     (c.is_out.ensures ∙ (λ i. nat_lt s (c.claimed_in-2.ensures.is i) && (marked i || nat_lt (s + size i) (c.claimed_in.ensures.is i)))))

@@ -1,12 +1,12 @@
 use Rattle.std.proofs.Common.{◌≡◌, ◌-◌, drop, Some}
 use Rattle.dr_cells.specs.Hold.{held}
+use Rattle.dr_lent.proofs.Trading.{traded}
+use Rattle.dr_lent.specs.declared.lent.Lent.{Lent}
 use Rattle.dr_plain_senders.specs.Meaning.Shape.{handlers_of}
 use Rattle.dr_plain_senders.specs.Meaning.Lying.{lent}
-use Rattle.dr_plain_senders.specs.declared.record.Lent.{Lent}
 use Rattle.dr_plain_senders.specs.Inside.Hands.{with_hand}
 use Rattle.dr_plain_senders.specs.Inside.Rows.{parts_row, blank_parts}
 use Rattle.dr_plain_senders.proofs.Tokens.{out}
-use Rattle.dr_plain_senders.proofs.Trading.{traded}
 use Rattle.dr_plain_senders.proofs.laws.sender.SenderStation.split_parts.Given as goal
 
 abbrev pub invariant-loop-handler : goal.invariant-loop-handler

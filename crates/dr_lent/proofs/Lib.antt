@@ -1,0 +1,12 @@
+pub mod Copying
+pub mod Dealing
+pub mod Going
+pub mod InHand
+pub mod Lanes
+pub mod Leaving
+pub mod Lists
+pub mod Looks
+pub mod Rowed
+pub mod Tokens
+pub mod Trades
+pub mod Trading

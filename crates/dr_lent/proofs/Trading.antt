@@ -1,0 +1,98 @@
+-- The slots that are first in hand, as something goes in and out of each.
+use Rattle.std.proofs.Common.{◌≡◌, ℕ, ◌+◌, ◌-◌, ◌<◌, ◌≤◌, List, [], ◌∷◌, ◌++◌, length, take, drop, sym, ap, ◌∙◌, arith, append_assoc}
+use Rattle.std.proofs.lemmas.List.{append-nil}
+use mathlib.Core.Option.{some}
+use lib.ListN.{get_elem?}
+use Rattle.atomic_table.specs.Table.{rest, turned}
+use Rattle.dr_runs.proofs.Elements.{there}
+use Rattle.dr_runs.proofs.Lists.{take_whole, past_end}
+use Rattle.dr_lent.proofs.Lists.{drop_at, take_more, drop_seam}
+
+-- something that has a hand, and can have another
+pub record Holder (E C : Type 0) : Type 0 where
+  pub hand_of : E → List (ℕ × C)
+  pub with_hand : E → List (ℕ × C) → E
+  pub reads : (e : E) (hand : List (ℕ × C)) → hand_of (with_hand e hand) ≡ hand
+  pub again : (e : E) (hand next : List (ℕ × C)) → with_hand (with_hand e hand) next ≡ with_hand e next
+  pub own : (e : E) → with_hand e (hand_of e) ≡ e
+
+-- the first of all goes behind the others
+pub turned_next : {C : Type 0} (hand : List (ℕ × C)) (i : ℕ) → i < length hand → turned (drop i hand ++ take i hand) ≡ drop (i + 1) hand ++ take (i + 1) hand
+turned_next hand i lt = let t = there hand i lt in
+    ap (λ (zs : List (ℕ × _)). turned (zs ++ take i hand)) (drop_at hand i t.0 t.1) ∙ append_assoc (drop (i + 1) hand) (take i hand) (t.0 ∷ [])
+    ∙ ap (λ (zs : List (ℕ × _)). drop (i + 1) hand ++ zs) (take_more hand i t.0 t.1)
+
+module _ {C : Type 0} where
+  -- of these, the first i were traded for those, which stand behind all else
+  abbrev pub traded : List (ℕ × C) → List (ℕ × C) → List (ℕ × C) → ℕ → List (ℕ × C)
+  traded xs ys others i = drop i xs ++ (others ++ take i ys)
+
+  traded_none : (xs ys others : List (ℕ × C)) → traded xs ys others 0 ≡ xs ++ others
+  traded_none xs ys others = ap (λ (zs : List (ℕ × C)). xs ++ zs) (append-nil others)
+
+  traded_first : (xs ys others hand : List (ℕ × C)) (i : ℕ) (x : ℕ × C) → get_elem? xs i ≡ some x → hand ≡ traded xs ys others i → hand ≡ x ∷ rest hand
+  traded_first xs ys others hand i x at is =
+      let e : hand ≡ x ∷ (drop (i + 1) xs ++ (others ++ take i ys)) =
+      is ∙ ap (λ (zs : List (ℕ × C)). zs ++ (others ++ take i ys)) (drop_at xs i x at) in
+      e ∙ ap (λ (zs : List (ℕ × C)). x ∷ zs) (sym (ap rest e))
+
+  traded_next : (xs ys others hand : List (ℕ × C)) (i : ℕ) (x y : ℕ × C) → get_elem? xs i ≡ some x → get_elem? ys i ≡ some y → hand ≡ traded xs ys others i
+      → rest hand ++ y ∷ [] ≡ traded xs ys others (i + 1)
+  traded_next xs ys others hand i x y at_x at_y is =
+      ap (λ (zs : List (ℕ × C)). rest zs ++ y ∷ []) (is ∙ ap (λ (zs : List (ℕ × C)). zs ++ (others ++ take i ys)) (drop_at xs i x at_x))
+      ∙ append_assoc (drop (i + 1) xs) (others ++ take i ys) (y ∷ [])
+      ∙ ap (λ (zs : List (ℕ × C)). drop (i + 1) xs ++ zs)
+      (append_assoc others (take i ys) (y ∷ []) ∙ ap (λ (zs : List (ℕ × C)). others ++ zs) (take_more ys i y at_y))
+
+  traded_all : (xs ys others : List (ℕ × C)) (n : ℕ) → length xs ≡ n → length ys ≡ n → traded xs ys others n ≡ others ++ ys
+  traded_all xs ys others n x y =
+      ap (λ (zs : List (ℕ × C)). zs ++ (others ++ take n ys)) (past_end xs n x)
+      ∙ ap (λ (zs : List (ℕ × C)). others ++ zs) (take_whole ys n (omega arith))
+
+  -- what lay in the first slot
+  first_value : C → List (ℕ × C) → C
+  first_value d [] = d
+  first_value d (x ∷ xs) = x.1
+
+  pub was_there : (hand : List (ℕ × C)) (slot : ℕ) (x : ℕ × C) (c : C) → hand ≡ x ∷ rest hand → hand ≡ (slot, c) ∷ rest hand → c ≡ x.1
+  unfolding first_value
+  was_there hand slot x c a b = ap (first_value c) (sym b ∙ a)
+
+-- a loop over the slots from one sequence on, of something that began as e
+module _ {E C : Type 0} (H : Holder E C) (e : E) (first n : ℕ) (xs ys : List (ℕ × C)) where
+  abbrev pub Traded : ℕ → E → Type 0
+  Traded s now = now ≡ H.with_hand e (traded xs ys (drop n (H.hand_of e)) (s - first))
+
+  pub trade_begins : (o : List (ℕ × C)) → H.hand_of e ≡ xs ++ o → length xs ≡ n → Traded first e
+  trade_begins o is count =
+      let none : 0 ≡ first - first = omega arith in
+      let others : drop n (H.hand_of e) ≡ o = ap (λ (h : List (ℕ × C)). drop n h) is ∙ drop_seam xs o n count in
+      sym (H.own e) ∙ ap (λ (h : List (ℕ × C)). H.with_hand e h)
+      (is ∙ ap (λ (h : List (ℕ × C)). xs ++ h) (sym others) ∙ sym (traded_none xs ys (drop n (H.hand_of e)))
+      ∙ ap (λ (m : ℕ). traded xs ys (drop n (H.hand_of e)) m) none)
+
+  hand_is : (s : ℕ) (now : E) → Traded s now → H.hand_of now ≡ traded xs ys (drop n (H.hand_of e)) (s - first)
+  hand_is s now is = ap (λ (x : E). H.hand_of x) is ∙ H.reads e (traded xs ys (drop n (H.hand_of e)) (s - first))
+
+  pub trade_first : (s : ℕ) (now : E) (x : ℕ × C) → Traded s now → get_elem? xs (s - first) ≡ some x → H.hand_of now ≡ x ∷ rest (H.hand_of now)
+  trade_first s now x is at = traded_first xs ys (drop n (H.hand_of e)) (H.hand_of now) (s - first) x at (hand_is s now is)
+
+  pub trade_slot : (s slot : ℕ) (now : E) (x : ℕ × C) → Traded s now → get_elem? xs (s - first) ≡ some x → slot ≡ x.0
+      → (t : C) × (H.hand_of now ≡ (slot, t) ∷ rest (H.hand_of now))
+  trade_slot s slot now x is at same = (x.1, trade_first s now x is at ∙ ap (λ (m : ℕ). (m, x.1) ∷ rest (H.hand_of now)) (sym same))
+
+  pub trade_next : (s slot : ℕ) (new : C) (now next : E) (x y : ℕ × C) → first ≤ s → Traded s now → get_elem? xs (s - first) ≡ some x
+      → get_elem? ys (s - first) ≡ some y → slot ≡ y.0 → new ≡ y.1 → next ≡ H.with_hand now (rest (H.hand_of now) ++ (slot, new) ∷ [])
+      → Traded (s + 1) next
+  trade_next s slot new now next x y low is at_x at_y same put is_next =
+      let later : s - first + 1 ≡ s + 1 - first = omega arith in let others = drop n (H.hand_of e) in
+      let hand : List (ℕ × C) = rest (H.hand_of now) ++ (slot, new) ∷ [] in
+      is_next ∙ ap (λ (q : E). H.with_hand q hand) is ∙ H.again e (traded xs ys others (s - first)) hand
+      ∙ ap (λ (h : List (ℕ × C)). H.with_hand e h)
+      ((λ i. rest (H.hand_of now) ++ (same i, put i) ∷ []) ∙ traded_next xs ys others (H.hand_of now) (s - first) x y at_x at_y (hand_is s now is)
+      ∙ ap (λ (m : ℕ). traded xs ys others m) later)
+
+  pub trade_ends : (s : ℕ) (now : E) → s - first ≡ n → Traded s now → length xs ≡ n → length ys ≡ n → now ≡ H.with_hand e (drop n (H.hand_of e) ++ ys)
+  trade_ends s now all is x y =
+      is ∙ ap (λ (h : List (ℕ × C)). H.with_hand e h)
+      (ap (λ (m : ℕ). traded xs ys (drop n (H.hand_of e)) m) all ∙ traded_all xs ys (drop n (H.hand_of e)) n x y)

@@ -1,0 +1,4 @@
+pub mod Over
+pub mod Rows
+pub mod Slots
+pub mod Trades

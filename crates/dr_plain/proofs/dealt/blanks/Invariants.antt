@@ -1,6 +1,0 @@
-use Rattle.std.proofs.Common.{◌≡◌, replicate}
-use Rattle.dr_cells.specs.Tokens.{no_token}
-use Rattle.dr_plain.proofs.dealt.blanks.Given as goal
-
-abbrev pub invariant-loop-made : goal.invariant-loop-made
-invariant-loop-made g l = l.tokens.items ≡ replicate l.made no_token

@@ -1,6 +1,0 @@
-use Rattle.std.proofs.Common.{◌≡◌}
-use Rattle.dr_plain.proofs.Handed.{Rowed}
-use Rattle.dr_plain.proofs.dealt.whole_row.Given as goal
-
-abbrev pub invariant-loop-place : goal.invariant-loop-place
-invariant-loop-place g l = (l.row.strip ≡ l.fn.cells.ptr) × (l.row.from ≡ 0) × Rowed l.fn.cells.ptr l.place l.fn.tokens.items l.tokens.items l.row.items

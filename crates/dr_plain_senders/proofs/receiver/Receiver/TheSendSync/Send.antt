@@ -1,0 +1,7 @@
+use denote.RattleType.{RattleType}
+use denote.Param.Send.{IsSend, IsSync}
+use Rattle.dr_plain_senders.specs.contracts.receiver.Receiver.{the_row}
+use Rattle.dr_plain_senders.proofs.Crossing.{receiver_send}
+
+pub send : (T : RattleType) → IsSend T → IsSync T → IsSend (the_row T)
+send = receiver_send

@@ -1,0 +1,106 @@
+//! An end of a ring over plain memory that is dropped does nothing more: a receiver completes nothing of what it has in hand, and
+//! a sender closes nothing.
+
+use crate::calls::Answer::{Says, Shows};
+use crate::calls::Call::{Claim, Complete, Halt, Poll, Publish, Write};
+use crate::calls::Row;
+use crate::counted::{Counted, Counting, none_alive, some_events};
+use crate::events::{ONE, TWO};
+use crate::graphs::Shape;
+use crate::playing::play;
+use crate::{plain, plain_senders};
+use dr_meaning::MAX_LIMIT;
+use dr_meaning::Refusal::NoRoom;
+use dr_meaning::Reply::{Claimed, Completed, Drained, Halting, Idle, Published, Refused, Written};
+use dr_seq::Event;
+use std::alloc::Global;
+use std::process::Abort;
+use std::sync::Arc;
+
+/// Both cells of a ring are filled, each by another sender if there are two.
+const FILL: &[Row] = &[
+    (0, Claim(1), Says(Claimed { lo: 0, hi: 0 })),
+    (0, Write(0, ONE), Says(Written)),
+    (0, Publish(0, 0), Says(Published)),
+    (1, Claim(1), Says(Claimed { lo: 1, hi: 1 })),
+    (1, Write(1, TWO), Says(Written)),
+    (1, Publish(1, 1), Says(Published)),
+];
+
+/// The receiver takes both events, and completes the first.
+const TAKE_BOTH: &[Row] = &[
+    (0, Poll(2), Shows(0, true, &[ONE, TWO])),
+    (0, Complete(1), Says(Completed)),
+];
+
+const ONE_IS_FREE: &[Row] = &[
+    (1, Claim(1), Says(Claimed { lo: 2, hi: 2 })),
+    (0, Claim(1), Says(Refused(NoRoom))),
+    (1, Claim(1), Says(Refused(NoRoom))),
+];
+
+const HALT: &[Row] = &[(0, Halt, Says(Halting))];
+
+/// The receiver receives all, and is not told that the ring drained.
+const RECEIVE_ALL: &[Row] = &[
+    (0, Poll(2), Shows(0, true, &[ONE, TWO])),
+    (0, Complete(2), Says(Completed)),
+    (0, Poll(1), Says(Idle)),
+];
+
+const DRAINED: &[Row] = &[(0, Poll(1), Says(Drained))];
+
+fn one_sender(rt: &impl Abort, alloc: Global) -> plain::Ends<Event> {
+    plain::open_words(rt, alloc, Shape::Alone, 2, MAX_LIMIT)
+}
+
+fn two_senders(
+    rt: &impl Abort,
+    alloc: Global,
+    alive: &Arc<u64>,
+) -> Counting<plain_senders::Ends<Counted>> {
+    let events = some_events(rt, alloc, alive, 2);
+    let ends = plain_senders::open(rt, alloc, Shape::Alone, MAX_LIMIT, 2, events);
+    Counting::new(rt, ends, alive)
+}
+
+#[test]
+fn a_receiver_that_is_dropped_completes_nothing(rt: HostRuntime) {
+    let mut ends = one_sender(&rt, rt.alloc());
+    play(&rt, &mut ends, FILL, "filled");
+    play(&rt, &mut ends, TAKE_BOTH, "in hand");
+    ends.receivers.clear();
+    play(&rt, &mut ends, ONE_IS_FREE, "dropped");
+}
+
+#[test]
+fn a_sender_that_is_dropped_closes_nothing(rt: HostRuntime) {
+    let mut ends = one_sender(&rt, rt.alloc());
+    play(&rt, &mut ends, FILL, "filled");
+    // That of another ring comes in its place.
+    let other = one_sender(&rt, rt.alloc());
+    ends.sender = other.sender;
+    play(&rt, &mut ends, HALT, "halted");
+    play(&rt, &mut ends, RECEIVE_ALL, "dropped");
+}
+
+#[test]
+fn a_receiver_beside_two_senders_that_is_dropped_completes_nothing(rt: HostRuntime) {
+    let alive = none_alive(&rt, rt.alloc());
+    let mut ends = two_senders(&rt, rt.alloc(), &alive);
+    play(&rt, &mut ends, FILL, "filled");
+    play(&rt, &mut ends, TAKE_BOTH, "in hand");
+    ends.ends.receivers.clear();
+    play(&rt, &mut ends, ONE_IS_FREE, "dropped");
+}
+
+#[test]
+fn two_senders_that_are_dropped_close_nothing(rt: HostRuntime) {
+    let alive = none_alive(&rt, rt.alloc());
+    let mut ends = two_senders(&rt, rt.alloc(), &alive);
+    play(&rt, &mut ends, FILL, "filled");
+    ends.ends.senders.clear();
+    play(&rt, &mut ends, RECEIVE_ALL, "dropped");
+    play(&rt, &mut ends, HALT, "halted");
+    play(&rt, &mut ends, DRAINED, "drained");
+}
