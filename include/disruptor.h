@@ -306,7 +306,7 @@ static inline const char *disruptor_text(uint32_t number) {
 typedef struct disruptor_bell { DISRUPTOR_ALIGNED uint32_t word; } disruptor_bell;
 #define DISRUPTOR_NEW_BELL {0}
 
-/* How a thread waits that looks again and again for what others do: by pauses after the first of several looks in a row
+/* How a thread waits that looks again and again for what others do: by pauses after the first four of several looks in a row
  * that find nothing, and by yielding its processor after each further one. The pauses tune themselves by how many events
  * were there after the last wait. With a bell it listens after DISRUPTOR_MOST_LOOKS such looks, and sleeps after each further one until a ring comes,
  * ten milliseconds at most: an idle thread costs next to nothing, and what nobody rings for is seen so much later. That is on
@@ -317,16 +317,16 @@ typedef struct disruptor_bell { DISRUPTOR_ALIGNED uint32_t word; } disruptor_bel
  * look sees the change, or the ring finds the word odd, makes it even and wakes; and nobody falls asleep over a word that changed. */
 typedef struct disruptor_waiting {
     uint64_t room;
-    uint32_t pauses;
-    bool paused;
+    /* How many pauses a wait takes, and how often it paused since a look found something. */
+    uint32_t pauses, paused;
     disruptor_bell *bell;
     uint32_t looks, heard;
 } disruptor_waiting;
-enum { DISRUPTOR_MOST_LOOKS = 200 };
+enum { DISRUPTOR_MOST_WAITS = 4, DISRUPTOR_MOST_LOOKS = 200 };
 
 /* For a thread that has room for so many events at once, and sleeps where `bell` is not null. */
 static inline disruptor_waiting disruptor_waits_by(uint64_t room, disruptor_bell *bell) {
-    disruptor_waiting waiting = {room, 1, false, bell, 0, 0};
+    disruptor_waiting waiting = {room, 1, 0, bell, 0, 0};
     return waiting;
 }
 
@@ -383,25 +383,25 @@ static inline void disruptor_wait(disruptor_waiting *waiting) {
         }
         waiting->looks++;
     }
-    if (waiting->paused) {
+    if (waiting->paused == DISRUPTOR_MOST_WAITS) {
         sched_yield();
         return;
     }
     for (uint32_t k = 0; k < waiting->pauses; k++) disruptor_pause();
-    waiting->paused = true;
+    waiting->paused++;
 }
 
 /* Begins anew, after a look that found so many events. */
 static inline void disruptor_found(disruptor_waiting *waiting, uint64_t count) {
     if (waiting->paused) {
         uint32_t pauses = waiting->pauses;
-        if (count > waiting->room / 2 || count < pauses / 64) {
+        if (count > waiting->room / 3 || count < pauses / 64) {
             if (pauses > 1) waiting->pauses = pauses / 2;
-        } else if (count < waiting->room / 4 && count >= pauses / 32) {
+        } else if (count < waiting->room / 6 && count >= pauses / 32) {
             if (pauses < 1024) waiting->pauses = 2 * pauses;
         }
     }
-    waiting->paused = false;
+    waiting->paused = 0;
     waiting->looks = waiting->heard = 0;
 }
 

@@ -32,6 +32,8 @@ struct worker {
     pthread_t thread;
     void *end;
     uint64_t count, sum;
+    /* How many events found room since a sender last waited. */
+    uint64_t found;
 };
 
 static void must(uint32_t refused, const char *call) {
@@ -46,14 +48,21 @@ static double now(void) {
     return (double)time.tv_sec + (double)time.tv_nsec * 1e-9;
 }
 
+/* Waits for room, or for another sender, after it told how many events found room since it last waited. */
+static void wait_for_room(struct worker *sender, disruptor_waiting *waiting) {
+    if (sender->found) disruptor_found(waiting, sender->found);
+    sender->found = 0;
+    disruptor_wait(waiting);
+}
+
 /* Claims, writes and publishes the next events of a sender. */
 static void send_next(struct worker *sender, disruptor_waiting *waiting) {
     uint64_t lo, n = order.claim;
     uint32_t refused;
     while ((refused = disruptor_claim(sender->end, n, &lo)) == DISRUPTOR_NO_ROOM || refused == DISRUPTOR_CONTENDED)
-        if (refused == DISRUPTOR_NO_ROOM) disruptor_wait(waiting);
+        wait_for_room(sender, waiting);
     must(refused, "claim");
-    disruptor_found(waiting, n);
+    sender->found += n;
     for (uint64_t k = 0; k < n; k++) {
         disruptor_event event = {sender->count + k, 0};
         must(disruptor_write(sender->end, lo + k, &event), "write");
@@ -65,7 +74,7 @@ static void send_next(struct worker *sender, disruptor_waiting *waiting) {
 /* Sends until the time is over. */
 static void *send_all(void *given) {
     struct worker *sender = given;
-    disruptor_waiting waiting = disruptor_waits(order.claim);
+    disruptor_waiting waiting = disruptor_waits(order.size);
     double begun = now();
     do {
         for (uint64_t k = 0; k < STRETCH / order.claim; k++) send_next(sender, &waiting);

@@ -44,8 +44,7 @@ static void *send_all(void *given) {
     while (worker->count < events) {
         uint64_t n = events - worker->count < claim ? events - worker->count : claim, lo;
         worker->refused = disruptor_claim(worker->end, n, &lo);
-        if (worker->refused == DISRUPTOR_CONTENDED) continue;
-        if (worker->refused == DISRUPTOR_NO_ROOM) {
+        if (worker->refused == DISRUPTOR_NO_ROOM || worker->refused == DISRUPTOR_CONTENDED) {
             disruptor_wait(&waiting);
             continue;
         }

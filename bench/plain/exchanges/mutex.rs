@@ -2,7 +2,7 @@
 //! poll and completion, as the exchange by lock has. Several producers share the events out by claims.
 
 use crate::topology::Shape;
-use crate::waiting::Waiting;
+use crate::waiting::{Pace, Waiting};
 use crate::{Event, MOST_AT_ONCE, Order, Round, STRETCH, check_sum, event_at};
 use std::sync::Mutex;
 use std::thread;
@@ -108,14 +108,14 @@ impl Ring {
         }
     }
 
-    fn send(&self, n: u64) {
-        let mut waiting = Waiting::new(n);
+    fn send(&self, pace: &mut Pace, n: u64) {
         let lo = loop {
             match self.claim(n) {
                 Some(lo) => break lo,
-                None => waiting.wait(),
+                None => pace.wait(),
             }
         };
+        pace.found(n);
         for s in lo..lo + n {
             self.write(s, event_at(s));
         }
@@ -132,12 +132,15 @@ pub fn round(order: &Order) -> Round {
         let upstreams = shape.upstreams.iter().enumerate();
         let handlers: Vec<_> = upstreams.map(|(h, ups)| scope.spawn(move || ring.receive(h, ups))).collect();
         let begun = Instant::now();
-        let send_all = move || loop {
-            for _ in 0..STRETCH / claim / order.topology.producers {
-                ring.send(claim);
-            }
-            if begun.elapsed() >= order.time {
-                return;
+        let send_all = move || {
+            let mut pace = Pace::new(order.size);
+            loop {
+                for _ in 0..STRETCH / claim / order.topology.producers {
+                    ring.send(&mut pace, claim);
+                }
+                if begun.elapsed() >= order.time {
+                    return;
+                }
             }
         };
         let others: Vec<_> = (1..order.topology.producers).map(|_| scope.spawn(send_all)).collect();

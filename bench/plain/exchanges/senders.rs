@@ -3,7 +3,7 @@
 //! each handler. The halt is the highest bit of the claim word.
 
 use crate::topology::Shape;
-use crate::waiting::Waiting;
+use crate::waiting::{Pace, Waiting};
 use crate::{MOST_AT_ONCE, Order, Round, STRETCH, check_sum, event_at};
 use std::sync::atomic::{AtomicU64, Ordering::SeqCst};
 use std::thread;
@@ -50,8 +50,7 @@ impl Words {
     }
 
     /// The first of the next `n` sequences, once there is room and no other sender comes between.
-    fn claim(&self, gate: &mut u64, n: u64) -> u64 {
-        let mut waiting = Waiting::new(n);
+    fn claim(&self, gate: &mut u64, pace: &mut Pace, n: u64) -> u64 {
         loop {
             let first = self.claims.0.load(SeqCst);
             if first + n > *gate + self.size {
@@ -59,14 +58,15 @@ impl Words {
             }
             let fits = first + n <= *gate + self.size;
             if fits && self.claims.0.compare_exchange(first, first + n, SeqCst, SeqCst).is_ok() {
+                pace.found(n);
                 return first;
             }
-            waiting.wait();
+            pace.wait();
         }
     }
 
-    fn send(&self, gate: &mut u64, n: u64) {
-        let first = self.claim(gate, n);
+    fn send(&self, gate: &mut u64, pace: &mut Pace, n: u64) {
+        let first = self.claim(gate, pace, n);
         for s in first..first + n {
             let event = event_at(s);
             let [one, other] = &self.payload[self.slot(s)];
@@ -80,10 +80,10 @@ impl Words {
 
     /// A stretch of claims, and how many events it had.
     fn send_all(&self, claim: u64) -> u64 {
-        let mut gate = 0;
+        let (mut gate, mut pace) = (0, Pace::new(self.size));
         let claims = STRETCH / claim;
         for _ in 0..claims {
-            self.send(&mut gate, claim);
+            self.send(&mut gate, &mut pace, claim);
         }
         claims * claim
     }

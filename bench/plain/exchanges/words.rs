@@ -2,7 +2,7 @@
 //! each on a cache line of its own. An event lies in two more words, or in plain memory.
 
 use crate::topology::Shape;
-use crate::waiting::Waiting;
+use crate::waiting::{Pace, Waiting};
 use crate::{Event, MOST_AT_ONCE, Order, Round, STRETCH, check_sum, event_at};
 use std::cell::UnsafeCell;
 use std::sync::atomic::{AtomicU64, Ordering::SeqCst};
@@ -66,6 +66,7 @@ struct Sender<'a, S> {
     finals: Vec<usize>,
     next: u64,
     gate: u64,
+    pace: Pace,
 }
 
 impl<S: Slot> Words<S> {
@@ -116,13 +117,13 @@ impl<S: Slot> Words<S> {
 
 impl<S: Slot> Sender<'_, S> {
     fn claim(&mut self, n: u64) {
-        let mut waiting = Waiting::new(n);
         while self.next + n > self.gate + self.words.mask + 1 {
             self.gate = self.words.least(&self.finals).unwrap_or(self.next);
             if self.next + n > self.gate + self.words.mask + 1 {
-                waiting.wait();
+                self.pace.wait();
             }
         }
+        self.pace.found(n);
     }
 
     fn send(&mut self, n: u64) {
@@ -145,6 +146,7 @@ pub fn round<S: Slot>(order: &Order) -> Round {
         finals: shape.finals(),
         next: 0,
         gate: 0,
+        pace: Pace::new(order.size),
     };
     thread::scope(|scope| {
         let words = &words;

@@ -83,7 +83,7 @@ fn measured<E: Made + Send + Sync + 'static>(
     receivers: Vec<Receiver<E>>,
 ) -> Result<Round, Fault> {
     let handlers = start(rt, alloc, receivers, order.size.get().min(MOST_AT_ONCE))?;
-    let (begun, events) = send_for::<E, Sender<E>>(rt, sender, order.claim(), order.time)?;
+    let (begun, events) = send_for::<E, Sender<E>>(rt, sender, order)?;
     sender.close()?;
     finish(rt, handlers, begun, events)
 }

@@ -4,7 +4,7 @@ use crate::MOST_TURNS;
 use crate::arguments::Order;
 use crate::fault::Fault;
 use crate::measured::Round;
-use crate::threads::{Handler, MOST_AT_ONCE, finish, stretch};
+use crate::threads::{Handler, MOST_AT_ONCE, Pace, finish, stretch};
 use crate::width::{Made, Words};
 use dr_meaning::{MAX_LIMIT, Polled};
 use dr_plain_senders::{Halter, Receiver, Sender, senders_ring};
@@ -19,14 +19,16 @@ type Two = Words<1>;
 /// How many events a sender's thread sent.
 type Producer = JoinHandle<Result<u64, Fault>>;
 
-/// Starts a thread that sends a stretch in claims of `n`.
+/// Starts a thread that sends a stretch.
 fn start_sender(
     rt: &impl Threads,
     mut sender: Sender<Two>,
-    n: u64,
+    mut pace: Pace,
     producers: &mut Vec<Producer>,
 ) -> Result<(), Fault> {
-    match thread::spawn(rt, move || { stretch::<Two, Sender<Two>>(&mut sender, n) }) {
+    match thread::spawn(rt, move || {
+        stretch::<Two, Sender<Two>>(&mut sender, &mut pace)
+    }) {
         Ok(producer) => Ok(producers.push(producer)?),
         Err(_) => Err(Fault::THREAD),
     }
@@ -36,12 +38,12 @@ fn start_sender(
 fn start_senders(
     rt: &impl Threads,
     alloc: Global,
+    order: &Order,
     senders: Vec<Sender<Two>>,
-    n: u64,
 ) -> Result<Vec<Producer>, Fault> {
     let mut producers = Vec::new(alloc);
     for sender in senders {
-        start_sender(rt, sender, n, &mut producers)?;
+        start_sender(rt, sender, Pace::new(order), &mut producers)?;
     }
     Ok(producers)
 }
@@ -59,10 +61,10 @@ fn join_senders(rt: &impl Threads, producers: Vec<Producer>) -> Result<u64, Faul
 fn send_all(
     rt: &impl Threads,
     alloc: Global,
+    order: &Order,
     senders: Vec<Sender<Two>>,
-    n: u64,
 ) -> Result<u64, Fault> {
-    let producers = start_senders(rt, alloc, senders, n)?;
+    let producers = start_senders(rt, alloc, order, senders)?;
     join_senders(rt, producers)
 }
 
@@ -153,7 +155,7 @@ fn measured(
 ) -> Result<Round, Fault> {
     let handlers = start(rt, alloc, receivers, order.size.get().min(MOST_AT_ONCE))?;
     let begun = Instant::now(rt)?;
-    let events = send_all(rt, alloc, senders, order.claim())?;
+    let events = send_all(rt, alloc, order, senders)?;
     halter.halt();
     finish(rt, handlers, begun, events)
 }

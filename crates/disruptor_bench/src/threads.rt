@@ -14,7 +14,7 @@ use dr_workers::Waiting;
 use std::alloc::Global;
 use std::rt::Clock;
 use std::thread::{self, JoinHandle, Threads};
-use std::time::{Duration, Instant};
+use std::time::Instant;
 
 /// The sum that a handler's thread added up.
 pub type Handler = JoinHandle<Result<u64, Fault>>;
@@ -53,13 +53,39 @@ fn sum_of(room: &[Event], count: u64) -> u64 {
     total
 }
 
+/// How a sender claims so many events at once, and waits for room: as the library's workers do, by one
+/// `Waiting` for all claims, which is told how many events found room since it last waited.
+#[derive(Drop)]
+pub struct Pace {
+    claim: u64,
+    waiting: Waiting,
+    found: u64,
+}
+
+impl Pace {
+    pub fn new(order: &Order) -> Pace {
+        Pace {
+            claim: order.claim(),
+            waiting: Waiting::new(order.size.get()),
+            found: 0,
+        }
+    }
+
+    fn wait(&mut self) {
+        if self.found > 0 {
+            self.waiting.found(self.found);
+            self.found = 0;
+        }
+        self.waiting.wait();
+    }
+}
+
 /// Claims once there is room.
-fn claim<E: Copy, I: Inlet<E>>(sender: &mut I, n: u64) -> Result<Claimed, Fault> {
-    let mut waiting = Waiting::new(n);
+fn claim<E: Copy, I: Inlet<E>>(sender: &mut I, pace: &mut Pace) -> Result<Claimed, Fault> {
     for _ in 0..MOST_TURNS {
-        match sender.try_claim(n) {
+        match sender.try_claim(pace.claim) {
             Ok(claimed) => return Ok(claimed),
-            Err(Trouble::Refused(Refusal::NoRoom)) => waiting.wait(),
+            Err(Trouble::Refused(Refusal::NoRoom)) => pace.wait(),
             Err(trouble) => return Err(trouble.into()),
         }
     }
@@ -68,9 +94,10 @@ fn claim<E: Copy, I: Inlet<E>>(sender: &mut I, n: u64) -> Result<Claimed, Fault>
 
 /// Claims, writes and publishes once.
 #[inline]
-fn send<E: Made, I: Inlet<E>>(sender: &mut I, n: u64) -> Result<(), Fault> {
-    let claimed = claim::<E, I>(sender, n)?;
-    for k in 0..n {
+fn send<E: Made, I: Inlet<E>>(sender: &mut I, pace: &mut Pace) -> Result<(), Fault> {
+    let claimed = claim::<E, I>(sender, pace)?;
+    pace.found = pace.found.wrapping_add(pace.claim);
+    for k in 0..pace.claim {
         let s = claimed.lo.wrapping_add(k);
         sender.write(s, E::at(s))?;
     }
@@ -78,26 +105,26 @@ fn send<E: Made, I: Inlet<E>>(sender: &mut I, n: u64) -> Result<(), Fault> {
 }
 
 /// Sends a stretch of events, and answers how many there were.
-pub fn stretch<E: Made, I: Inlet<E>>(sender: &mut I, n: u64) -> Result<u64, Fault> {
-    let claims = STRETCH.checked_div(n).unwrap_or(1);
+pub fn stretch<E: Made, I: Inlet<E>>(sender: &mut I, pace: &mut Pace) -> Result<u64, Fault> {
+    let claims = STRETCH.checked_div(pace.claim).unwrap_or(1);
     for _ in 0..claims {
-        send::<E, I>(sender, n)?;
+        send::<E, I>(sender, pace)?;
     }
-    Ok(claims.wrapping_mul(n))
+    Ok(claims.wrapping_mul(pace.claim))
 }
 
 /// Sends for about so long, and answers since when it did, and how many events there were.
 pub fn send_for<E: Made, I: Inlet<E>>(
     clock: &impl Clock,
     sender: &mut I,
-    n: u64,
-    time: Duration,
+    order: &Order,
 ) -> Result<(Instant, u64), Fault> {
+    let mut pace = Pace::new(order);
     let mut events = 0u64;
     let begun = Instant::now(clock)?;
     for _ in 0..MOST_TURNS {
-        events = events.wrapping_add(stretch::<E, I>(sender, n)?);
-        if begun.elapsed(clock)? >= time {
+        events = events.wrapping_add(stretch::<E, I>(sender, &mut pace)?);
+        if begun.elapsed(clock)? >= order.time {
             return Ok((begun, events));
         }
     }
@@ -174,7 +201,7 @@ fn measured(
     receivers: Vec<Receiver>,
 ) -> Result<Round, Fault> {
     let handlers = start(rt, alloc, receivers, order.size)?;
-    let (begun, events) = send_for::<Event, Sender>(rt, sender, order.claim(), order.time)?;
+    let (begun, events) = send_for::<Event, Sender>(rt, sender, order)?;
     sender.close()?;
     finish(rt, handlers, begun, events)
 }

@@ -393,12 +393,18 @@ fn first_of_several_faults(rt: HostRuntime) {
     check(&rt, first_fault(&[]), None);
 }
 
+fn pauses_four_times(rt: &impl Abort, waiting: &mut Waiting, pauses: u32) {
+    for _ in 0..4 {
+        check(rt, waiting.pauses(), pauses);
+        waiting.wait();
+    }
+}
+
 // The pauses of the waits that follow, where the thread has room for 64 events and each wait lets so
 // many come.
 fn pauses_where(rt: &impl Abort, waiting: &mut Waiting, come: u64, wanted: &[u32]) {
     for pauses in wanted {
-        check(rt, waiting.pauses(), *pauses);
-        waiting.wait();
+        pauses_four_times(rt, waiting, *pauses);
         check(rt, waiting.pauses(), 0);
         waiting.wait();
         waiting.found(come);
@@ -407,12 +413,12 @@ fn pauses_where(rt: &impl Abort, waiting: &mut Waiting, come: u64, wanted: &[u32
 
 // How many events each wait lets come, and the pauses of the waits.
 const WAITS: [(u64, &[u32]); 7] = [
-    (15, &[1, 2, 4, 8]),
-    (16, &[16, 16]),
-    (32, &[16, 16]),
-    (33, &[16, 8, 4, 2, 1, 1]),
+    (9, &[1, 2, 4, 8]),
+    (10, &[16, 16]),
+    (21, &[16, 16]),
+    (22, &[16, 8, 4, 2, 1, 1]),
     (1, &[1, 2, 4, 8, 16, 32, 64, 64]),
-    (15, &[64, 128, 256, 512, 512]),
+    (9, &[64, 128, 256, 512, 512]),
     (7, &[512, 256, 256]),
 ];
 

@@ -1,7 +1,7 @@
 //! How a thread waits for others.
 
-ghost use Rattle.std.specs.Prelude.{◌≡◌, false, true, if◌then◌else◌};
-ghost use Rattle.dr_workers.specs.Calls.Waits.{found_from, longer as longer_of, pauses_after, shorter as shorter_of, tuned as tuned_of, waited_from};
+ghost use Rattle.std.specs.Prelude.{◌≡◌, if◌then◌else◌};
+ghost use Rattle.dr_workers.specs.Calls.Waits.{begun, found_from, longer as longer_of, pauses_after, shorter as shorter_of, tuned as tuned_of, waited_from};
 
 use crate::patience::Patience;
 use std::hint::spin_loop;
@@ -10,19 +10,23 @@ use std::thread::yield_now;
 /// The most pauses of one wait.
 const MOST_PAUSES: u32 = 1024;
 
-/// How a thread waits that looks again and again for what others do: by pauses after the first of
+/// After how many looks in a row that find nothing a thread pauses, before it yields.
+const MOST_WAITS: u32 = 4;
+
+/// How a thread waits that looks again and again for what others do: by pauses after the first four of
 /// several looks in a row that find nothing, and by yielding its processor after each further one.
 ///
-/// How many pauses it takes, it finds out by itself. After a wait that let fewer events come than a
-/// quarter of what the thread had room for, it pauses longer the next time, since two threads that
-/// look and store one event at a time take turns at the same cache lines. After one that let more
-/// than half of them come it pauses less, since the others may have been held up; and so it does
-/// where less than an event came for 64 pauses, since then it is others that are slow.
+/// It tunes how many pauses it takes. After a wait that let fewer events come than a sixth of what the
+/// thread had room for, it pauses longer the next time, since two threads that look and store one event
+/// at a time take turns at the same cache lines. After one that let more than a third of them come it
+/// pauses less, since the others may have been held up; and so it does where less than an event came
+/// for 64 pauses, since then it is others that are slow.
 #[derive(Clone, Copy, Debug, PartialEq, Eq)]
 pub struct Waiting {
     room: u64,
     pauses: u32,
-    paused: bool,
+    // How often it paused since a look found something.
+    paused: u32,
 }
 
 // Twice as many pauses, up to the most.
@@ -47,9 +51,9 @@ fn shorter(pauses: u32) -> u32
 fn tuned(room: u64, count: u64, pauses: u32) -> u32
     ensures { result ≡ tuned_of room count pauses }
 {
-    if count > room / 2 || count < u64::from(pauses / 64) {
+    if count > room / 3 || count < u64::from(pauses / 64) {
         shorter(pauses)
-    } else if count < room / 4 && count >= u64::from(pauses / 32) {
+    } else if count < room / 6 && count >= u64::from(pauses / 32) {
         longer(pauses)
     } else {
         pauses
@@ -59,12 +63,12 @@ fn tuned(room: u64, count: u64, pauses: u32) -> u32
 impl Waiting {
     /// For a thread that has room for so many events at once. No look found nothing yet.
     pub fn new(room: u64) -> Waiting
-        ensures { result ≡ record { room = room; pauses = 1; paused = false } }
+        ensures { result ≡ begun room }
     {
         Waiting {
             room,
             pauses: 1,
-            paused: false,
+            paused: 0,
         }
     }
 
@@ -72,37 +76,39 @@ impl Waiting {
     pub fn pauses(&self) -> u32
         ensures { result ≡ pauses_after self.now.pauses self.now.paused }
     {
-        if self.paused { 0 } else { self.pauses }
+        if self.paused < MOST_WAITS {
+            self.pauses
+        } else {
+            0
+        }
     }
 
     /// Waits after a look that found nothing.
     pub fn wait(&mut self)
-        ensures { self.new ≡ record { room = self.old.room; pauses = self.old.pauses; paused = true } }
+        ensures { self.new ≡ waited_from self.old }
     {
-        if self.paused {
+        if self.paused >= MOST_WAITS {
             yield_now();
             return;
         }
         for _ in 0..self.pauses {
             spin_loop();
         }
-        self.paused = true;
+        self.paused += 1;
     }
 
     /// Begins anew, after a look that found so many events.
     pub fn found(&mut self, count: u64)
-        ensures room { self.new.room ≡ self.old.room }
-        ensures paused { self.new.paused ≡ false }
-        ensures pauses { self.new.pauses ≡ (if self.old.paused then tuned_of self.old.room count self.old.pauses else self.old.pauses) }
+        ensures { self.new ≡ found_from self.old count }
     {
-        if self.paused {
+        if self.paused > 0 {
             self.pauses = tuned(self.room, count, self.pauses);
         }
-        self.paused = false;
+        self.paused = 0;
     }
 }
 
-/// Pauses once, and then yields its processor to others: LMAX's `YieldingWaitStrategy`.
+/// Pauses a few times, and then yields its processor to others: LMAX's `YieldingWaitStrategy`.
 impl Patience for Waiting {
     ghost waits = { λ old new. new ≡ waited_from old };
 

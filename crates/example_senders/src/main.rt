@@ -6,12 +6,15 @@ use dr_graph::{Graph, GraphBuilder, GraphFault};
 use dr_meaning::{Handler, MAX_LIMIT};
 use dr_plain_senders::{Halter, Receiver, Sender, senders_ring};
 use dr_seq::Size;
-use dr_workers::{OpenGate, WorkFault, consume, produce};
+use dr_workers::{OpenGate, Waiting, WorkFault, consume, produce_with};
 use std::alloc::Global;
 use std::process::ExitCode;
 use std::sync::Wait;
 use std::thread::{self, JoinHandle, Threads};
 use thiserror::Error;
+
+/// How many slots the ring has.
+const SLOTS: u64 = 64;
 
 #[derive(Clone, Copy, Debug, Error)]
 enum Fault {
@@ -66,14 +69,16 @@ fn add_up<R: Wait>(rt: &R, mut receiver: Receiver<Sale>) -> Result<u64, Fault> {
     }
 }
 
-/// The work of a sender: it sends a script in claims of up to eight events.
+/// The work of a sender: it sends a script in claims of up to eight events. It waits for room, and for the
+/// other sender, by one `Waiting` of the ring's size, which finds out how long to pause.
 fn send<R: Wait>(
     rt: &R,
     mut sender: Sender<Sale>,
     who: usize,
     script: &[Sale],
 ) -> Result<(), Fault> {
-    match produce(rt, &mut sender, &OpenGate, who, script, 8).fault {
+    let mut waiting = Waiting::new(SLOTS);
+    match produce_with(rt, &mut sender, &OpenGate, who, script, 8, &mut waiting).fault {
         None => Ok(()),
         Some(fault) => Err(Fault::Work(fault)),
     }
@@ -144,9 +149,9 @@ fn exchange<R: Threads + Wait + Sync>(
 /// The senders, the receivers and the halter of a ring.
 type Ends = (Vec<Sender<Sale>>, Vec<Receiver<Sale>>, Halter<Sale>);
 
-/// The ends of a ring of sixty-four slots with two senders.
+/// The ends of a ring with two senders.
 fn open(alloc: Global, graph: &Graph) -> Option<Ends> {
-    let size = Size::new(64).ok()?;
+    let size = Size::new(SLOTS).ok()?;
     let sales = vec![in alloc; Sale::NONE; size.get() as usize].ok()?;
     senders_ring(alloc, graph, size, MAX_LIMIT, 2, sales).ok()
 }

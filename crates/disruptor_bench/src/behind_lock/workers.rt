@@ -7,7 +7,7 @@ use crate::fault::Fault;
 use crate::sum::{Sum, sum_of_first};
 use dr_lock::{End, Exchange, LockedInlet, LockedOutlet, Shared, halt};
 use dr_seq::Event;
-use dr_workers::{OpenGate, consume, produce};
+use dr_workers::{OpenGate, Waiting, consume, produce_with};
 use std::alloc::Global;
 use std::sync::Wait;
 use std::sync::ledger::Ledger;
@@ -48,7 +48,16 @@ fn send<L: Exchange<Event>, R: Wait>(
 ) -> Worked<L> {
     let mut inlet = LockedInlet::new(around.rt, around.shared, end, k as u64);
     let cut = around.cut.max(1);
-    let _sent = produce(around.rt, &mut inlet, &OpenGate, k, around.script, cut);
+    let mut waiting = Waiting::new(around.slots as u64);
+    let _sent = produce_with(
+        around.rt,
+        &mut inlet,
+        &OpenGate,
+        k,
+        around.script,
+        cut,
+        &mut waiting,
+    );
     Worked {
         end: inlet.into_end(),
         saw_all: true,

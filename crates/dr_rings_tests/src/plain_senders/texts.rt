@@ -15,10 +15,10 @@ pub fn open_texts(rt: &impl Abort, alloc: Global, slots: u64) -> Ends<String> {
 
 // Twenty times three texts, from both senders in turn. Each receiver takes two of them first.
 fn send_turns(rt: &impl Abort, alloc: Global, ends: &mut Ends<String>) {
-    assert!(rt; ends.senders.len() == 2);
     for turn in 0..20u64 {
         let lo = turn.wrapping_mul(3);
-        send_three(rt, alloc, &mut ends.senders[(turn % 2) as usize], lo);
+        let sender = ends.senders.get_mut((turn % 2) as usize);
+        send_three(rt, alloc, sender.expect(rt, "a sender"), lo);
         receive_three_each(rt, alloc, ends.receivers.as_mut_slice(), lo, &[2, 8]);
     }
 }

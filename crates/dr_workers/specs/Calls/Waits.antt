@@ -15,9 +15,13 @@ use Rattle.dr_workers.specs.declared.parking.Parking.{Parking}
 abbrev pub most_pauses : ℕ
 most_pauses = 1024
 
--- how many pauses follow the next look that finds nothing, where some did so already or none: none after the first, since the thread yields
-abbrev pub pauses_after : ℕ → Bool → ℕ
-pauses_after pauses paused = if paused then 0 else pauses
+-- after how many looks in a row that find nothing a thread pauses, before it yields
+abbrev pub most_waits : ℕ
+most_waits = 4
+
+-- how many pauses follow the next look that finds nothing, where it paused so often since one found something: none where it yields
+abbrev pub pauses_after : ℕ → ℕ → ℕ
+pauses_after pauses paused = if nat_lt paused most_waits then pauses else 0
 
 -- twice as many pauses, up to the most
 abbrev pub longer : ℕ → ℕ
@@ -27,13 +31,13 @@ longer pauses = if nat_lt pauses most_pauses then 2 * pauses else pauses
 abbrev pub shorter : ℕ → ℕ
 shorter pauses = if nat_lt 1 pauses then pauses / 2 else pauses
 
--- whether a wait of so many pauses was too long: more than half of the `room` events that could have been there were found, so that others may have been held up, or too few came for so long a wait
+-- whether a wait of so many pauses was too long: more than a third of the `room` events that could have been there were found, so that others may have been held up, or too few came for so long a wait
 abbrev pub is_too_long : ℕ → ℕ → ℕ → Bool
-is_too_long room count pauses = nat_lt (room / 2) count || nat_lt count (pauses / 64)
+is_too_long room count pauses = nat_lt (room / 3) count || nat_lt count (pauses / 64)
 
--- whether it was too short: fewer than a quarter were found, and enough of them for a wait of twice that time
+-- whether it was too short: fewer than a sixth were found, and enough of them for a wait of twice that time
 abbrev pub is_too_short : ℕ → ℕ → ℕ → Bool
-is_too_short room count pauses = nat_lt count (room / 4) && nat_le (pauses / 32) count
+is_too_short room count pauses = nat_lt count (room / 6) && nat_le (pauses / 32) count
 
 -- how many pauses serve from then on
 abbrev pub tuned : ℕ → ℕ → ℕ → ℕ
@@ -41,14 +45,14 @@ tuned room count pauses = if is_too_long room count pauses then shorter pauses e
 
 -- a thread that has room for so many events, and waited for nothing yet
 abbrev pub begun : ℕ → Waiting
-begun room = record { room = room; pauses = 1; paused = false }
+begun room = record { room = room; pauses = 1; paused = 0 }
 
 -- it waited once more, or found so many events
 abbrev pub waited_from : Waiting → Waiting
-waited_from w = record w { paused = true }
+waited_from w = record w { paused = if nat_lt w.paused most_waits then w.paused + 1 else w.paused }
 
 abbrev pub found_from : Waiting → ℕ → Waiting
-found_from w count = record { room = w.room; pauses = if w.paused then tuned w.room count w.pauses else w.pauses; paused = false }
+found_from w count = record { room = w.room; pauses = if nat_lt 0 w.paused then tuned w.room count w.pauses else w.pauses; paused = 0 }
 
 -- Of a thread that sleeps in the end.
 
