@@ -16,13 +16,15 @@ STATED = re.compile(r"\b(requires|ensures|ghost|struct|enum|fn|impl|trait|const|
 
 @dataclass
 class Edit:
-    """A wrong body: the texts that it changes, and the functions in which these stand, as files, owners and names."""
+    """A wrong body: the texts that it changes, and the functions in which these stand, as files, owners and names. It may be of one
+    body and nothing else, or of nothing but the clause that its goal names."""
 
     crate: str
     name: str
     pairs: list = field(default_factory=list)
     functions: list = field(default_factory=list)
     is_of_a_body: bool = True
+    is_of_its_clause: bool = True
     judge: str = ""
     goal: str = ""
 
@@ -36,7 +38,7 @@ class Edit:
 
 def read_edit(crate, path):
     """Reads an edit: lines `file: PATH`, and pairs of lines `old: TEXT` and `new: TEXT`. A line `judge: PATH` names the function
-    that has to refuse an edit of no body or of a closure, and a line `goal: NAME` the one goal of it that this edit leaves open."""
+    that has to refuse an edit of no body or of a closure, and a line `goal: NAME` the goal of it that has to."""
     edit, file, old = Edit(crate, os.path.basename(path).removesuffix(".edit")), None, None
     for line in open(path, encoding="utf-8").read().split("\n"):
         word, _, text = line.partition(": ")
@@ -144,7 +146,7 @@ def functions_of(file, text):
 
 
 def place(edit, folder):
-    """Notes the functions that the edit changes, and whether it changes the body of one and nothing else."""
+    """Notes the functions that the edit changes, and whether it changes the body of one, or the clause of its goal, and nothing else."""
     texts = {it[0]: open(f"{folder}/{it[0]}", encoding="utf-8").read() for it in edit.pairs}
     for file, old, new in edit.pairs:
         # What is added to a line begins where that ends, as in a body after `fn .. {`.
@@ -155,8 +157,11 @@ def place(edit, folder):
         if function and (file, *function) not in edit.functions:
             edit.functions.append((file, *function))
         edit.is_of_a_body &= bool(function) and (goes_on or not STATED.search(old))
+        line = texts[file][texts[file].rfind("\n", 0, at) + 1 :]
+        edit.is_of_its_clause &= "\n" not in old and line.lstrip().startswith(f"ensures {edit.goal.rpartition('-clause-')[2]} {{")
         texts[file] = texts[file].replace(old, new)
     edit.is_of_a_body &= len(edit.functions) == 1 and not edit.judge
+    edit.is_of_its_clause &= bool(edit.judge and edit.goal)
 
 
 def companies(edits):
@@ -203,10 +208,10 @@ def seconds_of(edit, sizes):
 
 
 def go_together(one, other):
-    """Whether neither edit changes what refuses the other: bodies of two functions do not, nor do texts of one for two goals of it."""
+    """Whether neither edit changes what refuses the other: bodies of two functions do not, nor do two clauses of one function."""
     if one.is_of_a_body and other.is_of_a_body:
         return one.functions != other.functions
-    return one.judge == other.judge and "" not in (one.judge, one.goal, other.goal) and one.goal != other.goal
+    return one.is_of_its_clause and other.is_of_its_clause and one.judge == other.judge and one.goal != other.goal
 
 
 def forget(edits, kept, texts):

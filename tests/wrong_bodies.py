@@ -4,6 +4,7 @@
   tests/wrong_bodies.py                      those of all crates
   tests/wrong_bodies.py --crate dr_core ..   those of these crates
   tests/wrong_bodies.py --alone ..           each by itself, by `rt must-fail`
+  tests/wrong_bodies.py --control ..         none applied: no function may be told as not proved, though others' proofs are open
   tests/wrong_bodies.py --over FILE          over the libraries of an `rt ci` that runs here, whose words go to FILE
 
 A function is proved against its own contract and the contracts of what it calls, and never against a body. So wrong
@@ -95,7 +96,7 @@ class Libraries:
             return {}
         return {it.partition("-proofs.")[2].removesuffix(".Lts").replace(".", "::"): length / 1e6 for it, length in begun}
 
-    def check(self, edits, kept, keeps=None, is_short=False, is_of_all=False, is_open=False):
+    def check(self, edits, kept, keeps=None, is_short=False, is_of_all=False, is_open=False, is_applied=True):
         """Checks the functions of these edits in a copy of their crate to which it applies them, over what is kept, and returns what is
         said. What it kept goes to keeps besides what that has, but nothing of a function that it changed. A short check offers no
         answers; one of all looks at every function of the crate; and an open one takes other functions and lemmas as they are stated."""
@@ -106,7 +107,7 @@ class Libraries:
                     shutil.copytree(f"{self.top}/crates/{name}/{it}", f"{room}/{it}")
             if kept and os.path.isdir(kept):
                 shutil.copytree(kept, f"{room}/kept", copy_function=prove.link)
-            for it in edits:
+            for it in edits if is_applied else ():
                 applied(it, room)
             if is_open:
                 leave_open(edits, room, self.functions(name))
@@ -116,7 +117,7 @@ class Libraries:
             said = NO_FUNCTION.sub("", together.said_by([*self.words(name), *asked], room)[1])
             # (where a file of these is of no function that it knows)
             if is_short and "error: rattle does not read this file" in said:
-                return self.check(edits, kept, keeps, is_open=is_open)
+                return self.check(edits, kept, keeps, is_open=is_open, is_applied=is_applied)
             if keeps and os.path.isdir(f"{room}/kept"):
                 forget(edits, f"{room}/kept", texts_of(room))
                 share(f"{room}/kept", keeps)
@@ -215,8 +216,8 @@ class Crate:
 class Trial:
     """The edits of some crates, each tried once its crate is proved."""
 
-    def __init__(self, top, names, room, told):
-        self.top, self.room, self.told, self.below = top, room, told, prove.crates_of(top)
+    def __init__(self, top, names, room, told, manner="together"):
+        self.top, self.room, self.told, self.manner, self.below = top, room, told, manner, prove.crates_of(top)
         os.mkdir(f"{room}/libraries")
         self.libraries = Libraries(top, f"{room}/libraries")
         self.crates = {it: Crate(top, it) for it in names}
@@ -230,22 +231,22 @@ class Trial:
             self.left = [it for it in self.left if it not in found]
             return found
 
-    def prove_what_is_ready(self, is_alone):
+    def prove_what_is_ready(self):
         """Proves each as it is, those with the most above them first, and then tries its edits over what that kept."""
         for name in self.ready():
             above = sum(name in self.below[it] for it in self.all)
-            self.lanes.add(-above - MANY, functools.partial(self.prove, name, is_alone))
+            self.lanes.add(-above - MANY, functools.partial(self.prove, name))
 
-    def prove(self, name, is_alone):
+    def prove(self, name):
         status, said = prove.prove(self.top, name, self.below[name], 1, 0, ["check" if prove.is_program(self.top, name) else "lib"])
         if status:
             self.told(f"{said[-3000:]}\n{name} is not proved as it is")
             return
         self.note_proved(name)
-        self.prove_what_is_ready(is_alone)
+        self.prove_what_is_ready()
         if crate := self.crates.get(name):
             crate.kept = f"{self.top}/crates/{name}/out/incremental"
-            if is_alone:
+            if self.manner == "alone":
                 crate.untold = [*crate.bodies, *crate.others]
             else:
                 bodies, others = crate.lists()
@@ -276,13 +277,15 @@ class Trial:
     def begin(self, name):
         """Has the longest check of bodies begin from nothing, and then the others, each over what those before it kept."""
         bodies, others = self.crates[name].lists()
-        first, *rest = sorted(bodies, key=self.seconds, reverse=True)
-        self.attempt(first)
-        self.add([*rest, *others])
+        groups = [*sorted(bodies, key=self.seconds, reverse=True), *others]
+        for first in groups[:1]:
+            self.attempt(first)
+        self.add(groups[1:])
 
     def add(self, groups, is_short=True):
+        work = self.leave_out if self.manner == "control" else functools.partial(self.attempt, is_short=is_short)
         for it in groups:
-            self.lanes.add(-self.seconds(it), functools.partial(self.attempt, it, is_short))
+            self.lanes.add(-self.seconds(it), functools.partial(work, it))
 
     def seconds(self, edits):
         """Returns about how long a check of these edits takes."""
@@ -302,6 +305,15 @@ class Trial:
                 self.judge(edit, said)
             else:
                 self.lanes.add(-self.seconds([edit]), functools.partial(self.try_whole, edit))
+
+    def leave_out(self, edits):
+        """Has a check with others' proofs open, as for these edits, but with none of them applied, tell nothing of their functions."""
+        said = self.libraries.check(edits, None, is_short=True, is_open=True, is_applied=False) if only(edits) else ""
+        for edit in edits:
+            if goal := verdicts.verdict(said, edit):
+                self.crates[edit.crate].failed[edit] = f"with nothing changed {goal} is not proved"
+            else:
+                self.crates[edit.crate].refused[edit] = ""
 
     def try_whole(self, edit):
         self.judge(edit, self.said_of([edit], False, is_of_all=True))
@@ -346,13 +358,13 @@ class Trial:
             else:
                 self.note(edit, f"rt must-fail: {why[:200]}")
 
-    def run(self, is_alone=False, file=None):
+    def run(self, file=None):
         """Tries all edits, tells what was not refused, and returns how many were refused, and how many not."""
         if file:
             self.lanes.hold()
             threading.Thread(target=self.follow, args=(file,), daemon=True).start()
         else:
-            self.prove_what_is_ready(is_alone)
+            self.prove_what_is_ready()
         self.lanes.run()
         for crate in [it for name, it in self.crates.items() if it.untold and name in self.proved]:
             self.judge_alone(crate)
@@ -370,7 +382,7 @@ class Trial:
         return refused, failed
 
 
-def run(top, asked, is_alone, told, file=None):
+def run(top, asked, manner, told, file=None):
     """Tries the edits of the crates that are asked for, or of all, and returns the status."""
     names = [it for it in prove.crates_of(top) if os.path.isdir(f"{top}/crates/{it}/wrong")]
     for it in asked or ():
@@ -378,18 +390,20 @@ def run(top, asked, is_alone, told, file=None):
             told(f"{it} is no crate with edits")
             return 2
     with together.folder("trial-") as room:
-        refused, failed = Trial(top, [it for it in names if not asked or it in asked], room, told).run(is_alone, file)
-    told(f"{refused} refused, {failed} not")
+        refused, failed = Trial(top, [it for it in names if not asked or it in asked], room, told, manner).run(file)
+    told(f"{refused} {'left out' if manner == 'control' else 'refused'}, {failed} not")
     return 1 if failed or not refused else 0
 
 
 def main():
     parser = argparse.ArgumentParser(description=__doc__, formatter_class=argparse.RawDescriptionHelpFormatter)
     parser.add_argument("--crate", nargs="+", metavar="NAME", help="try those of these crates alone")
-    parser.add_argument("--alone", action="store_true", help="have rt must-fail judge each by itself")
+    manners = parser.add_mutually_exclusive_group()
+    manners.add_argument("--alone", dest="manner", action="store_const", const="alone", default="together", help="have rt must-fail judge each by itself")
+    manners.add_argument("--control", dest="manner", action="store_const", const="control", help="apply none, and see that no function is told as not proved")
     parser.add_argument("--over", metavar="FILE", help="over the libraries of the rt ci whose words go to FILE")
     asked = parser.parse_args()
-    return run(TOP, asked.crate, asked.alone, lambda it: print(it, flush=True), asked.over)
+    return run(TOP, asked.crate, asked.manner, lambda it: print(it, flush=True), asked.over)
 
 
 if __name__ == "__main__":

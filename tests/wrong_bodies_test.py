@@ -170,13 +170,13 @@ def made_in(top, names):
             it.write(text)
 
 
-def failures(top, wanted, last, words=None, is_alone=False):
+def failures(top, wanted, last, words=None, manner="together"):
     """Tries the crate's edits, and returns how much came otherwise: what is said of each edit, and the last line."""
     lines, failed, file = [], 0, f"{top}/words" if words else None
     if file:
         with open(file, "w", encoding="utf-8") as it:
             it.write(words)
-    status = wrong_bodies.run(top, None, is_alone, lines.append, file)
+    status = wrong_bodies.run(top, None, manner, lines.append, file)
     for name, text in wanted.items():
         said = [it for it in lines if f"toy/{name}:" in it]
         if not said or text not in said[-1]:
@@ -189,7 +189,7 @@ def failures(top, wanted, last, words=None, is_alone=False):
 
 
 def over_a_library(top):
-    """Tries edits over a library, by checks and by `rt must-fail`."""
+    """Tries edits over a library, by checks and by `rt must-fail`, and sees that checks with none applied tell nothing."""
     made_in(top, EDITS)
     wrong_bodies.prove.prove(top, "toy", [], 1, 0, ["lib"])
     failed = failures(top, {name: it[3] for name, it in EDITS.items()}, "4 refused, 4 not", "rt: toy proved\n")
@@ -197,7 +197,8 @@ def over_a_library(top):
         if name != "takes_a_name_away":
             os.remove(f"{top}/crates/toy/wrong/{name}.edit")
     alone = {"takes_a_name_away": "NOT REFUSED: toy/takes_a_name_away: refused, as it must be (only"}
-    return failed + failures(top, alone, "0 refused, 1 not", is_alone=True)
+    failed += failures(top, {}, "1 left out, 0 not", manner="control")
+    return failed + failures(top, alone, "0 refused, 1 not", manner="alone")
 
 
 def over_answers(top):
@@ -205,7 +206,7 @@ def over_answers(top):
     names, asked = list(ANSWERED), []
     made_in(top, names)
 
-    def check(_, edits, kept, keeps=None, is_short=False, is_of_all=False, is_open=False):
+    def check(_, edits, kept, keeps=None, is_short=False, is_of_all=False, is_open=False, is_applied=True):
         asked.append(([it.name for it in edits], bool(kept), bool(keeps), is_open, is_short, is_of_all))
         os.makedirs(keeps if is_open else top, exist_ok=True)
         return "\n" + "".join(ANSWERED[it.name] for it in edits if is_of_all or it.name != "means_the_same")
@@ -284,12 +285,14 @@ def main():
             failed += 1
             print(f"FAILED: which of two functions of one name is in {file}")
     clauses = {it: Edit("toy", it, is_of_a_body=False, judge="middle", goal=f"returns-clause-{it}") for it in ("least", "most", "sum")}
+    # Its body leaves open what it likes.
+    inside = Edit("toy", "inside", is_of_a_body=False, is_of_its_clause=False, judge="middle", goal="returns-clause-more")
     for name, edit in clauses.items():
         if bool(verdicts.verdict(f"\n{TWO_CLAUSES}", edit)) != (name in TWO_CLAUSES):
             failed += 1
             print(f"FAILED: whether the clause {name} is refused by its goal")
     apart = Edit("toy", "apart", is_of_a_body=False, judge="other", goal="returns-clause-least")
-    if [len(it) for it in companies([*clauses.values(), apart, clauses["sum"]])] != [3, 1, 1]:
+    if [len(it) for it in companies([*clauses.values(), apart, inside, clauses["sum"]])] != [3, 1, 1, 1]:
         failed += 1
         print("FAILED: which edits of clauses one check tries")
     for number in (signal.SIGINT, signal.SIGTERM, signal.SIGHUP, signal.SIGKILL):

@@ -1,5 +1,5 @@
-//! What rings over plain memory have in common: events as they are lent, rows of tokens, one a cell
-//! or a slot, and what goes in and out of the slots that an end has in hand.
+//! What rings over plain memory are made of: events as they are lent, rows of tokens, one a cell or a
+//! slot, and what goes in and out of the slots that an end has in hand.
 #![tactic(auto)]
 
 pub mod lent;

@@ -1,7 +1,7 @@
-//! Rows of tokens, one a cell or a slot. None has any bytes.
+//! Rows of tokens, one a cell or a slot, which have no bytes, and of other things.
 
 ghost use Rattle.std.specs.Fn.{FnOnceReturnsAtMut};
-ghost use Rattle.std.specs.Prelude.{◌≡◌, ◌<◌, ◌≤◌, [], ◌∷◌, ◌++◌, replicate, length, map, slice_set, Some, IfOk};
+ghost use Rattle.std.specs.Prelude.{◌≡◌, ◌<◌, ◌≤◌, [], ◌∷◌, ◌++◌, replicate, length, map, slice_set, All, Some, IfOk};
 ghost use mathlib.Core.Option.{some};
 ghost use lib.ListN.{get_elem?};
 ghost use Rattle.dr_cells.specs.declared.token.Token.{Token as TokenValue};
@@ -87,7 +87,8 @@ pub fn at<S>(row: &Vec<S>, place: usize) -> &S
 
 /// As many empty rows of tokens.
 pub fn empty_hands<T>(alloc: Global, count: usize) -> Result<Vec<Vec<Token<T>>>, AllocError>
-    ensures { IfOk result (λ hands. length hands.items ≡ count) }
+    ensures count { IfOk result (λ hands. length hands.items ≡ count) }
+    ensures empty { IfOk result (λ hands. All (λ hand. hand.items ≡ []) hands.items) }
 {
     let mut hands = Vec::with_capacity(alloc, count)?;
     for made in 0..count {

@@ -1,10 +1,10 @@
 //! Where the ends of a ring put what they have, once they come together.
 
-ghost use Rattle.std.specs.Prelude.{◌≡◌, length, IfOk};
+ghost use Rattle.std.specs.Prelude.{IfOk};
 ghost use Rattle.dr_plain_senders.specs.Inside.Gathered.{HasPlaces};
 
 use dr_cells::Token;
-use dr_lent::rows::blanks;
+use dr_lent::rows::{blanks, empty_hands};
 use dr_runs::HandlerCounts;
 use std::alloc::{AllocError, Global};
 
@@ -16,17 +16,6 @@ pub(crate) struct Gathered<T> {
     pub(crate) hands: Vec<Vec<Token<T>>>,
     pub(crate) tokens: Vec<Token<T>>,
     pub(crate) brought: Vec<bool>,
-}
-
-// As many empty rows of tokens.
-fn empty_hands<T>(alloc: Global, count: usize) -> Result<Vec<Vec<Token<T>>>, AllocError>
-    ensures { IfOk result (λ hands. length hands.items ≡ count) }
-{
-    let mut hands = Vec::with_capacity(alloc, count)?;
-    for made in 0..count {
-        hands.push(Vec::new(alloc))?;
-    }
-    Ok(hands)
 }
 
 impl<T> Gathered<T> {
