@@ -2,6 +2,7 @@
 """Tables of the exchanges beside rings of others, and as the work grows; events a second, in millions.
 
     bench/beside.py table              each topology at sizes 64, 1024 and 65,536: ours, then the others
+    bench/beside.py memory             the rings with one sender, ours, by hand and LMAX's, by longer claims
     bench/beside.py sizes              ring sizes from 1 to 65,536
     bench/beside.py handlers           1 to 16 handlers, in a chain and side by side
     bench/beside.py claims             claims of 1 to 1000 events
@@ -117,6 +118,14 @@ def table(programs):
                 print_row(f"{topology} | {size}", programs, kinds, topology, size)
 
 
+def memory(programs):
+    """The rings with one sender, at claims of one, ten and a hundred."""
+    kinds = programs.of(("ours", "memory", "words", "slots", "lmax", "lmax-try"))
+    print_head(["topology"] + kinds)
+    for topology in (f"{shape}{pace}" for pace in ("", "-b10", "-b100") for shape in SHAPES):
+        print_row(topology, programs, kinds, topology, 1024)
+
+
 def grow(programs, word, steps):
     """A row a step, which is what it is called, a topology and a size."""
     for prefix, kinds in (("core-", ONE_THREAD), ("", THREADS)):
@@ -182,7 +191,7 @@ def steps(what):
 
 def main():
     parser = argparse.ArgumentParser(description=__doc__, formatter_class=argparse.RawDescriptionHelpFormatter)
-    parser.add_argument("what", choices=["table", "sizes", "handlers", "claims", "widths", "producers", "senders", "languages", "few"])
+    parser.add_argument("what", choices=["table", "memory", "sizes", "handlers", "claims", "widths", "producers", "senders", "languages", "few"])
     parser.add_argument("--program", default=PROGRAM)
     parser.add_argument("--lmax", default="/usr/share/java/disruptor.jar")
     parser.add_argument("--library", metavar="FOLDER")
@@ -197,6 +206,8 @@ def main():
         programs = Programs(given, folder)
         if given.what == "table":
             table(programs)
+        elif given.what == "memory":
+            memory(programs)
         elif given.what == "widths":
             widths(programs)
         elif given.what == "producers":

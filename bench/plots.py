@@ -59,6 +59,7 @@ LOOKS = {
     "memory": Look("ours, plain memory", "#4FA3E0", "o"),
     "ring": Look("plain ring", "#B35C00", "s"),
     "words": Look("plain words", "#00795A", "s"),
+    "slots": Look("plain memory by hand", "#6BBF9F", "s"),
     "plain": Look("plain Rust", "#5B4A9E", "s"),
     "lmax": Look("LMAX", "#A3326F", "D"),
     "lmax-try": Look("LMAX tryNext", "#C77BA4", "d"),

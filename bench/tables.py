@@ -20,6 +20,7 @@ RATES = "Millions of events a second."
 # Of each file of records: its title, and what its figures are.
 FILES = {
     "table": ("The four topologies", RATES),
+    "memory": ("One sender, 1024 slots", RATES),
     "sizes": ("By the slots of the ring, claims of one", RATES),
     "handlers": ("By the number of handlers, 1024 slots, claims of one", RATES),
     "claims": ("By the events of a claim, one handler, 1024 slots", RATES),
