@@ -127,6 +127,24 @@ def head_of(text, function):
     return heads[-1] if heads else ""
 
 
+def body_of(text, function):
+    """Returns where the body of a function, as `FUNCTION` found it, begins and ends with its braces, or None where it has no lines of
+    its own. Only its head's lines, before that brace, stand as far to the left as the first."""
+    indent = function[1]
+    for it in re.compile(rf"^{indent}(?!\s)(.*)$", re.M).finditer(text, function.start()):
+        if it[1].endswith("{"):
+            return it.end() - 1, re.compile(rf"^{indent}\}}$", re.M).search(text, it.end()).end()
+        is_of_the_head = it.start() == function.start() or it[1].startswith((")", ">")) or it[1] == "where"
+        if not is_of_the_head or it[1].endswith(("}", ";")):
+            return None
+    return None
+
+
+def function_of(file, text, function):
+    """Returns a function, as `FUNCTION` found it, as its file, owner and name."""
+    return file, owner_of(head_of(text, function)), function[2]
+
+
 def function_at(text, at):
     """Returns the owner and the name of the function whose body has this place, or None."""
     found = [it for it in FUNCTION.finditer(text) if it.start() < at]
@@ -141,8 +159,7 @@ def function_at(text, at):
 
 def functions_of(file, text):
     """Returns the functions of a file, but for those of traits, as files, owners and names."""
-    found = [(head_of(text, it), it[2]) for it in FUNCTION.finditer(text)]
-    return [(file, owner_of(head), name) for head, name in found if not TRAIT.match(head)]
+    return [function_of(file, text, it) for it in FUNCTION.finditer(text) if not TRAIT.match(head_of(text, it))]
 
 
 def place(edit, folder):
@@ -212,16 +229,6 @@ def go_together(one, other):
     if one.is_of_a_body and other.is_of_a_body:
         return one.functions != other.functions
     return one.is_of_its_clause and other.is_of_its_clause and one.judge == other.judge and one.goal != other.goal
-
-
-def forget(edits, kept, texts):
-    """Removes from what is kept each file of the proof of a function that the edits change, or of a closure in it."""
-    paths = [proof_of(it, texts).split("/") for edit in edits for it in edit.functions]
-    ends = [re.escape(".".join(it)) for one in paths for it in (one, [*one[:-1], "fn", one[-1]])]
-    own = re.compile(rf"\b(?:{'|'.join(ends)})\.")
-    for at, _, files in os.walk(kept):
-        for it in filter(own.search, files):
-            os.remove(f"{at}/{it}")
 
 
 def texts_of(folder):

@@ -1,11 +1,11 @@
 """What a check of edits need not prove. A proof goes by the contracts of other functions and by what lemmas say, and sees into no
-proof of these. So a copy of a crate leaves those open, for a check that takes what is open as it is stated."""
+body or proof of these. So a copy of a crate leaves those out, for a check that takes what is open as it is stated."""
 
 import os
 import re
 import textwrap
 
-from edits import functions_of, proof_of, proofs_of, texts_of
+from edits import FUNCTION, TRAIT, body_of, function_of, functions_of, head_of, proof_of, proofs_of, texts_of
 
 # The proof of a function, left open.
 PROOF = "use Rattle.{}.proofs.{}.Statement.{{statement}}\n\npub {name}_spec : {{M : Type 1}} → statement M\n{name}_spec = ?\n"
@@ -13,25 +13,29 @@ PROOF = "use Rattle.{}.proofs.{}.Statement.{{statement}}\n\npub {name}_spec : {{
 BEGINS = re.compile(r"^(?=[^\s)\]}-])", re.M)
 # A declaration into which nothing sees, unless what unfolds names it: its name stands first.
 STATES = re.compile(r"(?:pub(?:\([^)]*\))? )?([^\s:]+)\s+:\s")
+CONSTANT = re.compile(r"\bconst\b")
 MODULE = re.compile(r"module (?:.*\n)*?.* where\n")
 INSIDE = re.compile(r"^  ", re.M)
 UNFOLDS = re.compile(r"\bunfolding[ (]([^)\n]*)")
 # What drops a value, compares, copies or shows it, for its type.
 MADE = re.compile(r"\+Destruct/drop$|(?:PartialEq/eq|Clone/clone|Debug/fmt)$")
 OF_FUNCTIONS = ("Invariants.antt", "Answers.antt", "Proof.antt")
+# What stands in place of a body, of any type.
+NO_BODY = "{{\n{0}    unreachable!()\n{0}}}"
 
 
 def leave_open(edits, folder, made):
     """Leaves open, in the copy of a crate, the proof of each lemma, and of each function but those that a check of these edits is to
-    look at: of those of its sources, and of what is made of its types, as the folders of proofs `made` tell."""
+    look at: of those of its sources, whose bodies it leaves out, and of what is made of its types, as the folders of proofs `made` tell."""
     crate, texts = edits[0].crate, texts_of(folder)
     asked = {it for edit in edits for it in (*proofs_of(edit, texts), *(proof_of(one, texts) for one in edit.functions))}
+    # A cycle of calls has one proof.
+    asked |= {it.replace("/+", "/") for it in made if "/+" in it}
+    for file, text in texts.items():
+        write(f"{folder}/{file}", without_bodies(file, text, lambda function: proof_of(function, texts) in asked))
     written = {proof_of(it, texts) for file, text in texts.items() for it in functions_of(file, text)}
     for at in written.union(it for it in made if MADE.search(it)) - asked:
         *path, name = at.split("/")[1:]
-        # (a cycle of calls has one proof)
-        if "/".join(["proofs", *path, f"+{name}"]) in made:
-            continue
         os.makedirs(f"{folder}/{at}", exist_ok=True)
         for it in OF_FUNCTIONS:
             if os.path.isfile(f"{folder}/{at}/{it}"):
@@ -43,6 +47,17 @@ def leave_open(edits, folder, made):
     seen = set(re.split(r"[\s,]+|::", names))
     for it in (it for it in files if os.path.basename(it) not in OF_FUNCTIONS):
         write(it, lemmas_open(written[it], seen))
+
+
+def without_bodies(file, text, is_kept):
+    """Returns the text of a file with no body of a function but those to be kept, of constants' and of traits' own."""
+    parts, at = [], 0
+    for it in FUNCTION.finditer(text):
+        head, body = head_of(text, it), body_of(text, it)
+        if body and not TRAIT.match(head) and not CONSTANT.search(it[0]) and not is_kept(function_of(file, text, it)):
+            parts += [text[at : body[0]], NO_BODY.format(it[1])]
+            at = body[1]
+    return "".join([*parts, text[at:]])
 
 
 def lemmas_open(text, seen):

@@ -37,7 +37,7 @@ sys.path[:0] = [f"{TOP}/tools", f"{TOP}/tests"]
 import prove  # noqa: E402
 import together  # noqa: E402
 import verdicts  # noqa: E402
-from edits import applied, companies, fault_of, forget, offers_nothing, only, place, read_edit, seconds_of, shared_out, texts_of  # noqa: E402
+from edits import applied, companies, fault_of, offers_nothing, only, place, read_edit, seconds_of, shared_out  # noqa: E402
 from openings import leave_open  # noqa: E402
 
 # In a processor's seconds, how long a check takes before it comes to an edit, how long it is to take in all, and more than any does.
@@ -119,7 +119,6 @@ class Libraries:
             if is_short and "error: rattle does not read this file" in said:
                 return self.check(edits, kept, keeps, is_open=is_open, is_applied=is_applied)
             if keeps and os.path.isdir(f"{room}/kept"):
-                forget(edits, f"{room}/kept", texts_of(room))
                 share(f"{room}/kept", keeps)
         return said
 

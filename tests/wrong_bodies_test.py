@@ -14,7 +14,7 @@ sys.dont_write_bytecode = True
 sys.path.insert(0, os.path.dirname(os.path.abspath(__file__)))
 import wrong_bodies  # noqa: E402
 from edits import Edit, companies, seconds_of, shared_out  # noqa: E402
-from openings import lemmas_open  # noqa: E402
+from openings import lemmas_open, without_bodies  # noqa: E402
 from wrong_bodies import together, verdicts  # noqa: E402
 
 SOURCE = """#![tactic(auto)]
@@ -100,6 +100,54 @@ module _ (n : ℕ) where
       refl
 """
 LEFT_OPEN = {"by_half = refl\n": "by_half = ?\n", "  is_itself zero = refl\n  is_itself (suc k) =\n      refl\n": "  is_itself = ?\n\n"}
+# Functions by their forms, and what is left of them where the body of `kept` stays: no constant's, no trait's own, none of one line.
+FORMS = """impl<T: Copy> Rows<T> {
+    pub const fn size(self) -> usize {
+        64
+    }
+
+    pub fn first(
+        &self,
+        at: usize,
+    ) -> T {
+        match at {
+            0 => self.rows[0],
+            _ => self.rows[at],
+        }
+    }
+
+    fn kept(&self) -> usize {
+        self.rows.len()
+    }
+}
+
+pub fn law() ensures { IsLaw } {}
+
+trait Ends {
+    fn end(&mut self);
+
+    fn begin(&mut self) {
+        self.end();
+    }
+}
+
+pub fn last(rows: &[u8]) -> u8
+    requires { 0 < length rows.now }
+    ensures {
+        result ≡ last rows.now
+    }
+{
+    rows[rows.len() - 1]
+}
+"""
+LEFT_OUT = {
+    """        match at {
+            0 => self.rows[0],
+            _ => self.rows[at],
+        }
+""": "        unreachable!()\n",
+    "    rows[rows.len() - 1]\n": "    unreachable!()\n",
+}
 # Each edit by its name: the file, the old text, the new one, and what its line has to say.
 EDITS = {
     "adds_one": ("src/lib.rt", "    n + n", "    n + n + 1", "refused by twice, goal"),
@@ -225,16 +273,19 @@ def over_answers(top):
     return failed
 
 
-def lemmas_closed():
-    """Returns how many files of proofs a check would read otherwise than with their lemmas left open."""
-    wanted = LEMMAS_OF_A_MODULE
-    for one, other in LEFT_OPEN.items():
-        wanted = wanted.replace(one, other)
-    found = lemmas_open(LEMMAS_OF_A_MODULE, {"half"})
-    if found == wanted:
-        return 0
-    print(f"FAILED: how lemmas are left open: {found}")
-    return 1
+def left_in():
+    """Returns how many files a check would read otherwise than with their lemmas left open, and their bodies left out."""
+    failed = 0
+    for text, changes, found in (
+        (LEMMAS_OF_A_MODULE, LEFT_OPEN, lemmas_open(LEMMAS_OF_A_MODULE, {"half"})),
+        (FORMS, LEFT_OUT, without_bodies("src/lib.rt", FORMS, lambda function: function[2] == "kept")),
+    ):
+        for one, other in changes.items():
+            text = text.replace(one, other)
+        if found != text:
+            failed += 1
+            print(f"FAILED: what a check leaves open: {found}")
+    return failed
 
 
 def lists_apart():
@@ -299,7 +350,7 @@ def main():
         if not ends_all(number):
             failed += 1
             print(f"FAILED: what was started goes on after signal {number}")
-    failed += lists_apart() + lemmas_closed()
+    failed += lists_apart() + left_in()
     for tries in (over_answers, over_a_library):
         with together.folder("toy-") as top:
             failed += tries(top)

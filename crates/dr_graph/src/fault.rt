@@ -1,15 +1,15 @@
 //! Why handlers are not declared, or a graph is not built.
 
-ghost use Rattle.std.specs.Prelude.{◌≡◌};
+ghost use Rattle.std.specs.Prelude.{◌≡◌, Some};
 ghost use Rattle.dr_graph.specs.Calls.Fault.{fault_number, fault_name};
 ghost use Rattle.dr_graph.specs.declared.fault.GraphFault.TheVariants.{NoMemory};
 
 use std::alloc::{AllocError, AllocFailed};
-use thiserror::Error;
+use std::error::Error;
+use std::fmt;
 
 /// Why a call of a builder was refused. Numbers and names are this project's own.
-#[derive(Clone, Copy, Debug, PartialEq, Eq, Error)]
-#[error("{}", self.name())]
+#[derive(Clone, Copy, Debug, PartialEq, Eq)]
 pub enum GraphFault {
     /// A name has none or too many bytes, or a byte other than ASCII letters, digits, `_` and `-`.
     BadName,
@@ -64,6 +64,16 @@ impl GraphFault {
         }
     }
 }
+
+impl fmt::Display for GraphFault {
+    ghost output = { λ fault. Some (fault_name fault) };
+
+    fn fmt<W: fmt::Write>(&self, f: &mut fmt::Formatter<W>) -> fmt::Result {
+        f.write_str(self.name())
+    }
+}
+
+impl Error for GraphFault {}
 
 impl From<AllocError> for GraphFault {
     ghost from_gives = { λ _ fault. fault ≡ NoMemory };

@@ -1,13 +1,14 @@
 //! What is asked of an exchange, and what it answers.
 
-ghost use Rattle.std.specs.Prelude.{◌≡◌};
+ghost use Rattle.std.specs.Prelude.{◌≡◌, ⊤};
 ghost use Rattle.dr_meaning.specs.Meaning.Runs.{count_in};
 
 use crate::refusal::Refusal;
+use std::alloc::AllocError;
 
 /// One call on an exchange. Producers go by number from 0, and handlers by their number in the
 /// built order of the graph.
-#[derive(Clone, Copy, Debug, PartialEq, Eq)]
+#[derive(Debug, PartialEq, Eq)]
 pub enum Command<E> {
     /// Producer `p` asks for the next `n` sequences.
     Claim { p: u64, n: u64 },
@@ -24,6 +25,18 @@ pub enum Command<E> {
     /// Handler `h` takes no more events, and claims no longer wait for it.
     Retire { h: usize },
 }
+
+impl<E: Copy> Clone for Command<E> {
+    ghost is_clone = { λ command copy. copy ≡ command };
+
+    ghost is_infallible = { λ _. ⊤ };
+
+    fn clone(&self) -> Result<Self, AllocError> {
+        Ok(*self)
+    }
+}
+
+impl<E: Copy> Copy for Command<E> {}
 
 /// What a call answers.
 #[derive(Clone, Copy, Debug, PartialEq, Eq)]

@@ -1,6 +1,6 @@
 //! The ends of an exchange, as those use them who need not know which exchange it is.
 
-ghost use Rattle.std.specs.Prelude.{◌≡◌, ◌||◌, ◌+◌, ◌^◌, ◌≤◌, Bool, Option, None, length, take};
+ghost use Rattle.std.specs.Prelude.{◌≡◌, ◌||◌, ◌+◌, ◌^◌, ◌≤◌, Bool, Option, None, Some, length, take};
 ghost use Rattle.dr_meaning.specs.Calls.Trouble.{number_of, name_of};
 ghost use Rattle.dr_meaning.specs.Calls.Calling.{InletCall, OutletCall, TriesClaim, WritesOne, PublishesStretch, PollsInto, CompletesBelow, WritesBy};
 ghost use Rattle.dr_meaning.specs.Calls.Ends.{Sent, Received, ClaimAnswers, WriteAnswers, PublishAnswers, PollAnswers, CompleteAnswers, is_drained, WhereShown, Claims, Writes, Publishes, Takes, Completes, WriteAllAnswers, WritesAll};
@@ -8,16 +8,15 @@ ghost use Rattle.dr_meaning.specs.declared.ends.Trouble.TheVariants.{Refused};
 
 use crate::command::{Claimed, Polled};
 use crate::refusal::Refusal;
-use thiserror::Error;
+use std::error::Error;
+use std::fmt;
 
 /// Why a call of an end did nothing.
-#[derive(Clone, Copy, Debug, PartialEq, Eq, Error)]
+#[derive(Clone, Copy, Debug, PartialEq, Eq)]
 pub enum Trouble {
     /// The exchange refused the call.
-    #[error("{0}")]
     Refused(Refusal),
     /// An allocation failed: the call may be made again.
-    #[error("no-memory")]
     Memory,
 }
 
@@ -42,6 +41,16 @@ impl Trouble {
         }
     }
 }
+
+impl fmt::Display for Trouble {
+    ghost output = { λ trouble. Some (name_of trouble) };
+
+    fn fmt<W: fmt::Write>(&self, f: &mut fmt::Formatter<W>) -> fmt::Result {
+        f.write_str(self.name())
+    }
+}
+
+impl Error for Trouble {}
 
 impl From<Refusal> for Trouble {
     ghost from_gives = { λ refusal trouble. trouble ≡ Refused refusal };

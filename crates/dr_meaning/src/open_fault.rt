@@ -1,23 +1,21 @@
 //! Why an exchange is not opened.
 
-ghost use Rattle.std.specs.Prelude.{◌≡◌};
+ghost use Rattle.std.specs.Prelude.{◌≡◌, Some};
 ghost use Rattle.dr_meaning.specs.Calls.OpenFault.{number_of, name_of};
 ghost use Rattle.dr_meaning.specs.declared.open_fault.OpenFault.TheVariants.{NoMemory};
 
 use std::alloc::{AllocError, AllocFailed};
-use thiserror::Error;
+use std::error::Error;
+use std::fmt;
 
 /// Why a core is not opened. Its graph is spent all the same.
-#[derive(Clone, Copy, Debug, PartialEq, Eq, Error)]
+#[derive(Clone, Copy, Debug, PartialEq, Eq)]
 pub enum OpenFault {
     /// There are no producers, or more than [`MAX_PRODUCERS`](crate::MAX_PRODUCERS).
-    #[error("bad-producers")]
     BadProducers,
     /// The limit of sequences is 0, or above [`MAX_LIMIT`](crate::MAX_LIMIT).
-    #[error("bad-limit")]
     BadLimit,
     /// An allocation failed.
-    #[error("no-memory")]
     NoMemory,
 }
 
@@ -44,6 +42,16 @@ impl OpenFault {
         }
     }
 }
+
+impl fmt::Display for OpenFault {
+    ghost output = { λ fault. Some (name_of fault) };
+
+    fn fmt<W: fmt::Write>(&self, f: &mut fmt::Formatter<W>) -> fmt::Result {
+        f.write_str(self.name())
+    }
+}
+
+impl Error for OpenFault {}
 
 impl From<AllocError> for OpenFault {
     ghost from_gives = { λ _ fault. fault ≡ NoMemory };

@@ -1,61 +1,46 @@
 //! Why a call is refused.
 
-ghost use Rattle.std.specs.Prelude.{◌≡◌};
+ghost use Rattle.std.specs.Prelude.{◌≡◌, Some};
 ghost use Rattle.dr_meaning.specs.Calls.Refusal.{number_of, name_of};
 
-use thiserror::Error;
+use std::error::Error;
+use std::fmt;
 
 /// Why an exchange refused a call. A refused call changes nothing.
-#[derive(Clone, Copy, Debug, PartialEq, Eq, Error)]
+#[derive(Clone, Copy, Debug, PartialEq, Eq)]
 pub enum Refusal {
     /// The slots of the claim are still in use: a final handler has not completed their events.
-    #[error("no-room")]
     NoRoom,
     /// The exchange is halted, and gives no more sequences.
-    #[error("halted")]
     Halted,
     /// A claim of none or of more than the size, a publication that ends before it begins, or a
     /// poll that offers no room.
-    #[error("bad-count")]
     BadCount,
     /// The claim goes past the limit of sequences.
-    #[error("exhausted")]
     Exhausted,
     /// The sequence was never claimed, or by another producer.
-    #[error("not-claimed")]
     NotClaimed,
     /// The sequence is published.
-    #[error("already-published")]
     AlreadyPublished,
     /// The sequence has no event yet.
-    #[error("not-written")]
     NotWritten,
     /// One producer publishes in order, and an earlier sequence is unpublished.
-    #[error("out-of-order")]
     OutOfOrder,
     /// The handler has not taken so many events.
-    #[error("not-taken")]
     NotTaken,
     /// The handler has completed more events.
-    #[error("behind")]
     Behind,
     /// There is no such producer.
-    #[error("no-producer")]
     NoProducer,
     /// There is no such handler.
-    #[error("no-handler")]
     NoHandler,
     /// The handler is retired.
-    #[error("retired")]
     Retired,
     /// A handler that is not retired follows this one.
-    #[error("not-final")]
     NotFinal,
     /// No other handler is left.
-    #[error("last-handler")]
     LastHandler,
     /// A ring cannot be closed while a claimed sequence is unpublished.
-    #[error("open-claim")]
     OpenClaim,
 }
 
@@ -108,3 +93,13 @@ impl Refusal {
         }
     }
 }
+
+impl fmt::Display for Refusal {
+    ghost output = { λ refusal. Some (name_of refusal) };
+
+    fn fmt<W: fmt::Write>(&self, f: &mut fmt::Formatter<W>) -> fmt::Result {
+        f.write_str(self.name())
+    }
+}
+
+impl Error for Refusal {}

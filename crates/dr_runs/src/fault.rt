@@ -1,20 +1,19 @@
 //! Why a ring is not made.
 
-ghost use Rattle.std.specs.Prelude.{◌≡◌};
+ghost use Rattle.std.specs.Prelude.{◌≡◌, Some};
 ghost use Rattle.dr_runs.specs.Fault.{number_of, name_of};
 ghost use Rattle.dr_runs.specs.declared.fault.RingFault.TheVariants.{NoMemory};
 
 use std::alloc::{AllocError, AllocFailed};
-use thiserror::Error;
+use std::error::Error;
+use std::fmt;
 
 /// Why a ring is not made.
-#[derive(Clone, Copy, Debug, PartialEq, Eq, Error)]
+#[derive(Clone, Copy, Debug, PartialEq, Eq)]
 pub enum RingFault {
     /// The limit of sequences is 1 to [`MAX_LIMIT`](dr_meaning::MAX_LIMIT).
-    #[error("bad-limit")]
     BadLimit,
     /// An allocation failed.
-    #[error("no-memory")]
     NoMemory,
 }
 
@@ -39,6 +38,16 @@ impl RingFault {
         }
     }
 }
+
+impl fmt::Display for RingFault {
+    ghost output = { λ fault. Some (name_of fault) };
+
+    fn fmt<W: fmt::Write>(&self, f: &mut fmt::Formatter<W>) -> fmt::Result {
+        f.write_str(self.name())
+    }
+}
+
+impl Error for RingFault {}
 
 impl From<AllocError> for RingFault {
     ghost from_gives = { λ _ fault. fault ≡ NoMemory };
