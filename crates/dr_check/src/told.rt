@@ -83,16 +83,16 @@ fn put_end(told: &mut String, text: &[u8], k: u64, wanted: &str) -> Result<(), A
     )
 }
 
-fn put_drive(
+// Puts where the next row, the k-th, is at fault by a cause, with what the rows before it declared.
+fn put_command(
     alloc: Global,
     told: &mut String,
-    before: &mut Before,
+    before: &Before,
+    rows: &mut Rows<'_>,
     text: &[u8],
     k: u64,
     cause: Cause,
 ) -> Result<(), AllocError> {
-    let mut rows = Rows::new(alloc, text);
-    take_before(alloc, before, &mut rows, k)?;
     let wanted = if k == 1 {
         "ring,SIZE,single or ring,SIZE,multi,P"
     } else {
@@ -107,6 +107,19 @@ fn put_drive(
     }
 }
 
+fn put_drive(
+    alloc: Global,
+    told: &mut String,
+    before: &mut Before,
+    text: &[u8],
+    k: u64,
+    cause: Cause,
+) -> Result<(), AllocError> {
+    let mut rows = Rows::new(alloc, text);
+    take_before(alloc, before, &mut rows, k)?;
+    put_command(alloc, told, before, &mut rows, text, k, cause)
+}
+
 /// Where the k-th record of a command file is at fault by a cause.
 pub fn drive_told(alloc: Global, text: &[u8], k: u64, cause: Cause) -> Result<String, AllocError> {
     let mut told = String::new(alloc);
@@ -119,13 +132,22 @@ pub fn drive_told(alloc: Global, text: &[u8], k: u64, cause: Cause) -> Result<St
     Ok(told)
 }
 
-fn put_replay(alloc: Global, told: &mut String, text: &[u8], k: u64) -> Result<(), AllocError> {
-    let mut rows = Rows::new(alloc, text);
-    for _ in 1..k {
+fn pass_over(rows: &mut Rows<'_>, count: u64) -> Result<(), AllocError> {
+    for _ in 0..count {
         if rows.next()?.is_none() {
             return Ok(());
         }
     }
+    Ok(())
+}
+
+// Puts where the next row, the k-th, is no operation.
+fn put_operation(
+    told: &mut String,
+    rows: &mut Rows<'_>,
+    text: &[u8],
+    k: u64,
+) -> Result<(), AllocError> {
     let Some(row) = rows.next()? else {
         return Ok(());
     };
@@ -135,6 +157,12 @@ fn put_replay(alloc: Global, told: &mut String, text: &[u8], k: u64) -> Result<(
     } else {
         Ok(())
     }
+}
+
+fn put_replay(alloc: Global, told: &mut String, text: &[u8], k: u64) -> Result<(), AllocError> {
+    let mut rows = Rows::new(alloc, text);
+    pass_over(&mut rows, k.saturating_sub(1))?;
+    put_operation(told, &mut rows, text, k)
 }
 
 /// Where the k-th record of an event file is no operation.

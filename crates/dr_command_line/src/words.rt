@@ -287,21 +287,32 @@ fn check_request(alloc: Global, matches: &ArgMatches<'_>) -> Result<Request, All
     Ok(Request::Check { tool, file })
 }
 
-/// Reads a command line, of which the first word is the program's own name.
-pub fn request(alloc: Global, words: &[String]) -> Result<Request, LineFault> {
-    let matches = match command(alloc)?.try_get_matches_from(words) {
-        Ok(matches) => matches,
-        Err(error) => return refused(alloc, &error),
-    };
+fn drive_request(alloc: Global, matches: &ArgMatches<'_>) -> Result<Request, AllocError> {
+    let file = file_of(alloc, matches)?;
+    let output = output_of(alloc, matches)?;
+    Ok(Request::Drive { file, output })
+}
+
+fn request_of(alloc: Global, matches: &ArgMatches<'_>) -> Result<Request, LineFault> {
     if let Some(matches) = matches.subcommand_matches("replay") {
         return replay_request(alloc, matches);
     }
     if let Some(matches) = matches.subcommand_matches("check") {
         return Ok(check_request(alloc, matches)?);
     }
-    let (file, output) = match matches.subcommand_matches("drive") {
-        Some(matches) => (file_of(alloc, matches)?, output_of(alloc, matches)?),
-        None => (String::new(alloc), None),
-    };
-    Ok(Request::Drive { file, output })
+    match matches.subcommand_matches("drive") {
+        Some(matches) => Ok(drive_request(alloc, matches)?),
+        None => Ok(Request::Drive {
+            file: String::new(alloc),
+            output: None,
+        }),
+    }
+}
+
+/// Reads a command line, of which the first word is the program's own name.
+pub fn request(alloc: Global, words: &[String]) -> Result<Request, LineFault> {
+    match command(alloc)?.try_get_matches_from(words) {
+        Ok(matches) => request_of(alloc, &matches),
+        Err(error) => refused(alloc, &error),
+    }
 }
