@@ -1,6 +1,6 @@
 //! The command line.
 
-use crate::topology::Topology;
+use crate::topology::{Topology, count_of};
 use dr_seq::Size;
 use std::time::Duration;
 
@@ -22,7 +22,7 @@ pub struct Order {
     pub topology: Topology,
     pub size: Size,
     pub time: Duration,
-    pub rounds: u32,
+    pub rounds: u64,
 }
 
 impl Order {
@@ -33,33 +33,16 @@ impl Order {
 }
 
 /// The most rounds of a measurement.
-const MOST_ROUNDS: u32 = 1000;
+const MOST_ROUNDS: u64 = 1000;
 
-fn size_of(word: &str) -> Option<Size> {
-    let slots: u64 = word.parse().ok()?;
-    Size::new(slots).ok()
-}
-
-/// Seconds, which may have a fraction.
-fn time_of(word: &str) -> Option<Duration> {
-    let seconds: f64 = word.parse().ok()?;
-    Duration::try_from_secs_f64(seconds).ok()
-}
-
-fn rounds_of(word: &str) -> Option<u32> {
-    let rounds: u32 = word.parse().ok()?;
-    if rounds == 0 || rounds > MOST_ROUNDS {
-        return None;
-    }
-    Some(rounds)
-}
-
-fn order_of(topology: &str, size: &str, seconds: &str, rounds: &str) -> Option<Order> {
+/// Reads a measurement. The seconds may have a fraction.
+pub fn order_of(topology: &str, size: &str, seconds: &str, rounds: &str) -> Option<Order> {
+    let seconds: f64 = seconds.parse().ok()?;
     Some(Order {
         topology: Topology::named(topology)?,
-        size: size_of(size)?,
-        time: time_of(seconds)?,
-        rounds: rounds_of(rounds)?,
+        size: Size::new(size.parse().ok()?).ok()?,
+        time: Duration::try_from_secs_f64(seconds).ok()?,
+        rounds: count_of(rounds, MOST_ROUNDS)?,
     })
 }
 

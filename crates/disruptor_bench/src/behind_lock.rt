@@ -33,13 +33,6 @@ impl Load<'_> {
     fn events(&self) -> u64 {
         (self.script.len() as u64).saturating_mul(self.producers)
     }
-
-    /// An end for each handler, one for each producer, and one that halts.
-    fn ends(&self) -> usize {
-        self.handlers
-            .saturating_add(self.producers as usize)
-            .saturating_add(1)
-    }
 }
 
 /// What each producer sends: as many events as all together make a stretch.
@@ -51,16 +44,18 @@ fn script(alloc: Global, producers: u64) -> Result<Vec<Event>, Fault> {
     Ok(events)
 }
 
-fn ends<L: Exchange<Event>>(
-    alloc: Global,
+/// Takes so many ends, and makes room for as many as there are to be in the end.
+fn take_ends<L: Exchange<Event>>(
     shared: &mut Shared<Event, L>,
     count: usize,
-) -> Result<Vec<End<Event, L>>, Fault> {
-    let mut ends = Vec::with_capacity(alloc, count)?;
+    room: usize,
+    ends: &mut Vec<End<Event, L>>,
+) -> Result<(), Fault> {
+    ends.reserve(room)?;
     for _end in 0..count {
         ends.push(shared.end().ok_or(Fault::ENDS)?)?;
     }
-    Ok(ends)
+    Ok(())
 }
 
 /// A history with room for all of the round, so that no locked call needs memory: a claim, a write and a
@@ -75,7 +70,7 @@ fn open(alloc: Global, order: &Order, load: &Load<'_>) -> Result<Recorded<Event>
     let entries = entries.saturating_add(load.handlers).saturating_add(1);
     let mode = Mode::Multi(load.producers);
     let graph = order.topology.shape.graph(alloc)?;
-    Ok(Recorded::open(
+    match Recorded::open(
         alloc,
         graph,
         order.size,
@@ -84,51 +79,37 @@ fn open(alloc: Global, order: &Order, load: &Load<'_>) -> Result<Recorded<Event>
         Event::NONE,
         entries,
         taken,
-    )?)
-}
-
-/// Checks that all ends are back.
-fn check<L: Exchange<Event>>(
-    shared: Shared<Event, L>,
-    ends: Vec<End<Event, L>>,
-) -> Result<(), Fault> {
-    match finish(shared, ends) {
-        Ok(_) => Ok(()),
-        Err(_) => Err(Fault::ENDS),
+    ) {
+        Ok(recorded) => Ok(recorded),
+        Err(_) => Err(Fault::MEMORY),
     }
 }
 
-/// Sends and handles all, and answers the ends.
-fn exchanged<L: Exchange<Event> + Send + Sync, R: Threads + Wait + Sync>(
-    around: &Around<'_, L, R>,
-    alloc: Global,
-    mut ends: Vec<End<Event, L>>,
-) -> Result<Vec<End<Event, L>>, Fault> {
-    let mut back = Vec::with_capacity(alloc, ends.len())?;
-    back.push(ends.pop().ok_or(Fault::ENDS)?)?;
-    exchange(around, alloc, ends, back)
-}
-
-/// Sends and handles all, and answers the ends, and how long it took.
+/// Sends and handles all, and answers how long it took. The ends go to those that are back.
 fn timed<L: Exchange<Event> + Send + Sync, R: Clock + Threads + Wait + Sync>(
     around: &Around<'_, L, R>,
     alloc: Global,
     ends: Vec<End<Event, L>>,
-) -> Result<(Vec<End<Event, L>>, Duration), Fault> {
+    back: &mut Vec<End<Event, L>>,
+) -> Result<Duration, Fault> {
     let begun = Instant::now(around.rt)?;
-    let ends = exchanged(around, alloc, ends)?;
-    let time = begun.elapsed(around.rt)?;
-    Ok((ends, time))
+    exchange(around, alloc, ends, back)?;
+    Ok(begun.elapsed(around.rt)?)
 }
 
+/// Takes an end for each handler, one for each producer, and one that halts, which is the first of those that are back.
 fn run<L: Exchange<Event> + Send + Sync, R: Clock + Threads + Wait + Sync>(
     rt: &R,
     alloc: Global,
     shared: &mut Shared<Event, L>,
     load: &Load<'_>,
     order: &Order,
-) -> Result<(Vec<End<Event, L>>, Duration), Fault> {
-    let ends = ends(alloc, shared, load.ends())?;
+    back: &mut Vec<End<Event, L>>,
+) -> Result<Duration, Fault> {
+    let count = load.handlers.saturating_add(load.producers as usize);
+    take_ends(shared, 1, count.saturating_add(1), back)?;
+    let mut ends = Vec::new(alloc);
+    take_ends(shared, count, count, &mut ends)?;
     let around = Around {
         rt,
         shared,
@@ -138,7 +119,7 @@ fn run<L: Exchange<Event> + Send + Sync, R: Clock + Threads + Wait + Sync>(
         cut: order.claim().max(1),
         slots: order.size.get() as usize,
     };
-    timed(&around, alloc, ends)
+    timed(&around, alloc, ends, back)
 }
 
 fn measured<L: Exchange<Event> + Send + Sync, R: Clock + Threads + Wait + Sync>(
@@ -155,12 +136,15 @@ fn measured<L: Exchange<Event> + Send + Sync, R: Clock + Threads + Wait + Sync>(
     requires begun { recorded.history ≡ L.begun }
 {
     let mut shared = Shared::<Event, L>::new(recorded, blank);
-    let (ends, time) = run(rt, alloc, &mut shared, load, order)?;
-    check(shared, ends)?;
-    Ok(Round {
-        events: load.events(),
-        time,
-    })
+    let mut back = Vec::new(alloc);
+    let time = run(rt, alloc, &mut shared, load, order, &mut back);
+    let are_back = finish(shared, back).is_ok();
+    let time = time?;
+    if !are_back {
+        return Err(Fault::ENDS);
+    }
+    let events = load.events();
+    Ok(Round { events, time })
 }
 
 /// One round of a stretch of events over a history of its own, from the first thread's start until the last handler

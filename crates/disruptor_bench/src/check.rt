@@ -1,32 +1,54 @@
 //! The program's check of itself: a round of each kind of topology, whose sums come out, and command
 //! lines that ask for nothing.
 
-use crate::arguments::{Request, read_request};
+use crate::arguments::order_of;
 use crate::fault::Fault;
 use crate::measure;
 use crate::measured::{Measured, Round, median};
-use crate::topology::Shape;
-use std::alloc::{AllocError, Global};
+use std::alloc::Global;
 use std::rt::Runtime;
 use std::sync::Wait;
 use std::thread::Threads;
 use std::time::Duration;
 
-/// What stands before and after a shape's name in the topologies that are checked.
-const WAYS: [(&str, &str); 9] = [
-    ("core-", ""),
-    ("core-", "-step"),
-    ("core-", "-b10"),
-    ("", "-b10"),
-    ("plain-", "-b10"),
-    ("plain-senders1-", "-b10"),
-    ("plain-senders3-", "-b10"),
-    ("lock1-", "-b10"),
-    ("lock3-", "-b10"),
-];
-
-/// Further topologies that are checked.
-const OTHERS: [&str; 8] = [
+/// Topologies of which a round is checked: each shape over each exchange, and further ones.
+const CHECKED: [&str; 44] = [
+    "core-unicast",
+    "core-unicast-step",
+    "core-unicast-b10",
+    "unicast-b10",
+    "plain-unicast-b10",
+    "plain-senders1-unicast-b10",
+    "plain-senders3-unicast-b10",
+    "lock1-unicast-b10",
+    "lock3-unicast-b10",
+    "core-pipeline",
+    "core-pipeline-step",
+    "core-pipeline-b10",
+    "pipeline-b10",
+    "plain-pipeline-b10",
+    "plain-senders1-pipeline-b10",
+    "plain-senders3-pipeline-b10",
+    "lock1-pipeline-b10",
+    "lock3-pipeline-b10",
+    "core-multicast",
+    "core-multicast-step",
+    "core-multicast-b10",
+    "multicast-b10",
+    "plain-multicast-b10",
+    "plain-senders1-multicast-b10",
+    "plain-senders3-multicast-b10",
+    "lock1-multicast-b10",
+    "lock3-multicast-b10",
+    "core-diamond",
+    "core-diamond-step",
+    "core-diamond-b10",
+    "diamond-b10",
+    "plain-diamond-b10",
+    "plain-senders1-diamond-b10",
+    "plain-senders3-diamond-b10",
+    "lock1-diamond-b10",
+    "lock3-diamond-b10",
     "core1-unicast",
     "core8-diamond-b7",
     "core16-unicast-step",
@@ -37,59 +59,38 @@ const OTHERS: [&str; 8] = [
     "plain16-side3-b7",
 ];
 
-/// Names of no topology.
-const UNKNOWN: [&str; 25] = [
-    "",
-    "core",
-    "core-",
-    "core2-unicast",
-    "unicast-step",
-    "plain",
-    "plain2-unicast",
-    "plain-unicast-step",
-    "core-unicast-b0",
-    "core-unicast-b1001",
-    "chain",
-    "chain17",
-    "side0",
-    "diamond-",
-    "lock0-unicast",
-    "lock17-unicast",
-    "lock2-unicast-step",
-    "lock2",
-    "senders3-unicast",
-    "plain-senders0-unicast",
-    "plain-senders17-unicast",
-    "plain-senders3-unicast-step",
-    "plain-senders3",
-    "Diamond",
-    "unicorn",
+/// Command lines that ask for nothing.
+const WRONG: [[&str; 4]; 29] = [
+    ["", "64", "0", "1"],
+    ["core", "64", "0", "1"],
+    ["core-", "64", "0", "1"],
+    ["core2-unicast", "64", "0", "1"],
+    ["unicast-step", "64", "0", "1"],
+    ["plain", "64", "0", "1"],
+    ["plain2-unicast", "64", "0", "1"],
+    ["plain-unicast-step", "64", "0", "1"],
+    ["core-unicast-b0", "64", "0", "1"],
+    ["core-unicast-b1001", "64", "0", "1"],
+    ["chain", "64", "0", "1"],
+    ["chain17", "64", "0", "1"],
+    ["side0", "64", "0", "1"],
+    ["diamond-", "64", "0", "1"],
+    ["lock0-unicast", "64", "0", "1"],
+    ["lock17-unicast", "64", "0", "1"],
+    ["lock2-unicast-step", "64", "0", "1"],
+    ["lock2", "64", "0", "1"],
+    ["senders3-unicast", "64", "0", "1"],
+    ["plain-senders0-unicast", "64", "0", "1"],
+    ["plain-senders17-unicast", "64", "0", "1"],
+    ["plain-senders3-unicast-step", "64", "0", "1"],
+    ["plain-senders3", "64", "0", "1"],
+    ["Diamond", "64", "0", "1"],
+    ["unicorn", "64", "0", "1"],
+    ["unicast", "63", "0", "1"],
+    ["unicast", "64", "-1", "1"],
+    ["unicast", "64", "0", "0"],
+    ["unicast", "64", "0", "1001"],
 ];
-
-/// Command lines that ask for nothing, but for their names.
-const WRONG: [[&str; 3]; 4] = [
-    ["63", "0", "1"],
-    ["64", "-1", "1"],
-    ["64", "0", "0"],
-    ["64", "0", "1001"],
-];
-
-fn owned(
-    alloc: Global,
-    name: &str,
-    [size, seconds, rounds]: [&str; 3],
-) -> Result<Vec<String>, AllocError> {
-    let mut words = Vec::new(alloc);
-    for word in [name, size, seconds, rounds] {
-        words.push(String::from_str(alloc, word)?)?;
-    }
-    Ok(words)
-}
-
-fn asked(alloc: Global, name: &str, rest: [&str; 3]) -> Result<Option<Request>, AllocError> {
-    let words = owned(alloc, name, rest)?;
-    Ok(read_request(&words))
-}
 
 /// Prints the name of a topology as it was read, and how many events a round of it had.
 fn check_round(
@@ -97,7 +98,7 @@ fn check_round(
     alloc: Global,
     name: &str,
 ) -> Result<(), Fault> {
-    let Some(Request::Measure(order)) = asked(alloc, name, ["64", "0", "1"])? else {
+    let Some(order) = order_of(name, "64", "0", "1") else {
         return Err(Fault::USAGE);
     };
     let events = measure(rt, alloc, &order)?.events;
@@ -106,56 +107,25 @@ fn check_round(
     Ok(())
 }
 
-fn check_shape(
-    rt: &(impl Runtime + Threads + Wait + Sync),
-    alloc: Global,
-    shape: Shape,
-) -> Result<(), Fault> {
-    for (before, after) in &WAYS {
-        let name = format!(in alloc; "{before}{shape}{after}")?;
-        check_round(rt, alloc, name.as_str())?;
-    }
-    Ok(())
-}
-
 fn check_rounds(rt: &(impl Runtime + Threads + Wait + Sync), alloc: Global) -> Result<(), Fault> {
-    for shape in &Shape::ALL {
-        check_shape(rt, alloc, *shape)?;
-    }
-    Ok(())
-}
-
-fn check_others(rt: &(impl Runtime + Threads + Wait + Sync), alloc: Global) -> Result<(), Fault> {
-    for name in &OTHERS {
+    for name in &CHECKED {
         check_round(rt, alloc, *name)?;
     }
     Ok(())
 }
 
-fn verdict(alloc: Global, name: &str, rest: [&str; 3]) -> Result<&'static str, AllocError> {
-    Ok(match asked(alloc, name, rest)? {
+fn print_verdict(rt: &impl Runtime, [name, size, seconds, rounds]: [&str; 4]) -> Result<(), Fault> {
+    let verdict = match order_of(name, size, seconds, rounds) {
         Some(_) => "is read",
         None => "is wrong",
-    })
-}
-
-fn print_wrong(rt: &impl Runtime, alloc: Global, name: &str, rest: [&str; 3]) -> Result<(), Fault> {
-    let verdict = verdict(alloc, name, rest)?;
-    let [size, seconds, rounds] = rest;
+    };
     println!(rt; "'{name} {size} {seconds} {rounds}' {verdict}")?;
     Ok(())
 }
 
-fn check_unknown(rt: &impl Runtime, alloc: Global) -> Result<(), Fault> {
-    for name in &UNKNOWN {
-        print_wrong(rt, alloc, *name, ["64", "0", "1"])?;
-    }
-    Ok(())
-}
-
-fn check_wrong(rt: &impl Runtime, alloc: Global) -> Result<(), Fault> {
-    for rest in &WRONG {
-        print_wrong(rt, alloc, "unicast", *rest)?;
+fn check_wrong(rt: &impl Runtime) -> Result<(), Fault> {
+    for words in &WRONG {
+        print_verdict(rt, *words)?;
     }
     Ok(())
 }
@@ -172,8 +142,8 @@ fn middle() -> Option<Round> {
 }
 
 /// Prints the line of three rounds.
-fn check_line(rt: &impl Runtime, alloc: Global) -> Result<(), Fault> {
-    let Some(Request::Measure(order)) = asked(alloc, "diamond", ["64", "0.25", "3"])? else {
+fn check_line(rt: &impl Runtime) -> Result<(), Fault> {
+    let Some(order) = order_of("diamond", "64", "0.25", "3") else {
         return Err(Fault::USAGE);
     };
     let median = middle().ok_or(Fault::USAGE)?;
@@ -182,9 +152,7 @@ fn check_line(rt: &impl Runtime, alloc: Global) -> Result<(), Fault> {
 
 /// Prints what `make test` compares.
 pub fn check(rt: &(impl Runtime + Threads + Wait + Sync), alloc: Global) -> Result<(), Fault> {
-    check_line(rt, alloc)?;
-    check_unknown(rt, alloc)?;
-    check_wrong(rt, alloc)?;
-    check_rounds(rt, alloc)?;
-    check_others(rt, alloc)
+    check_line(rt)?;
+    check_wrong(rt)?;
+    check_rounds(rt, alloc)
 }

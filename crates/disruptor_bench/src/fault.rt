@@ -1,8 +1,7 @@
 //! Why nothing is measured.
 
 use dr_graph::GraphFault;
-use dr_meaning::{OpenFault, Refusal, Trouble};
-use dr_ring::RingFault;
+use dr_meaning::{Refusal, Trouble};
 use std::alloc::{AllocError, AllocFailed};
 use std::{fmt, io};
 
@@ -19,6 +18,7 @@ impl Fault {
         status: 1,
     };
 
+    /// Also where a ring or a core is not opened: its limit and its numbers of ends are never refused.
     pub const MEMORY: Fault = Fault {
         line: "no-memory",
         status: 3,
@@ -79,24 +79,6 @@ impl From<io::Error> for Fault {
 
 impl From<GraphFault> for Fault {
     fn from(fault: GraphFault) -> Fault {
-        Fault {
-            line: fault.name(),
-            status: 3,
-        }
-    }
-}
-
-impl From<OpenFault> for Fault {
-    fn from(fault: OpenFault) -> Fault {
-        Fault {
-            line: fault.name(),
-            status: 3,
-        }
-    }
-}
-
-impl From<RingFault> for Fault {
-    fn from(fault: RingFault) -> Fault {
         Fault {
             line: fault.name(),
             status: 3,

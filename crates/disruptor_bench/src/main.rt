@@ -31,8 +31,7 @@ use std::process::ExitCode;
 use std::rt::Runtime;
 use std::sync::Wait;
 use std::thread::Threads;
-use topology::{Exchange, Pace, Shape, Topology};
-use width::Width;
+use topology::{Exchange, LISTED};
 
 /// How many events go through between two looks at the clock, about.
 const STRETCH: u64 = 65536;
@@ -40,47 +39,11 @@ const STRETCH: u64 = 65536;
 /// More turns than any loop that waits for another thread or for the clock takes.
 const MOST_TURNS: u64 = u64::MAX;
 
-fn print_shape(rt: &impl Runtime, exchange: Exchange, shape: Shape) -> Result<(), Fault> {
-    for pace in exchange.paces() {
-        rt.println(Topology {
-            exchange,
-            shape,
-            pace,
-        })?;
-    }
-    Ok(())
-}
-
-fn print_exchange(rt: &impl Runtime, exchange: Exchange) -> Result<(), Fault> {
-    for shape in &Shape::ALL {
-        print_shape(rt, exchange, *shape)?;
-    }
-    Ok(())
-}
-
-fn print_width(rt: &impl Runtime, exchange: Exchange) -> Result<(), Fault> {
-    let (shape, pace) = (Shape::Unicast, Pace::Ones);
-    Ok(rt.println(Topology {
-        exchange,
-        shape,
-        pace,
-    })?)
-}
-
-/// Rows for each further width of an event.
-fn print_widths(rt: &impl Runtime) -> Result<(), Fault> {
-    for width in &Width::OTHERS {
-        print_width(rt, Exchange::Core(*width))?;
-        print_width(rt, Exchange::Plain(*width))?;
-    }
-    Ok(())
-}
-
 fn print_list(rt: &impl Runtime) -> Result<(), Fault> {
-    for exchange in &Exchange::ALL {
-        print_exchange(rt, *exchange)?;
+    for name in &LISTED {
+        rt.println(*name)?;
     }
-    print_widths(rt)
+    Ok(())
 }
 
 /// One round over an exchange of its own with a thread for each end.
@@ -143,10 +106,6 @@ fn print_measured(
     Ok(rt.println(Measured { order, median })?)
 }
 
-fn words(rt: &(impl Runtime + Alloc<A = Global>)) -> Result<Vec<String>, Fault> {
-    Ok(env::args(rt)?.skip(1).collect(rt.alloc())?)
-}
-
 fn answer(
     rt: &(impl Runtime + Threads + Wait + Sync),
     alloc: Global,
@@ -161,7 +120,7 @@ fn answer(
 }
 
 fn run(rt: &(impl Runtime + Alloc<A = Global> + Threads + Wait + Sync)) -> Result<(), Fault> {
-    let words = words(rt)?;
+    let words: Vec<String> = env::args(rt)?.skip(1).collect(rt.alloc())?;
     answer(rt, rt.alloc(), read_request(&words))
 }
 

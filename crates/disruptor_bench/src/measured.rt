@@ -33,7 +33,7 @@ pub struct Measured {
 
 impl fmt::Display for Measured {
     fn fmt<W: fmt::Write>(&self, f: &mut fmt::Formatter<W>) -> fmt::Result {
-        let exchange = self.order.topology.exchange;
+        let exchange = self.order.topology.exchange.word();
         let topology = self.order.topology;
         let size = self.order.size.get();
         let events = self.median.events;

@@ -18,6 +18,8 @@ use std::time::Instant;
 struct Lap {
     claims: u64,
     claim: u64,
+    /// How many laps there are between two looks at the clock.
+    in_stretch: u64,
 }
 
 impl Lap {
@@ -27,13 +29,13 @@ impl Lap {
             Pace::Step => 1,
             _ => order.size.get().checked_div(claim).unwrap_or(1),
         };
-        Lap { claims, claim }
-    }
-
-    /// How many laps there are between two looks at the clock.
-    fn in_stretch(self) -> u64 {
-        let events = self.claims.saturating_mul(self.claim);
-        STRETCH.checked_div(events).unwrap_or(1)
+        let events = claims.saturating_mul(claim);
+        let in_stretch = STRETCH.checked_div(events).unwrap_or(1);
+        Lap {
+            claims,
+            claim,
+            in_stretch,
+        }
     }
 }
 
@@ -71,7 +73,7 @@ fn stretch<const MORE: usize>(
     sums: &mut [Sum],
     lap: Lap,
 ) -> Result<(), Refusal> {
-    for _ in 0..lap.in_stretch() {
+    for _ in 0..lap.in_stretch {
         send_all(core, lap)?;
         take_all(core, sums)?;
     }
@@ -124,15 +126,6 @@ fn add_rounds<const MORE: usize>(
     check(sums, core.next())
 }
 
-fn open<const MORE: usize>(
-    alloc: Global,
-    order: &Order,
-    first: Words<MORE>,
-) -> Result<Core<Words<MORE>>, Fault> {
-    let graph = order.topology.shape.graph(alloc)?;
-    Ok(Core::open(alloc, graph, order.size, Mode::Single, MAX_LIMIT, first)?)
-}
-
 /// The rounds of a core, with handlers of their own.
 fn rounds_over<const MORE: usize>(
     clock: &impl Clock,
@@ -153,7 +146,10 @@ fn rounds_with<const MORE: usize>(
     first: Words<MORE>,
     rounds: &mut Vec<Round>,
 ) -> Result<(), Fault> {
-    let mut core = open(alloc, order, first)?;
+    let graph = order.topology.shape.graph(alloc)?;
+    let Ok(mut core) = Core::open(alloc, graph, order.size, Mode::Single, MAX_LIMIT, first) else {
+        return Err(Fault::MEMORY);
+    };
     rounds_over(clock, alloc, order, &mut core, rounds)
 }
 

@@ -5,15 +5,14 @@ use crate::MOST_TURNS;
 use crate::arguments::Order;
 use crate::fault::Fault;
 use crate::measured::Round;
-use crate::threads::{Handler, MOST_AT_ONCE, finish, send_for};
+use crate::threads::{MOST_AT_ONCE, Works, finish, send_for, start};
 use crate::width::{Made, Width, Words};
-use dr_graph::Graph;
 use dr_meaning::{MAX_LIMIT, Polled};
 use dr_plain::{Halter, Receiver, Sender, ring};
 use dr_workers::Waiting;
 use std::alloc::Global;
 use std::rt::Clock;
-use std::thread::{self, Threads};
+use std::thread::Threads;
 
 /// The sum of the first words of a batch, as it wraps.
 fn sum_of<E: Made>(receiver: &Receiver<E>, first: u64, count: u64) -> u64 {
@@ -26,52 +25,24 @@ fn sum_of<E: Made>(receiver: &Receiver<E>, first: u64, count: u64) -> u64 {
     total
 }
 
-/// Adds up what is received, until the ring is drained.
-fn add_up<E: Made>(receiver: &mut Receiver<E>, room: u64) -> Result<u64, Fault> {
-    let mut total = 0u64;
-    let mut waiting = Waiting::new(room);
-    for _ in 0..MOST_TURNS {
-        match receiver.poll(room)? {
-            Polled::Batch { first, count, .. } => {
-                total = total.wrapping_add(sum_of(receiver, first, count));
-                receiver.complete(first.wrapping_add(count))?;
-                waiting.found(count);
+impl<E: Made> Works for Receiver<E> {
+    fn work(&mut self, _claim: u64, slots: u64) -> Result<u64, Fault> {
+        let room = slots.min(MOST_AT_ONCE);
+        let mut total = 0u64;
+        let mut waiting = Waiting::new(room);
+        for _ in 0..MOST_TURNS {
+            match self.poll(room)? {
+                Polled::Batch { first, count, .. } => {
+                    total = total.wrapping_add(sum_of(self, first, count));
+                    self.complete(first.wrapping_add(count))?;
+                    waiting.found(count);
+                }
+                Polled::Drained => return Ok(total),
+                Polled::Gating | Polled::Idle => waiting.wait(),
             }
-            Polled::Drained => return Ok(total),
-            Polled::Gating | Polled::Idle => waiting.wait(),
         }
+        Err(Fault::NO_END)
     }
-    Err(Fault::NO_END)
-}
-
-fn receive<E: Made>(mut receiver: Receiver<E>, room: u64) -> Result<u64, Fault> {
-    add_up(&mut receiver, room)
-}
-
-fn start_one<E: Made + Send + Sync + 'static>(
-    rt: &impl Threads,
-    receiver: Receiver<E>,
-    room: u64,
-    handlers: &mut Vec<Handler>,
-) -> Result<(), Fault> {
-    match thread::spawn(rt, move || receive(receiver, room)) {
-        Ok(handler) => Ok(handlers.push(handler)?),
-        Err(_) => Err(Fault::THREAD),
-    }
-}
-
-/// Starts a thread for each handler.
-fn start<E: Made + Send + Sync + 'static>(
-    rt: &impl Threads,
-    alloc: Global,
-    receivers: Vec<Receiver<E>>,
-    room: u64,
-) -> Result<Vec<Handler>, Fault> {
-    let mut handlers = Vec::new(alloc);
-    for receiver in receivers {
-        start_one(rt, receiver, room, &mut handlers)?;
-    }
-    Ok(handlers)
 }
 
 /// A round from the first claim until the last handler has drained the ring.
@@ -82,7 +53,7 @@ fn measured<E: Made + Send + Sync + 'static>(
     sender: &mut Sender<E>,
     receivers: Vec<Receiver<E>>,
 ) -> Result<Round, Fault> {
-    let handlers = start(rt, alloc, receivers, order.size.get().min(MOST_AT_ONCE))?;
+    let handlers = start(rt, alloc, receivers, order)?;
     let (begun, events) = send_for::<E, Sender<E>>(rt, sender, order)?;
     sender.close()?;
     finish(rt, handlers, begun, events)
@@ -90,14 +61,13 @@ fn measured<E: Made + Send + Sync + 'static>(
 
 type Ends<E> = (Sender<E>, Vec<Receiver<E>>, Halter<E>);
 
-fn ends_of<E: Made>(alloc: Global, graph: &Graph, order: &Order) -> Result<Ends<E>, Fault> {
-    let events = vec![in alloc; E::at(0); order.size.get() as usize]?;
-    Ok(ring(alloc, graph, order.size, MAX_LIMIT, events)?)
-}
-
 fn ends<E: Made>(alloc: Global, order: &Order) -> Result<Ends<E>, Fault> {
     let graph = order.topology.shape.graph(alloc)?;
-    ends_of(alloc, &graph, order)
+    let events = vec![in alloc; E::at(0); order.size.get() as usize]?;
+    match ring(alloc, &graph, order.size, MAX_LIMIT, events) {
+        Ok(ends) => Ok(ends),
+        Err(_) => Err(Fault::MEMORY),
+    }
 }
 
 /// One round over a ring of its own, of such events.

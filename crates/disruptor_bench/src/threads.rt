@@ -1,5 +1,5 @@
-//! The ring's rounds: the producer and each handler on a thread of its own. What sends and what
-//! handles goes over the ends of any exchange.
+//! The ring's rounds: the producer and each handler on a thread of its own. What sends, starts and
+//! joins goes over the ends of any ring.
 
 use crate::arguments::Order;
 use crate::fault::Fault;
@@ -9,20 +9,26 @@ use crate::width::Made;
 use crate::{MOST_TURNS, STRETCH};
 use dr_meaning::{Claimed, Inlet, MAX_LIMIT, Outlet, Polled, Refusal, Trouble};
 use dr_ring::{Halter, Receiver, Sender, ring};
-use dr_seq::{Event, Size};
+use dr_seq::Event;
 use dr_workers::Waiting;
 use std::alloc::Global;
 use std::rt::Clock;
 use std::thread::{self, JoinHandle, Threads};
 use std::time::Instant;
 
-/// The sum that a handler's thread added up.
-pub type Handler = JoinHandle<Result<u64, Fault>>;
+/// An end's thread: what it added up, or how many events it sent.
+pub type Worker = JoinHandle<Result<u64, Fault>>;
+
+/// An end that has a thread of its own.
+pub trait Works {
+    /// Sends a stretch by claims of so many events, or adds up what is received until the ring, of so many slots,
+    /// is drained.
+    fn work(&mut self, claim: u64, slots: u64) -> Result<u64, Fault>;
+}
 
 /// The most events that a handler takes at once.
 pub const MOST_AT_ONCE: u64 = 1024;
 
-/// Adds up what is received, until the ring is drained.
 fn add_up<O: Outlet<Event>>(receiver: &mut O, room: &mut [Event]) -> Result<u64, Fault> {
     let mut total = 0u64;
     let mut waiting = Waiting::new(room.len() as u64);
@@ -40,8 +46,12 @@ fn add_up<O: Outlet<Event>>(receiver: &mut O, room: &mut [Event]) -> Result<u64,
     Err(Fault::NO_END)
 }
 
-fn receive<O: Outlet<Event> + Drop>(mut receiver: O, mut room: Vec<Event>) -> Result<u64, Fault> {
-    add_up(&mut receiver, &mut room)
+impl Works for Receiver {
+    fn work(&mut self, _claim: u64, slots: u64) -> Result<u64, Fault> {
+        let mut buffer = [Event::NONE; MOST_AT_ONCE as usize];
+        let room = slots.min(MOST_AT_ONCE) as usize;
+        add_up(self, &mut buffer[..room])
+    }
 }
 
 /// The sum of the first events of a batch, as it wraps.
@@ -63,10 +73,11 @@ pub struct Pace {
 }
 
 impl Pace {
-    pub fn new(order: &Order) -> Pace {
+    /// Over a ring of so many slots.
+    pub fn new(claim: u64, slots: u64) -> Pace {
         Pace {
-            claim: order.claim(),
-            waiting: Waiting::new(order.size.get()),
+            claim,
+            waiting: Waiting::new(slots),
             found: 0,
         }
     }
@@ -104,13 +115,18 @@ fn send<E: Made, I: Inlet<E>>(sender: &mut I, pace: &mut Pace) -> Result<(), Fau
     Ok(sender.publish(claimed.lo, claimed.hi)?)
 }
 
+/// How many events a stretch has, by claims of so many.
+pub fn in_stretch(claim: u64) -> u64 {
+    STRETCH.checked_div(claim).unwrap_or(1).wrapping_mul(claim)
+}
+
 /// Sends a stretch of events, and answers how many there were.
 pub fn stretch<E: Made, I: Inlet<E>>(sender: &mut I, pace: &mut Pace) -> Result<u64, Fault> {
     let claims = STRETCH.checked_div(pace.claim).unwrap_or(1);
     for _ in 0..claims {
         send::<E, I>(sender, pace)?;
     }
-    Ok(claims.wrapping_mul(pace.claim))
+    Ok(in_stretch(pace.claim))
 }
 
 /// Sends for about so long, and answers since when it did, and how many events there were.
@@ -119,7 +135,7 @@ pub fn send_for<E: Made, I: Inlet<E>>(
     sender: &mut I,
     order: &Order,
 ) -> Result<(Instant, u64), Fault> {
-    let mut pace = Pace::new(order);
+    let mut pace = Pace::new(order.claim(), order.size.get());
     let mut events = 0u64;
     let begun = Instant::now(clock)?;
     for _ in 0..MOST_TURNS {
@@ -131,46 +147,44 @@ pub fn send_for<E: Made, I: Inlet<E>>(
     Err(Fault::NO_END)
 }
 
-fn start_one<O: Outlet<Event> + Drop + Send + 'static>(
+fn start_one<W: Works + Drop + Send + 'static>(
     rt: &impl Threads,
-    alloc: Global,
-    receiver: O,
-    room: usize,
-    handlers: &mut Vec<Handler>,
+    mut end: W,
+    claim: u64,
+    slots: u64,
+    workers: &mut Vec<Worker>,
 ) -> Result<(), Fault> {
-    let room = vec![in alloc; Event::NONE; room]?;
-    match thread::spawn(rt, move || receive(receiver, room)) {
-        Ok(handler) => Ok(handlers.push(handler)?),
+    match thread::spawn(rt, move || end.work(claim, slots)) {
+        Ok(worker) => Ok(workers.push(worker)?),
         Err(_) => Err(Fault::THREAD),
     }
 }
 
-/// Starts a thread for each handler.
-fn start<O: Outlet<Event> + Drop + Send + 'static>(
+/// Starts a thread for each end.
+pub fn start<W: Works + Drop + Send + 'static>(
     rt: &impl Threads,
     alloc: Global,
-    receivers: Vec<O>,
-    size: Size,
-) -> Result<Vec<Handler>, Fault> {
-    let room = size.get().min(MOST_AT_ONCE) as usize;
-    let mut handlers = Vec::new(alloc);
-    for receiver in receivers {
-        start_one(rt, alloc, receiver, room, &mut handlers)?;
+    ends: Vec<W>,
+    order: &Order,
+) -> Result<Vec<Worker>, Fault> {
+    let mut workers = Vec::new(alloc);
+    for end in ends {
+        start_one(rt, end, order.claim(), order.size.get(), &mut workers)?;
     }
-    Ok(handlers)
+    Ok(workers)
 }
 
-fn check_sum(sum: Result<u64, Fault>, total: u64) -> Result<(), Fault> {
-    if sum? != total {
+fn check_answer(answer: Result<u64, Fault>, wanted: u64) -> Result<(), Fault> {
+    if answer? != wanted {
         return Err(Fault::WRONG_SUM);
     }
     Ok(())
 }
 
-/// Waits until all handlers are told that the ring drained, and checks what they added up.
-fn join(rt: &impl Threads, handlers: Vec<Handler>, total: u64) -> Result<(), Fault> {
-    for handler in handlers {
-        check_sum(handler.join(rt), total)?;
+/// Waits for threads, each of which is to answer so.
+pub fn join(rt: &impl Threads, workers: Vec<Worker>, wanted: u64) -> Result<(), Fault> {
+    for worker in workers {
+        check_answer(worker.join(rt), wanted)?;
     }
     Ok(())
 }
@@ -178,7 +192,7 @@ fn join(rt: &impl Threads, handlers: Vec<Handler>, total: u64) -> Result<(), Fau
 /// Ends a round of so many events, once all handlers have drained the ring.
 pub fn finish(
     rt: &(impl Clock + Threads),
-    handlers: Vec<Handler>,
+    handlers: Vec<Worker>,
     begun: Instant,
     events: u64,
 ) -> Result<Round, Fault> {
@@ -189,7 +203,10 @@ pub fn finish(
 
 fn ends(alloc: Global, order: &Order) -> Result<(Sender, Vec<Receiver>, Halter), Fault> {
     let graph = order.topology.shape.graph(alloc)?;
-    Ok(ring(alloc, &graph, order.size, MAX_LIMIT)?)
+    match ring(alloc, &graph, order.size, MAX_LIMIT) {
+        Ok(ends) => Ok(ends),
+        Err(_) => Err(Fault::MEMORY),
+    }
 }
 
 /// A round from the first claim until the last handler has drained the ring.
@@ -200,7 +217,7 @@ fn measured(
     sender: &mut Sender,
     receivers: Vec<Receiver>,
 ) -> Result<Round, Fault> {
-    let handlers = start(rt, alloc, receivers, order.size)?;
+    let handlers = start(rt, alloc, receivers, order)?;
     let (begun, events) = send_for::<Event, Sender>(rt, sender, order)?;
     sender.close()?;
     finish(rt, handlers, begun, events)

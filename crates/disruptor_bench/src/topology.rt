@@ -64,54 +64,105 @@ pub struct Topology {
     pub pace: Pace,
 }
 
+/// The main topologies: those of the tables, and a row for each further width of an event.
+pub const LISTED: [&str; 42] = [
+    "core-unicast",
+    "core-unicast-step",
+    "core-unicast-b10",
+    "core-pipeline",
+    "core-pipeline-step",
+    "core-pipeline-b10",
+    "core-multicast",
+    "core-multicast-step",
+    "core-multicast-b10",
+    "core-diamond",
+    "core-diamond-step",
+    "core-diamond-b10",
+    "unicast",
+    "unicast-b10",
+    "unicast-b100",
+    "pipeline",
+    "pipeline-b10",
+    "pipeline-b100",
+    "multicast",
+    "multicast-b10",
+    "multicast-b100",
+    "diamond",
+    "diamond-b10",
+    "diamond-b100",
+    "plain-unicast",
+    "plain-unicast-b10",
+    "plain-unicast-b100",
+    "plain-pipeline",
+    "plain-pipeline-b10",
+    "plain-pipeline-b100",
+    "plain-multicast",
+    "plain-multicast-b10",
+    "plain-multicast-b100",
+    "plain-diamond",
+    "plain-diamond-b10",
+    "plain-diamond-b100",
+    "core1-unicast",
+    "plain1-unicast",
+    "core8-unicast",
+    "plain8-unicast",
+    "core16-unicast",
+    "plain16-unicast",
+];
+
 /// The most producers of an exchange.
 const MOST_PRODUCERS: u64 = 16;
 
 impl Exchange {
-    /// The exchanges of the measurements that are listed.
-    pub const ALL: [Exchange; 3] = [
-        Exchange::Core(Width::Two),
-        Exchange::Ring,
-        Exchange::Plain(Width::Two),
-    ];
+    /// Reads the width and, after a dash, the rest of a name.
+    fn of_width(is_core: bool, rest: &str) -> Option<(Exchange, &str)> {
+        let (width, rest) = rest.split_once('-')?;
+        let width = Width::named(width)?;
+        let exchange = if is_core {
+            Exchange::Core(width)
+        } else {
+            Exchange::Plain(width)
+        };
+        Some((exchange, rest))
+    }
+
+    /// Reads the count of producers and, after a dash, the rest of a name.
+    fn of_producers(is_locked: bool, rest: &str) -> Option<(Exchange, &str)> {
+        let (producers, rest) = rest.split_once('-')?;
+        let producers = count_of(producers, MOST_PRODUCERS)?;
+        let exchange = if is_locked {
+            Exchange::Lock(producers)
+        } else {
+            Exchange::PlainSenders(producers)
+        };
+        Some((exchange, rest))
+    }
 
     /// Reads the beginning of a topology's name, and gives the rest with it.
     fn before(name: &str) -> Option<(Exchange, &str)> {
         if let Some(rest) = name.strip_prefix("core") {
-            let (width, rest) = rest.split_once('-')?;
-            return Some((Exchange::Core(Width::named(width)?), rest));
+            return Exchange::of_width(true, rest);
         }
         if let Some(rest) = name.strip_prefix("plain-senders") {
-            let (senders, rest) = producers_before(rest)?;
-            return Some((Exchange::PlainSenders(senders), rest));
+            return Exchange::of_producers(false, rest);
         }
         if let Some(rest) = name.strip_prefix("plain") {
-            let (width, rest) = rest.split_once('-')?;
-            return Some((Exchange::Plain(Width::named(width)?), rest));
+            return Exchange::of_width(false, rest);
         }
         if let Some(rest) = name.strip_prefix("lock") {
-            let (producers, rest) = producers_before(rest)?;
-            return Some((Exchange::Lock(producers), rest));
+            return Exchange::of_producers(true, rest);
         }
         Some((Exchange::Ring, name))
     }
 
-    /// Writes the beginning of a topology's name.
-    fn write_before<W: fmt::Write>(self, f: &mut fmt::Formatter<W>) -> fmt::Result {
+    /// What it is called.
+    pub fn word(self) -> &'static str {
         match self {
-            Exchange::Core(width) => write!(f, "core{width}-"),
-            Exchange::Ring => Ok(()),
-            Exchange::Plain(width) => write!(f, "plain{width}-"),
-            Exchange::PlainSenders(senders) => write!(f, "plain-senders{senders}-"),
-            Exchange::Lock(producers) => write!(f, "lock{producers}-"),
-        }
-    }
-
-    /// How a producer sends to it in the measurements that are listed.
-    pub fn paces(self) -> [Pace; 3] {
-        match self {
-            Exchange::Core(_) => [Pace::Ones, Pace::Step, Pace::Claims(10)],
-            _ => [Pace::Ones, Pace::Claims(10), Pace::Claims(100)],
+            Exchange::Core(_) => "core",
+            Exchange::Ring => "ring",
+            Exchange::Plain(_) => "plain",
+            Exchange::PlainSenders(_) => "plain-senders",
+            Exchange::Lock(_) => "lock",
         }
     }
 
@@ -121,35 +172,13 @@ impl Exchange {
     }
 }
 
-impl fmt::Display for Exchange {
-    fn fmt<W: fmt::Write>(&self, f: &mut fmt::Formatter<W>) -> fmt::Result {
-        f.write_str(match self {
-            Exchange::Core(_) => "core",
-            Exchange::Ring => "ring",
-            Exchange::Plain(_) => "plain",
-            Exchange::PlainSenders(_) => "plain-senders",
-            Exchange::Lock(_) => "lock",
-        })
-    }
-}
-
 /// A count of at least 1 and at most so many, in digits.
-fn count_of(word: &str, most: u64) -> Option<u64> {
+pub fn count_of(word: &str, most: u64) -> Option<u64> {
     let count: u64 = word.parse().ok()?;
     if count == 0 || count > most {
         return None;
     }
     Some(count)
-}
-
-/// A count of producers and, after a dash, the rest of a name.
-fn producers_before(name: &str) -> Option<(u64, &str)> {
-    let (producers, rest) = name.split_once('-')?;
-    Some((count_of(producers, MOST_PRODUCERS)?, rest))
-}
-
-fn handlers_of(word: &str) -> Option<usize> {
-    Some(count_of(word, MOST_HANDLERS as u64)? as usize)
 }
 
 /// Which comes after which in a chain.
@@ -171,30 +200,20 @@ const STEPS: [(&str, &str); 15] = [
     ("o", "p"),
 ];
 
-/// Connects the first handlers one after another.
-fn chain(builder: &mut GraphBuilder, handlers: usize) -> Result<(), GraphFault> {
-    for (up, down) in STEPS.iter().take(handlers.saturating_sub(1)) {
-        builder.edge(*up, *down)?;
-    }
-    Ok(())
-}
-
-fn declare(builder: &mut GraphBuilder, handlers: usize) -> Result<(), GraphFault> {
-    for name in NAMES.iter().take(handlers) {
-        builder.handle_with(&[*name])?;
+/// Declares the first handlers, and connects some of them.
+fn declare(
+    builder: &mut GraphBuilder,
+    handlers: usize,
+    edges: &[(&str, &str)],
+) -> Result<(), GraphFault> {
+    builder.handle_with(NAMES.get(..handlers).unwrap_or(&NAMES))?;
+    for (up, down) in edges {
+        builder.edge(up, down)?;
     }
     Ok(())
 }
 
 impl Shape {
-    /// The shapes of the measurements that are listed.
-    pub const ALL: [Shape; 4] = [
-        Shape::Unicast,
-        Shape::Pipeline,
-        Shape::Multicast,
-        Shape::Diamond,
-    ];
-
     fn named(name: &str) -> Option<Shape> {
         match name {
             "unicast" => Some(Shape::Unicast),
@@ -206,10 +225,16 @@ impl Shape {
     }
 
     fn that_grows(name: &str) -> Option<Shape> {
-        match name.strip_prefix("chain") {
-            Some(handlers) => Some(Shape::Chain(handlers_of(handlers)?)),
-            None => Some(Shape::Side(handlers_of(name.strip_prefix("side")?)?)),
-        }
+        let (is_chain, handlers) = match name.strip_prefix("chain") {
+            Some(handlers) => (true, handlers),
+            None => (false, name.strip_prefix("side")?),
+        };
+        let handlers = count_of(handlers, MOST_HANDLERS as u64)? as usize;
+        Some(if is_chain {
+            Shape::Chain(handlers)
+        } else {
+            Shape::Side(handlers)
+        })
     }
 
     /// How many handlers it has.
@@ -221,22 +246,20 @@ impl Shape {
         }
     }
 
-    fn connect(self, builder: &mut GraphBuilder) -> Result<(), GraphFault> {
+    /// Which comes after which.
+    fn edges(self) -> &'static [(&'static str, &'static str)] {
         match self {
-            Shape::Unicast | Shape::Multicast | Shape::Side(_) => Ok(()),
-            Shape::Pipeline | Shape::Chain(_) => chain(builder, self.handlers()),
-            Shape::Diamond => {
-                builder.edge("a", "c")?;
-                builder.edge("b", "c")
-            }
+            Shape::Unicast | Shape::Multicast | Shape::Side(_) => &[],
+            Shape::Pipeline => &[("a", "b"), ("b", "c")],
+            Shape::Diamond => &[("a", "c"), ("b", "c")],
+            Shape::Chain(handlers) => STEPS.get(..handlers.saturating_sub(1)).unwrap_or(&STEPS),
         }
     }
 
     /// The graph of its handlers.
     pub fn graph(self, alloc: Global) -> Result<Graph, GraphFault> {
         let mut builder = GraphBuilder::new(alloc);
-        declare(&mut builder, self.handlers())?;
-        self.connect(&mut builder)?;
+        declare(&mut builder, self.handlers(), self.edges())?;
         builder.build()
     }
 }
@@ -305,9 +328,13 @@ impl Topology {
 
 impl fmt::Display for Topology {
     fn fmt<W: fmt::Write>(&self, f: &mut fmt::Formatter<W>) -> fmt::Result {
-        self.exchange.write_before(f)?;
-        let shape = self.shape;
-        let pace = self.pace;
+        let word = self.exchange.word();
+        match self.exchange {
+            Exchange::Ring => (),
+            Exchange::Core(width) | Exchange::Plain(width) => write!(f, "{word}{width}-")?,
+            Exchange::PlainSenders(count) | Exchange::Lock(count) => write!(f, "{word}{count}-")?,
+        }
+        let (shape, pace) = (self.shape, self.pace);
         write!(f, "{shape}{pace}")
     }
 }

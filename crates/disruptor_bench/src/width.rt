@@ -13,9 +13,6 @@ pub enum Width {
 }
 
 impl Width {
-    /// The widths with a row of their own. All other rows are of two words, as the tools' events.
-    pub const OTHERS: [Width; 3] = [Width::One, Width::Eight, Width::Sixteen];
-
     /// The width of which a topology's name tells after `core` or `plain`.
     pub fn named(word: &str) -> Option<Width> {
         match word {

@@ -7,7 +7,6 @@ mod seat;
 use crate::fault::Fault;
 use crate::graphs::{any_size, graph};
 use crate::random::Random;
-use crate::receiving::Received;
 use crate::round::{Came, Opened, play};
 use crate::sending::Sent;
 use crate::told::Told;
@@ -17,8 +16,9 @@ use dr_seq::Event;
 use seat::Seat;
 use std::alloc::{AllocError, Global};
 use std::marker::Brand;
+use std::slice::IterMut;
 use std::sync::Wait;
-use std::sync::ledger::{Blank, Ledger};
+use std::sync::ledger::Blank;
 use std::thread::Threads;
 
 /// How many ends a round has at most: of three producers, of three handlers, and of who halts.
@@ -33,28 +33,28 @@ struct Setup {
     in_order: bool,
 }
 
-fn ends_of<L: Exchange<Event>>(
-    alloc: Global,
+fn add_ends<L: Exchange<Event>>(
     shared: &mut Shared<Event, L>,
-) -> Result<Vec<End<Event, L>>, Fault> {
-    let mut all = Vec::new(alloc);
+    ends: &mut Vec<Option<End<Event, L>>>,
+) -> Result<(), Fault> {
     for _ in 0..MOST_ENDS {
-        all.push(shared.end().ok_or(Fault::Ends)?)?;
+        let end = shared.end().ok_or(Fault::Ends)?;
+        ends.push(Some(end))?;
     }
-    Ok(all)
+    Ok(())
 }
 
-/// Seats with the last of these ends, numbered from 0.
+/// Seats at the next of these ends, numbered from 0.
 fn seats_of<'a, L: Exchange<Event>, R>(
     rt: &'a R,
     alloc: Global,
     shared: &'a Shared<Event, L>,
-    ends: &mut Vec<End<Event, L>>,
+    ends: &mut IterMut<'a, Option<End<Event, L>>>,
     count: u64,
-) -> Result<Vec<Seat<'a, L, R>>, AllocError> {
+) -> Result<Vec<Seat<'a, L, R>>, Fault> {
     let mut all = Vec::new(alloc);
     for number in 0..count {
-        let end = ends.pop();
+        let end = ends.next().ok_or(Fault::Ends)?;
         all.push(Seat {
             rt,
             shared,
@@ -65,17 +65,18 @@ fn seats_of<'a, L: Exchange<Event>, R>(
     Ok(all)
 }
 
-/// The ends of these seats.
-fn take_ends<L: Exchange<Event>, R>(
-    ends: &mut Vec<End<Event, L>>,
-    seats: Vec<Seat<'_, L, R>>,
-) -> Result<(), AllocError> {
-    for seat in seats {
-        if let Some(end) = seat.end {
-            ends.push(end)?;
+/// The ends that are there.
+fn gathered<L: Exchange<Event>>(
+    alloc: Global,
+    ends: Vec<Option<End<Event, L>>>,
+) -> Result<Vec<End<Event, L>>, AllocError> {
+    let mut all = Vec::with_capacity(alloc, MOST_ENDS)?;
+    for end in ends {
+        if let Some(end) = end {
+            all.push(end)?;
         }
     }
-    Ok(())
+    Ok(all)
 }
 
 /// The events that each producer sent.
@@ -88,38 +89,24 @@ fn scripts_of<'a>(alloc: Global, all: &'a [Sent]) -> Result<Vec<&'a [Event]>, Al
 }
 
 /// Compares what each handler received with the one list of the audit.
-fn told(
-    alloc: Global,
-    recorded: &Recorded<Event>,
-    sent: &[Sent],
-    received: &[Received],
-) -> Result<Told, Fault> {
-    let scripts = scripts_of(alloc, sent)?;
+fn told(alloc: Global, recorded: &Recorded<Event>, came: &Came) -> Result<Told, Fault> {
+    let scripts = scripts_of(alloc, came.sent.as_slice())?;
     let list = audit(alloc, recorded, scripts.as_slice())?;
-    Told::of(list.as_slice(), received)
-}
-
-/// What came of a round, with all ends.
-#[derive(Drop)]
-struct Played<L: Ledger> {
-    ends: Vec<End<Event, L>>,
-    sent: Vec<Sent>,
-    received: Vec<Received>,
+    Told::of(list.as_slice(), came.received.as_slice())
 }
 
 /// Brings the ends back to the lock, and audits.
 fn audited<L: Exchange<Event>>(
     alloc: Global,
     shared: Shared<Event, L>,
-    played: Played<L>,
+    ends: Vec<Option<End<Event, L>>>,
+    came: &Came,
 ) -> Result<Told, Fault> {
-    let Played {
-        ends,
-        sent,
-        received,
-    } = played;
+    let Ok(ends) = gathered(alloc, ends) else {
+        return Err(Fault::Memory);
+    };
     match finish(shared, ends) {
-        Ok(recorded) => told(alloc, &recorded, sent.as_slice(), received.as_slice()),
+        Ok(recorded) => told(alloc, &recorded, came),
         Err(_) => Err(Fault::Ends),
     }
 }
@@ -129,13 +116,13 @@ fn seated<'a, L: Exchange<Event>, R>(
     rt: &'a R,
     alloc: Global,
     shared: &'a Shared<Event, L>,
-    ends: &mut Vec<End<Event, L>>,
+    ends: &mut IterMut<'a, Option<End<Event, L>>>,
     setup: Setup,
-) -> Result<Opened<Seat<'a, L, R>, Seat<'a, L, R>, Seat<'a, L, R>>, AllocError> {
+) -> Result<Opened<Seat<'a, L, R>, Seat<'a, L, R>, Seat<'a, L, R>>, Fault> {
     let halter = Seat {
         rt,
         shared,
-        end: ends.pop(),
+        end: ends.next().ok_or(Fault::Ends)?,
         number: 0,
     };
     let inlets = seats_of(rt, alloc, shared, ends, setup.producers)?;
@@ -149,64 +136,18 @@ fn seated<'a, L: Exchange<Event>, R>(
     })
 }
 
-fn take_all<L: Exchange<Event>, R>(
-    ends: &mut Vec<End<Event, L>>,
-    inlets: Vec<Seat<'_, L, R>>,
-    outlets: Vec<Seat<'_, L, R>>,
-    halters: Vec<Seat<'_, L, R>>,
-) -> Result<(), AllocError> {
-    take_ends(ends, inlets)?;
-    take_ends(ends, outlets)?;
-    take_ends(ends, halters)
-}
-
-/// Puts all ends with those that nobody sat at.
-fn gathered<L: Exchange<Event>, R>(
-    mut ends: Vec<End<Event, L>>,
-    came: Came<Seat<'_, L, R>, Seat<'_, L, R>, Seat<'_, L, R>>,
-) -> Result<Played<L>, Fault> {
-    let Came {
-        inlets,
-        outlets,
-        halters,
-        sent,
-        received,
-    } = came;
-    match take_all(&mut ends, inlets, outlets, halters) {
-        Ok(()) => Ok(Played {
-            ends,
-            sent,
-            received,
-        }),
-        Err(_) => Err(Fault::Memory),
-    }
-}
-
-/// Runs an exchange with threads of their own for each producer and each handler.
+/// Runs an exchange with threads of their own for each producer and each handler, over new ends, which stay there.
 fn run<L: Exchange<Event> + Send + Sync, R: Threads + Wait + Sync>(
     rt: &R,
     alloc: Global,
-    shared: &Shared<Event, L>,
-    mut ends: Vec<End<Event, L>>,
-    setup: Setup,
-    random: &mut Random,
-) -> Result<Played<L>, Fault> {
-    let opened = seated(rt, alloc, shared, &mut ends, setup)?;
-    match play(rt, alloc, opened, random) {
-        Ok(came) => gathered(ends, came),
-        Err(fault) => Err(fault),
-    }
-}
-
-fn run_over<L: Exchange<Event> + Send + Sync, R: Threads + Wait + Sync>(
-    rt: &R,
-    alloc: Global,
     shared: &mut Shared<Event, L>,
+    ends: &mut Vec<Option<End<Event, L>>>,
     setup: Setup,
     random: &mut Random,
-) -> Result<Played<L>, Fault> {
-    let ends = ends_of(alloc, shared)?;
-    run(rt, alloc, shared, ends, setup, random)
+) -> Result<Came, Fault> {
+    add_ends(shared, ends)?;
+    let opened = seated(rt, alloc, shared, &mut ends.iter_mut(), setup)?;
+    play(rt, alloc, opened, random)
 }
 
 /// Runs an exchange over a ledger, and compares what each handler received with the list of the audit.
@@ -224,8 +165,9 @@ fn round_over<L: Exchange<Event> + Send + Sync, R: Threads + Wait + Sync>(
     requires begun { recorded.history ≡ L.begun }
 {
     let mut shared = Shared::<Event, L>::new(recorded, blank);
-    match run_over(rt, alloc, &mut shared, setup, random) {
-        Ok(played) => audited(alloc, shared, played),
+    let mut ends = Vec::new(alloc);
+    match run(rt, alloc, &mut shared, &mut ends, setup, random) {
+        Ok(came) => audited(alloc, shared, ends, &came),
         Err(fault) => Err(fault),
     }
 }

@@ -44,6 +44,15 @@ enum Way {
 }
 
 impl Way {
+    fn name(self) -> &'static str {
+        match self {
+            Way::Ring => "ring",
+            Way::Plain => "plain",
+            Way::Senders => "senders",
+            Way::Lock => "lock",
+        }
+    }
+
     fn round<R: Threads + Wait + Sync>(
         self,
         rt: &R,
@@ -89,19 +98,42 @@ fn numbers(words: &[String]) -> Result<(u64, u64), Fault> {
     }
 }
 
+/// The seed and how many rounds, as the command line has them.
+fn asked<R: Runtime + Alloc<A = Global>>(rt: &R) -> Result<(u64, u64), Fault> {
+    let words: Vec<String> = env::args(rt)?.skip(1).collect(rt.alloc())?;
+    numbers(words.as_slice())
+}
+
+/// Runs rounds over one exchange, and tells what they came to.
+fn run_way<R: Runtime + Threads + Wait + Sync>(
+    rt: &R,
+    alloc: Global,
+    way: Way,
+    seed: u64,
+    count: u64,
+) -> Result<(), Fault> {
+    let told = way.rounds(rt, alloc, seed, count)?;
+    let name = way.name();
+    eprintln!(rt; "by {name} {told}")?;
+    Ok(())
+}
+
+fn run_all<R: Runtime + Threads + Wait + Sync>(
+    rt: &R,
+    alloc: Global,
+    seed: u64,
+    count: u64,
+) -> Result<(), Fault> {
+    for way in [Way::Ring, Way::Plain, Way::Senders, Way::Lock] {
+        run_way(rt, alloc, way, seed, count)?;
+    }
+    Ok(())
+}
+
 fn run<R: Runtime + Alloc<A = Global> + Threads + Wait + Sync>(rt: &R) -> Result<(), Fault> {
-    let alloc = rt.alloc();
-    let numbers = {
-        let words: Vec<String> = env::args(rt)?.skip(1).collect(alloc)?;
-        numbers(words.as_slice())
-    };
-    let (seed, count) = numbers?;
-    let ring = Way::Ring.rounds(rt, alloc, seed, count)?;
-    let plain = Way::Plain.rounds(rt, alloc, seed, count)?;
-    let senders = Way::Senders.rounds(rt, alloc, seed, count)?;
-    let lock = Way::Lock.rounds(rt, alloc, seed, count)?;
+    let (seed, count) = asked(rt)?;
+    run_all(rt, rt.alloc(), seed, count)?;
     println!(rt; "{count} rounds")?;
-    eprintln!(rt; "by ring {ring}\nby plain {plain}\nby senders {senders}\nby lock {lock}")?;
     Ok(())
 }
 

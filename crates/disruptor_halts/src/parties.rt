@@ -17,12 +17,12 @@ pub enum Party<I, O, H> {
     Halter(H, Random),
 }
 
-/// An end that did its work, and what came of that.
+/// What came of a party's work.
 #[derive(Drop)]
-pub enum Done<I, O, H> {
-    Producer(I, Sent),
-    Handler(O, Received),
-    Halter(H),
+pub enum Done {
+    Sent(Sent),
+    Received(Received),
+    Halted,
 }
 
 /// Sends until the exchange is halted, or the round failed.
@@ -82,46 +82,44 @@ fn halt<H: Halting>(halter: &mut H, random: &mut Random) {
     }
 }
 
-fn produced<I: Producing, O, H>(
-    mut inlet: I,
+fn produced<I: Producing>(
+    inlet: &mut I,
     mut sending: Sending,
     signs: &Signs,
-) -> Result<Done<I, O, H>, Fault> {
-    let sent = send_all(&mut inlet, &mut sending, signs);
+) -> Result<Done, Fault> {
+    let sent = send_all(inlet, &mut sending, signs);
     signs.end_sending();
     match sent {
-        Ok(()) => Ok(Done::Producer(inlet, sending.into_sent())),
+        Ok(()) => Ok(Done::Sent(sending.into_sent())),
         Err(fault) => Err(fault),
     }
 }
 
-fn handled<I, O: Taking, H>(
-    mut outlet: O,
+fn handled<O: Taking>(
+    outlet: &mut O,
     mut receiving: Receiving,
     signs: &Signs,
-) -> Result<Done<I, O, H>, Fault> {
-    match receive_all(&mut outlet, &mut receiving, signs) {
-        Ok(drained) => Ok(Done::Handler(outlet, receiving.into_received(drained))),
+) -> Result<Done, Fault> {
+    match receive_all(outlet, &mut receiving, signs) {
+        Ok(drained) => Ok(Done::Received(receiving.into_received(drained))),
         Err(fault) => Err(fault),
     }
-}
-
-fn halted<I, O, H: Halting>(mut halter: H, mut random: Random) -> Result<Done<I, O, H>, Fault> {
-    halt(&mut halter, &mut random);
-    Ok(Done::Halter(halter))
 }
 
 impl<I: Producing, O: Taking, H: Halting> Party<I, O, H> {
-    fn work(self, signs: &Signs) -> Result<Done<I, O, H>, Fault> {
+    fn work(self, signs: &Signs) -> Result<Done, Fault> {
         match self {
-            Party::Producer(inlet, sending) => produced(inlet, sending, signs),
-            Party::Handler(outlet, receiving) => handled(outlet, receiving, signs),
-            Party::Halter(halter, random) => halted(halter, random),
+            Party::Producer(mut inlet, sending) => produced(&mut inlet, sending, signs),
+            Party::Handler(mut outlet, receiving) => handled(&mut outlet, receiving, signs),
+            Party::Halter(mut halter, mut random) => {
+                halt(&mut halter, &mut random);
+                Ok(Done::Halted)
+            }
         }
     }
 
     /// Does its work, on the thread that calls this.
-    pub fn play(self, signs: &Signs) -> Result<Done<I, O, H>, Fault> {
+    pub fn play(self, signs: &Signs) -> Result<Done, Fault> {
         let done = self.work(signs);
         if done.is_err() {
             signs.fail();

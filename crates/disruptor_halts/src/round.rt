@@ -1,4 +1,4 @@
-//! A round over any exchange, from its ends until all of them are back.
+//! A round over any exchange, from its ends until all of their threads are done.
 
 ghost use denote.Param.Send.{IsSend};
 
@@ -25,43 +25,23 @@ pub struct Opened<I, O, H> {
     pub in_order: bool,
 }
 
-/// All ends of an exchange, with what each did.
+/// What the producers and the handlers of an exchange did.
 #[derive(Drop)]
-pub struct Came<I, O, H> {
-    pub inlets: Vec<I>,
-    pub outlets: Vec<O>,
-    pub halters: Vec<H>,
+pub struct Came {
     pub sent: Vec<Sent>,
     pub received: Vec<Received>,
 }
 
-impl<I: Drop, O: Drop, H: Drop> Came<I, O, H> {
-    fn new(alloc: Global) -> Came<I, O, H> {
-        Came {
-            inlets: Vec::new(alloc),
-            outlets: Vec::new(alloc),
-            halters: Vec::new(alloc),
-            sent: Vec::new(alloc),
-            received: Vec::new(alloc),
-        }
-    }
-
-    fn add(&mut self, done: Done<I, O, H>) -> Result<(), AllocError> {
+impl Came {
+    fn add(&mut self, done: Done) -> Result<(), AllocError> {
         match done {
-            Done::Producer(inlet, sent) => {
-                self.inlets.push(inlet)?;
-                self.sent.push(sent)?;
-            }
-            Done::Handler(outlet, received) => {
-                self.outlets.push(outlet)?;
-                self.received.push(received)?;
-            }
-            Done::Halter(halter) => self.halters.push(halter)?,
+            Done::Sent(sent) => Ok(self.sent.push(sent)?),
+            Done::Received(received) => Ok(self.received.push(received)?),
+            Done::Halted => Ok(()),
         }
-        Ok(())
     }
 
-    fn add_all(&mut self, all: Vec<Result<Done<I, O, H>, Fault>>) -> Result<(), Fault> {
+    fn add_all(&mut self, all: Vec<Result<Done, Fault>>) -> Result<(), Fault> {
         for done in all {
             self.add(done?)?;
         }
@@ -140,11 +120,11 @@ fn run<I: Producing, O: Taking, H: Halting, R: Threads + Wait + Sync>(
     alloc: Global,
     signs: &Signs,
     parties: Vec<Party<I, O, H>>,
-) -> Result<Vec<Result<Done<I, O, H>, Fault>>, Fault> {
+) -> Result<Vec<Result<Done, Fault>>, Fault> {
     thread::scope(
         thread::scope_env(),
         rt,
-        move |scope| -> Result<Vec<Result<Done<I, O, H>, Fault>>, Fault>
+        move |scope| -> Result<Vec<Result<Done, Fault>>, Fault>
             requires inlets { IsSend I.row }
             requires outlets { IsSend O.row }
             requires halters { IsSend H.row }
@@ -168,11 +148,14 @@ pub fn play<I: Producing, O: Taking, H: Halting, R: Threads + Wait + Sync>(
     alloc: Global,
     opened: Opened<I, O, H>,
     random: &mut Random,
-) -> Result<Came<I, O, H>, Fault> {
+) -> Result<Came, Fault> {
     let signs = Signs::new(opened.inlets.len());
     let parties = parties_of(alloc, opened, random)?;
     let all = run(rt, alloc, &signs, parties)?;
-    let mut came = Came::new(alloc);
+    let mut came = Came {
+        sent: Vec::new(alloc),
+        received: Vec::new(alloc),
+    };
     match came.add_all(all) {
         Ok(()) => Ok(came),
         Err(fault) => Err(fault),
@@ -186,7 +169,7 @@ pub fn told<I: Producing, O: Taking, H: Halting, R: Threads + Wait + Sync>(
     opened: Opened<I, O, H>,
     random: &mut Random,
 ) -> Result<Told, Fault> {
-    let Came { sent, received, .. } = play(rt, alloc, opened, random)?;
+    let Came { sent, received } = play(rt, alloc, opened, random)?;
     let published = by_sequence(alloc, sent.as_slice())?;
     Told::of(published.as_slice(), received.as_slice())
 }

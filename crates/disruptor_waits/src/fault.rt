@@ -1,58 +1,74 @@
 //! Why a run fails, or does not begin.
 
 use dr_disruptor::RunFault;
+use dr_workers::WorkFault;
 use std::alloc::{AllocError, AllocFailed};
-use std::io;
-use thiserror::Error;
-
-const USAGE: &str =
-    "usage: disruptor_waits --check | lone STRATEGY EVENTS | idle STRATEGY SECONDS | one-slot EVENTS MICROS | rate STRATEGY THOUSANDS CUT | latency EXCHANGE STRATEGY EVENTS NANOS";
+use std::{fmt, io};
 
 /// Why the program ends early. Its text is the line that it prints.
-#[derive(Debug, Drop, Error)]
+#[derive(Clone, Copy)]
 pub enum Fault {
-    #[error("{}", USAGE)]
     Usage,
-    #[error("{0}")]
-    Run(RunFault),
+    /// Memory ran out, or a thread could not be started: graphs, sizes and rings of this program are never refused.
+    Memory,
+    /// A worker did not do all of its work.
+    Worker { who: usize, fault: WorkFault },
     /// There is no clock, or nothing can be written.
-    #[error("no clock, or cannot write")]
     Outside,
     /// An event took longer than it may.
-    #[error("an event came late")]
     Late,
     /// The last handler did not note some event.
-    #[error("an event was not noted")]
     Lost,
 }
 
 impl Fault {
     /// The status with which the program ends.
-    pub fn status(&self) -> u8 {
+    pub fn status(self) -> u8 {
         match self {
             Fault::Usage => 1,
-            Fault::Run(_) => 3,
+            Fault::Memory | Fault::Worker { .. } => 3,
             Fault::Outside => 4,
             Fault::Late | Fault::Lost => 5,
         }
     }
 }
 
+impl fmt::Display for Fault {
+    fn fmt<W: fmt::Write>(&self, f: &mut fmt::Formatter<W>) -> fmt::Result {
+        match self {
+            Fault::Usage => f.write_str(
+                "usage: disruptor_waits --check | lone STRATEGY EVENTS | idle STRATEGY SECONDS | one-slot EVENTS MICROS | rate STRATEGY THOUSANDS CUT | latency EXCHANGE STRATEGY EVENTS NANOS",
+            ),
+            Fault::Memory => f.write_str("no memory, or no thread"),
+            Fault::Worker { who, fault } => {
+                let fault = fault.name();
+                write!(f, "worker {who}: {fault}")
+            }
+            Fault::Outside => f.write_str("no clock, or cannot write"),
+            Fault::Late => f.write_str("an event came late"),
+            Fault::Lost => f.write_str("an event was not noted"),
+        }
+    }
+}
+
 impl From<RunFault> for Fault {
     fn from(fault: RunFault) -> Fault {
-        Fault::Run(fault)
+        match fault {
+            RunFault::Worker { who, fault } => Fault::Worker { who, fault },
+            _ => Fault::Memory,
+        }
     }
 }
 
 impl From<AllocError> for Fault {
     fn from(_: AllocError) -> Fault {
-        Fault::Run(RunFault::Memory)
+        Fault::Memory
     }
 }
 
 impl<T: Drop> From<AllocFailed<T>> for Fault {
     fn from(_: AllocFailed<T>) -> Fault {
-        Fault::Run(RunFault::Memory)
+        Fault::Memory
     }
 }
 

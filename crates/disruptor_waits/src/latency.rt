@@ -12,10 +12,19 @@ use std::alloc::Global;
 use std::rt::Runtime;
 use std::sync::Wait;
 use std::thread::Threads;
-use std::time::Instant;
 
-/// How many events a check sends by each exchange and strategy, and how many nanoseconds apart.
-const CHECKED: (usize, u64) = (100, 50_000);
+/// How many events a check sends by each exchange and strategy.
+pub const CHECKED: usize = 100;
+
+/// How many nanoseconds lie between two of them.
+const CHECKED_GAP: u64 = 50_000;
+
+fn print_all(rt: &impl Runtime, took: &[u64]) -> Result<(), Fault> {
+    for nanos in took {
+        println!(rt; "{nanos}")?;
+    }
+    Ok(())
+}
 
 /// Prints how many nanoseconds each event took, a line an event.
 pub fn measure<R: Runtime + Threads + Wait + Copy + Send + 'static>(
@@ -23,41 +32,37 @@ pub fn measure<R: Runtime + Threads + Wait + Copy + Send + 'static>(
     alloc: Global,
     order: Order,
 ) -> Result<(), Fault> {
-    for nanos in pass(rt, alloc, order, Instant::now(&rt)?)?.iter() {
-        println!(rt; "{nanos}")?;
+    let took = pass(rt, alloc, order)?;
+    print_all(&rt, took.as_slice())
+}
+
+// Sends the events of a measurement. The last handler is to note each.
+fn check_one<R: Runtime + Threads + Wait + Copy + Send + 'static>(
+    rt: R,
+    alloc: Global,
+    order: Order,
+) -> Result<(), Fault> {
+    let took = pass(rt, alloc, order)?;
+    if took.contains(&0) {
+        return Err(Fault::Lost);
     }
     Ok(())
 }
 
-// Sends the events of a measurement, and tells whether the last handler noted each.
-fn are_noted<R: Runtime + Threads + Wait + Copy + Send + 'static>(
-    rt: R,
-    alloc: Global,
-    order: Order,
-) -> Result<bool, Fault> {
-    let begun = Instant::now(&rt)?;
-    let took = pass(rt, alloc, order, begun)?;
-    Ok(!took.contains(&0))
-}
-
-/// Sends some events through an exchange by each strategy, and prints nothing that a clock decides.
+/// Sends some events through an exchange by each strategy.
 pub fn check<R: Runtime + Threads + Wait + Copy + Send + 'static>(
     rt: R,
     alloc: Global,
     exchange: Exchange,
 ) -> Result<(), Fault> {
-    let (events, gap) = CHECKED;
     for strategy in STRATEGIES {
         let order = Order {
             exchange,
             strategy,
-            events,
-            gap,
+            events: CHECKED,
+            gap: CHECKED_GAP,
         };
-        if !are_noted(rt, alloc, order)? {
-            return Err(Fault::Lost);
-        }
+        check_one(rt, alloc, order)?;
     }
-    println!(rt; "{exchange}: {events} events by each strategy")?;
     Ok(())
 }

@@ -1,16 +1,16 @@
 //! Events that are sent one by one, each once the one before was taken.
 
 ghost use Rattle.std.specs.Prelude.{◌≡◌};
-ghost use Rattle.dr_ring.specs.Calls.Ends.{sender_place};
 
 use crate::SENDER;
 use crate::clock::{micros_since, pause};
+use crate::fault::Fault;
 use crate::pair::takers;
+use crate::runs::{Job, run};
 use crate::times::{Notes, Times};
-use dr_disruptor::{LiveSender, RunFault, WaitStrategy, run_with};
-use dr_graph::Graph;
+use dr_disruptor::{LiveSender, WaitStrategy, Waits};
 use dr_meaning::Inlet;
-use dr_seq::{Event, Size};
+use dr_seq::Event;
 use dr_workers::{OpenGate, Patience, WorkFault, produce_with};
 use std::alloc::Global;
 use std::sync::atomic::{AtomicU64, Ordering};
@@ -78,56 +78,35 @@ fn send_each<R: Wait + Clock, I: Inlet<Event>, P: Patience>(
     None
 }
 
-// The same over a run's sender, whose thread waits for the bell that it rings itself.
-fn send_by<R: Wait + Clock>(
-    rt: &R,
-    sender: &mut LiveSender,
-    strategy: WaitStrategy,
-    taken: &AtomicU64,
+/// So many events, of which the second handler shows what it took.
+#[derive(Clone, Copy)]
+struct Lone<'a> {
     events: u64,
-    notes: &Notes,
-) -> Option<WorkFault>
-    ensures place { sender_place sender.new ≡ sender_place sender.old }
-{
-    let Ok(bell) = Arc::try_clone(sender.bell()) else {
-        return Some(WorkFault::Memory);
-    };
-    let mut waits = strategy.begin(rt, &bell, 1);
-    send_each(rt, sender, &mut waits, taken, events, notes)
+    taken: &'a AtomicU64,
+    notes: &'a Notes,
 }
 
-fn send_over<R: Threads + Wait + Clock + Copy + Send + 'static>(
-    rt: R,
-    alloc: Global,
-    graph: &Graph,
-    strategy: WaitStrategy,
-    taken: &Arc<AtomicU64, Global>,
-    events: u64,
-) -> Result<Times, RunFault> {
-    let size = Size::new(SLOTS)?;
-    let handlers = takers(alloc, taken)?;
-    let notes = Notes::new();
-    let ran = run_with(
-        rt,
-        alloc,
-        graph,
-        size,
-        handlers,
-        strategy,
-        |sender| send_by(&rt, sender, strategy, taken, events, &notes),
-    )?;
-    let _handlers = ran.finished()?;
-    Ok(notes.times())
+impl<R: Wait + Clock> Job<R> for Lone<'_> {
+    fn send(&self, rt: &R, sender: &mut LiveSender, waits: &mut Waits<'_, R>) -> Option<WorkFault> {
+        send_each(rt, sender, waits, self.taken, self.events, self.notes)
+    }
 }
 
 /// Sends so many events through two handlers, and tells how long each took until the second had it.
 pub fn send<R: Threads + Wait + Clock + Copy + Send + 'static>(
     rt: R,
     alloc: Global,
-    graph: &Graph,
     strategy: WaitStrategy,
     events: u64,
-) -> Result<Times, RunFault> {
+) -> Result<Times, Fault> {
     let taken = Arc::new(alloc, AtomicU64::new(0))?;
-    send_over(rt, alloc, graph, strategy, &taken, events)
+    let handlers = takers(alloc, &taken)?;
+    let notes = Notes::new();
+    let job = Lone {
+        events,
+        taken: &taken,
+        notes: &notes,
+    };
+    run(rt, alloc, SLOTS, handlers, strategy, &job)?;
+    Ok(notes.times())
 }

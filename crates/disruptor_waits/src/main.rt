@@ -24,15 +24,14 @@ mod lone;
 mod one_slot;
 mod pair;
 mod rate;
+mod runs;
 mod stopwatch;
 mod times;
 mod words;
 
 use clock::micros_since;
 use dr_disruptor::WaitStrategy;
-use dr_graph::Graph;
 use fault::Fault;
-use pair::graph;
 use std::alloc::Global;
 use std::env;
 use std::num::NonZeroU64;
@@ -62,11 +61,10 @@ fn judge<R: Runtime>(rt: &R, times: Times, most: u64) -> Result<(), Fault> {
 fn send_lone<R: Runtime + Threads + Wait + Copy + Send + 'static>(
     rt: R,
     alloc: Global,
-    graph: &Graph,
     strategy: WaitStrategy,
     events: u64,
 ) -> Result<(), Fault> {
-    let times = lone::send(rt, alloc, graph, strategy, events)?;
+    let times = lone::send(rt, alloc, strategy, events)?;
     judge(&rt, times, MOST)?;
     println!(rt; "{events} events, each taken in time")?;
     Ok(())
@@ -75,28 +73,32 @@ fn send_lone<R: Runtime + Threads + Wait + Copy + Send + 'static>(
 fn send_one_slot<R: Runtime + Threads + Wait + Copy + Send + 'static>(
     rt: R,
     alloc: Global,
-    graph: &Graph,
     events: usize,
     micros: u64,
 ) -> Result<(), Fault> {
-    let times = one_slot::send(rt, alloc, graph, events)?;
+    let times = one_slot::send(rt, alloc, events)?;
     judge(&rt, times, micros)?;
     println!(rt; "each was completed in time")?;
+    Ok(())
+}
+
+// Tells how long it took since then.
+fn tell_time<R: Runtime>(rt: &R, begun: Instant) -> Result<(), Fault> {
+    let micros = micros_since(rt, Some(begun)).unwrap_or(u64::MAX);
+    eprintln!(rt; "in {micros} microseconds")?;
     Ok(())
 }
 
 fn send_fast<R: Runtime + Threads + Wait + Copy + Send + 'static>(
     rt: R,
     alloc: Global,
-    graph: &Graph,
     strategy: WaitStrategy,
     thousands: u64,
     cut: NonZeroU64,
 ) -> Result<(), Fault> {
     let begun = Instant::now(&rt)?;
-    rate::send(rt, alloc, graph, strategy, thousands, cut)?;
-    let micros = micros_since(&rt, Some(begun)).unwrap_or(u64::MAX);
-    eprintln!(rt; "in {micros} microseconds")?;
+    rate::send(rt, alloc, strategy, thousands, cut)?;
+    tell_time(&rt, begun)?;
     println!(rt; "{thousands} thousand events went through")?;
     Ok(())
 }
@@ -104,11 +106,23 @@ fn send_fast<R: Runtime + Threads + Wait + Copy + Send + 'static>(
 fn send_fast_by_each<R: Runtime + Threads + Wait + Copy + Send + 'static>(
     rt: R,
     alloc: Global,
-    graph: &Graph,
 ) -> Result<(), Fault> {
     let cut = NonZeroU64::MIN;
     for strategy in STRATEGIES {
-        send_fast(rt, alloc, graph, strategy, 10, cut)?;
+        send_fast(rt, alloc, strategy, 10, cut)?;
+    }
+    Ok(())
+}
+
+// By each exchange, and prints nothing that a clock decides.
+fn check_latency<R: Runtime + Threads + Wait + Copy + Send + 'static>(
+    rt: R,
+    alloc: Global,
+) -> Result<(), Fault> {
+    let events = latency::CHECKED;
+    for exchange in Exchange::ALL {
+        latency::check(rt, alloc, exchange)?;
+        println!(rt; "{exchange}: {events} events by each strategy")?;
     }
     Ok(())
 }
@@ -116,41 +130,33 @@ fn send_fast_by_each<R: Runtime + Threads + Wait + Copy + Send + 'static>(
 fn check<R: Runtime + Threads + Wait + Copy + Send + 'static>(
     rt: R,
     alloc: Global,
-    graph: &Graph,
 ) -> Result<(), Fault> {
-    send_lone(rt, alloc, graph, WaitStrategy::Parking, 3000)?;
-    send_one_slot(rt, alloc, graph, 10_000, MOST)?;
-    send_fast_by_each(rt, alloc, graph)?;
-    for exchange in Exchange::ALL {
-        latency::check(rt, alloc, exchange)?;
-    }
-    Ok(())
+    send_lone(rt, alloc, WaitStrategy::Parking, 3000)?;
+    send_one_slot(rt, alloc, 10_000, MOST)?;
+    send_fast_by_each(rt, alloc)?;
+    check_latency(rt, alloc)
 }
 
 fn asked<R: Runtime + Alloc<A = Global>>(rt: &R) -> Result<Task, Fault> {
     let words: Vec<String> = env::args(rt)?.skip(1).collect(rt.alloc())?;
-    match read(words.as_slice()) {
-        Some(task) => Ok(task),
-        None => Err(Fault::Usage),
-    }
+    read(words.as_slice()).ok_or(Fault::Usage)
 }
 
 fn do_task<R: Runtime + Threads + Wait + Copy + Send + 'static>(
     rt: R,
     alloc: Global,
-    graph: &Graph,
     task: Task,
 ) -> Result<(), Fault> {
     match task {
-        Task::Check => check(rt, alloc, graph),
-        Task::Lone { strategy, events } => send_lone(rt, alloc, graph, strategy, events),
-        Task::OneSlot { events, micros } => send_one_slot(rt, alloc, graph, events, micros),
+        Task::Check => check(rt, alloc),
+        Task::Lone { strategy, events } => send_lone(rt, alloc, strategy, events),
+        Task::OneSlot { events, micros } => send_one_slot(rt, alloc, events, micros),
         Task::Rate {
             strategy,
             thousands,
             cut,
-        } => send_fast(rt, alloc, graph, strategy, thousands, cut),
-        Task::Idle { strategy, seconds } => Ok(idle::wait(rt, alloc, graph, strategy, seconds)?),
+        } => send_fast(rt, alloc, strategy, thousands, cut),
+        Task::Idle { strategy, seconds } => idle::wait(rt, alloc, strategy, seconds),
         Task::Latency(order) => latency::measure(rt, alloc, order),
     }
 }
@@ -159,8 +165,7 @@ fn run<R: Runtime + Alloc<A = Global> + Threads + Wait + Copy + Send + 'static>(
     rt: R,
 ) -> Result<(), Fault> {
     let task = asked(&rt)?;
-    let graph = graph(rt.alloc())?;
-    do_task(rt, rt.alloc(), &graph, task)
+    do_task(rt, rt.alloc(), task)
 }
 
 fn main(rt: HostRuntime) -> ExitCode {

@@ -1,67 +1,45 @@
 //! Lone events over a ring of one slot, whose workers park: each is sent once the last handler completed the one before.
 
-ghost use Rattle.std.specs.Prelude.{◌≡◌};
-ghost use Rattle.dr_ring.specs.Calls.Ends.{sender_place};
-
 use crate::SENDER;
+use crate::fault::Fault;
 use crate::pair::idlers;
+use crate::runs::{Job, run};
 use crate::stopwatch::Stopwatch;
 use crate::times::Times;
-use dr_disruptor::{LiveSender, RunFault, WaitStrategy, run_with};
-use dr_graph::Graph;
-use dr_seq::{Event, Size};
+use dr_disruptor::{LiveSender, WaitStrategy, Waits};
+use dr_seq::Event;
 use dr_workers::{WorkFault, produce_with};
 use std::alloc::Global;
-use std::sync::{Arc, Wait};
+use std::sync::Wait;
 use std::thread::Threads;
 use std::time::Clock;
 
-// Sends a script event by event, by one that parks where there is no room.
-fn send_each<R: Wait + Clock>(
-    rt: &R,
-    sender: &mut LiveSender,
-    stopwatch: &Stopwatch<R>,
-    script: &[Event],
-) -> Option<WorkFault>
-    ensures place { sender_place sender.new ≡ sender_place sender.old }
-{
-    let Ok(bell) = Arc::try_clone(sender.bell()) else {
-        return Some(WorkFault::Memory);
-    };
-    let mut waits = WaitStrategy::Parking.begin(rt, &bell, 1);
-    produce_with(rt, sender, stopwatch, SENDER, script, 1, &mut waits).fault
+/// A script that is sent event by event.
+#[derive(Clone, Copy)]
+struct Script<'a, R> {
+    events: &'a [Event],
+    stopwatch: &'a Stopwatch<R>,
 }
 
-fn send_over<R: Threads + Wait + Clock + Copy + Send + 'static>(
-    rt: R,
-    alloc: Global,
-    graph: &Graph,
-    size: Size,
-    script: &[Event],
-) -> Result<Times, RunFault> {
-    let handlers = idlers(alloc)?;
-    let stopwatch = Stopwatch::new(rt);
-    let ran = run_with(
-        rt,
-        alloc,
-        graph,
-        size,
-        handlers,
-        WaitStrategy::Parking,
-        |sender| send_each(&rt, sender, &stopwatch, script),
-    )?;
-    let _handlers = ran.finished()?;
-    Ok(stopwatch.times())
+impl<R: Wait + Clock> Job<R> for Script<'_, R> {
+    fn send(&self, rt: &R, sender: &mut LiveSender, waits: &mut Waits<'_, R>) -> Option<WorkFault> {
+        produce_with(rt, sender, self.stopwatch, SENDER, self.events, 1, waits).fault
+    }
 }
 
 /// Sends so many events, and one more, whose room tells that the last of them is completed. It tells how long they took.
 pub fn send<R: Threads + Wait + Clock + Copy + Send + 'static>(
     rt: R,
     alloc: Global,
-    graph: &Graph,
     events: usize,
-) -> Result<Times, RunFault> {
-    let size = Size::new(1)?;
+) -> Result<Times, Fault> {
     let script = vec![in alloc; Event::NONE; events.saturating_add(1)]?;
-    send_over(rt, alloc, graph, size, script.as_slice())
+    let stopwatch = Stopwatch::new(rt);
+    let job = Script {
+        events: script.as_slice(),
+        stopwatch: &stopwatch,
+    };
+    let handlers = idlers(alloc)?;
+    run(rt, alloc, 1, handlers, WaitStrategy::Parking, &job)?;
+    Ok(stopwatch.times())
 }

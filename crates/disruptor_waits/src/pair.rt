@@ -1,7 +1,7 @@
 //! Two handlers, of which the second follows the first.
 
-use dr_disruptor::RunFault;
-use dr_graph::{Graph, GraphBuilder, GraphFault, Group};
+use crate::fault::Fault;
+use dr_graph::{Graph, GraphBuilder, GraphFault};
 use dr_meaning::Handler;
 use dr_seq::Event;
 use std::alloc::Global;
@@ -36,26 +36,38 @@ impl Handler<Event> for Idler {
     fn on_event(&mut self, _event: Event, _s: u64, _end: bool) {}
 }
 
-/// Declares both, and gives the second.
-pub fn declare(builder: &mut GraphBuilder) -> Result<Group, GraphFault> {
-    let first = builder.handle_with(&["first"])?;
-    builder.then(&first, &["second"])
+/// Declares handlers, and which comes after which.
+fn declare(
+    builder: &mut GraphBuilder,
+    names: &[&str],
+    edges: &[(&str, &str)],
+) -> Result<(), GraphFault> {
+    builder.handle_with(names)?;
+    for (up, down) in edges {
+        builder.edge(up, down)?;
+    }
+    Ok(())
 }
 
-/// Their graph.
-pub fn graph(alloc: Global) -> Result<Graph, RunFault> {
+/// A graph of handlers.
+pub fn graph(alloc: Global, names: &[&str], edges: &[(&str, &str)]) -> Result<Graph, Fault> {
     let mut builder = GraphBuilder::new(alloc);
-    let _second = declare(&mut builder)?;
-    Ok(builder.build()?)
+    if declare(&mut builder, names, edges).is_err() {
+        return Err(Fault::Memory);
+    }
+    match builder.build() {
+        Ok(graph) => Ok(graph),
+        Err(_) => Err(Fault::Memory),
+    }
 }
 
 /// Both of them, where they do nothing.
-pub fn idlers(alloc: Global) -> Result<Vec<Idler>, RunFault> {
+pub fn idlers(alloc: Global) -> Result<Vec<Idler>, Fault> {
     Ok(vec![in alloc; Idler, Idler]?)
 }
 
 /// Both of them, of which the second shows there what it took.
-pub fn takers(alloc: Global, taken: &Arc<AtomicU64, Global>) -> Result<Vec<Taker>, RunFault> {
+pub fn takers(alloc: Global, taken: &Arc<AtomicU64, Global>) -> Result<Vec<Taker>, Fault> {
     let unseen = Arc::new(alloc, AtomicU64::new(0))?;
     let taken = Arc::try_clone(taken)?;
     Ok(vec![in alloc; Taker { taken: unseen }, Taker { taken }]?)

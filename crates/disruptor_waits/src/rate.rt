@@ -1,20 +1,19 @@
 //! Events that are sent as fast as they are taken.
 
 ghost use Rattle.std.specs.Prelude.{◌≡◌};
-ghost use Rattle.dr_ring.specs.Calls.Ends.{sender_place};
 
 use crate::SENDER;
+use crate::fault::Fault;
 use crate::pair::idlers;
-use dr_disruptor::{LiveSender, RunFault, WaitStrategy, run_with};
-use dr_graph::Graph;
+use crate::runs::{Job, run};
+use dr_disruptor::{LiveSender, WaitStrategy, Waits};
 use dr_meaning::Inlet;
-use dr_seq::{Event, Size};
+use dr_seq::Event;
 use dr_workers::{OpenGate, Patience, WorkFault, produce_with};
 use std::alloc::Global;
 use std::num::NonZeroU64;
-use std::sync::{Arc, Wait};
+use std::sync::Wait;
 use std::thread::Threads;
-use std::time::Clock;
 
 /// The slots of the ring.
 const SLOTS: u64 = 1024;
@@ -44,37 +43,31 @@ fn send_each<R: Wait, I: Inlet<Event>, P: Patience>(
     None
 }
 
-// The same over a run's sender, whose thread waits for the bell that it rings itself.
-fn send_by<R: Wait + Clock>(
-    rt: &R,
-    sender: &mut LiveSender,
-    strategy: WaitStrategy,
-    stretches: u64,
+/// So many thousand events, in claims of up to `cut`.
+#[derive(Clone, Copy)]
+struct Thousands {
+    count: u64,
     cut: NonZeroU64,
-) -> Option<WorkFault>
-    ensures place { sender_place sender.new ≡ sender_place sender.old }
-{
-    let Ok(bell) = Arc::try_clone(sender.bell()) else {
-        return Some(WorkFault::Memory);
-    };
-    let mut waits = strategy.begin(rt, &bell, 1);
-    send_each(rt, sender, &mut waits, stretches, cut)
+}
+
+impl<R: Wait> Job<R> for Thousands {
+    fn send(&self, rt: &R, sender: &mut LiveSender, waits: &mut Waits<'_, R>) -> Option<WorkFault> {
+        send_each(rt, sender, waits, self.count, self.cut)
+    }
 }
 
 /// Sends so many thousand events, in claims of up to `cut`, through two handlers that do nothing.
-pub fn send<R: Threads + Wait + Clock + Copy + Send + 'static>(
+pub fn send<R: Threads + Wait + Copy + Send + 'static>(
     rt: R,
     alloc: Global,
-    graph: &Graph,
     strategy: WaitStrategy,
     thousands: u64,
     cut: NonZeroU64,
-) -> Result<(), RunFault> {
-    let size = Size::new(SLOTS)?;
+) -> Result<(), Fault> {
     let handlers = idlers(alloc)?;
-    let ran = run_with(rt, alloc, graph, size, handlers, strategy, |sender| {
-        send_by(&rt, sender, strategy, thousands, cut)
-    })?;
-    let _handlers = ran.finished()?;
-    Ok(())
+    let job = Thousands {
+        count: thousands,
+        cut,
+    };
+    run(rt, alloc, SLOTS, handlers, strategy, &job)
 }

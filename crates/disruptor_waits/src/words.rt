@@ -88,25 +88,36 @@ pub enum Task {
     Latency(Order),
 }
 
-fn two_words(mode: &str, first: &str, second: u64) -> Option<Task> {
+fn read_check(mode: &str) -> Option<Task> {
+    match mode {
+        "--check" => Some(Task::Check),
+        _ => None,
+    }
+}
+
+fn two_words(mode: &str, first: &str, second: &str) -> Option<Task> {
+    let number: u64 = second.parse().ok()?;
     match mode {
         "lone" => Some(Task::Lone {
             strategy: strategy(first)?,
-            events: second,
+            events: number,
         }),
         "idle" => Some(Task::Idle {
             strategy: strategy(first)?,
-            seconds: second,
+            seconds: number,
         }),
         "one-slot" => Some(Task::OneSlot {
             events: first.parse().ok()?,
-            micros: second,
+            micros: number,
         }),
         _ => None,
     }
 }
 
-fn read_rate(way: &str, thousands: &str, cut: &str) -> Option<Task> {
+fn read_rate(mode: &str, way: &str, thousands: &str, cut: &str) -> Option<Task> {
+    if mode != "rate" {
+        return None;
+    }
     Some(Task::Rate {
         strategy: strategy(way)?,
         thousands: thousands.parse().ok()?,
@@ -114,32 +125,38 @@ fn read_rate(way: &str, thousands: &str, cut: &str) -> Option<Task> {
     })
 }
 
-fn read_order(exchange: &str, way: &str, events: &str, gap: &str) -> Option<Order> {
-    Some(Order {
+fn read_order(mode: &str, exchange: &str, way: &str, events: &str, gap: &str) -> Option<Task> {
+    if mode != "latency" {
+        return None;
+    }
+    Some(Task::Latency(Order {
         exchange: Exchange::named(exchange)?,
         strategy: strategy(way)?,
         events: events.parse().ok()?,
         gap: gap.parse().ok()?,
-    })
+    }))
 }
 
 /// Reads the program's words.
 pub fn read(words: &[String]) -> Option<Task> {
     match words {
-        [only] if only.as_str() == "--check" => Some(Task::Check),
-        [mode, first, second] => two_words(mode.as_str(), first.as_str(), second.parse().ok()?),
-        [mode, way, thousands, cut] if mode.as_str() == "rate" => {
-            read_rate(way.as_str(), thousands.as_str(), cut.as_str())
-        }
-        [mode, exchange, way, events, gap] if mode.as_str() == "latency" => {
-            let asked = read_order(
-                exchange.as_str(),
+        [only] => read_check(only.as_str()),
+        [mode, first, second] => two_words(mode.as_str(), first.as_str(), second.as_str()),
+        [mode, way, thousands, cut] => {
+            read_rate(
+                mode.as_str(),
                 way.as_str(),
-                events.as_str(),
-                gap.as_str(),
-            )?;
-            Some(Task::Latency(asked))
+                thousands.as_str(),
+                cut.as_str(),
+            )
         }
+        [mode, exchange, way, events, gap] => read_order(
+            mode.as_str(),
+            exchange.as_str(),
+            way.as_str(),
+            events.as_str(),
+            gap.as_str(),
+        ),
         _ => None,
     }
 }

@@ -64,11 +64,6 @@ fn send<L: Exchange<Event>, R: Wait>(
     }
 }
 
-/// What each handler adds up.
-fn total<L: Exchange<Event>, R>(around: &Around<'_, L, R>) -> u64 {
-    sum_of_first(around.script.len() as u64).wrapping_mul(around.producers)
-}
-
 fn handle<L: Exchange<Event>, R: Wait>(
     around: &Around<'_, L, R>,
     k: usize,
@@ -79,9 +74,10 @@ fn handle<L: Exchange<Event>, R: Wait>(
     let room = &mut buffer[..around.slots.min(MOST_AT_ONCE)];
     let mut sum = Sum { total: 0 };
     let _fault = consume(around.rt, &mut outlet, &OpenGate, k, &mut sum, room);
+    let sent = sum_of_first(around.script.len() as u64).wrapping_mul(around.producers);
     Worked {
         end: outlet.into_end(),
-        saw_all: sum.total == total(around),
+        saw_all: sum.total == sent,
     }
 }
 
@@ -132,40 +128,30 @@ fn join_all<L: Exchange<Event>, R: Threads + Wait>(
     sent
 }
 
-/// All ends, when the threads are joined.
-fn ends<L: Exchange<Event>, R: Threads + Wait>(
-    around: &Around<'_, L, R>,
-    mut workers: Vec<Worker<L>>,
-    mut back: Vec<End<Event, L>>,
-) -> Result<Vec<End<Event, L>>, Fault> {
-    join_all(around, &mut workers, &mut back)?;
-    Ok(back)
-}
-
 /// Starts a thread for each handler, then one for each producer, and joins them all. The ends go to those that are back,
 /// for which there is room, since no thread would be halted where memory ran out. The first one there halts.
 pub fn exchange<L: Exchange<Event> + Send + Sync, R: Threads + Wait + Sync>(
     around: &Around<'_, L, R>,
     alloc: Global,
-    ends_of_threads: Vec<End<Event, L>>,
-    back: Vec<End<Event, L>>,
-) -> Result<Vec<End<Event, L>>, Fault> {
+    ends: Vec<End<Event, L>>,
+    back: &mut Vec<End<Event, L>>,
+) -> Result<(), Fault> {
     thread::scope(
         thread::scope_env(),
         around.rt,
-        move |scope| -> Result<Vec<End<Event, L>>, Fault>
+        move |scope| -> Result<(), Fault>
             requires shared { IsSync L.row }
             requires workers { IsSync R.row }
         {
-            let mut workers = Vec::with_capacity(alloc, ends_of_threads.len())?;
-            for (k, end) in ends_of_threads.into_iter().enumerate() {
+            let mut workers = Vec::with_capacity(alloc, ends.len())?;
+            for (k, end) in ends.into_iter().enumerate() {
                 // Without one of the handlers nobody would make room for the producers.
                 let Ok(worker) = scope.spawn(move || work(around, k, end)) else {
                     break;
                 };
                 workers.push(worker)?;
             }
-            ends(around, workers, back)
+            join_all(around, &mut workers, back)
         },
     )
 }

@@ -24,13 +24,13 @@ pub struct Seat<'a, L: Exchange<Event>, R> {
     pub rt: &'a R,
     pub shared: &'a Shared<Event, L>,
     /// It is there between two stretches.
-    pub end: Option<End<Event, L>>,
+    pub end: &'a mut Option<End<Event, L>>,
     pub number: u64,
 }
 
 impl<L: Exchange<Event>, R: Wait> Seat<'_, L, R> {
     fn stop(&mut self) {
-        if let Some(end) = &mut self.end {
+        if let Some(end) = &mut *self.end {
             halt(self.rt, self.shared, end);
         }
     }
@@ -38,7 +38,7 @@ impl<L: Exchange<Event>, R: Wait> Seat<'_, L, R> {
     /// Asks that the handler is retired, and says whether it takes more.
     fn retire(&mut self) -> Result<Stretch, Fault> {
         let h = self.number as usize;
-        let Some(end) = &mut self.end else {
+        let Some(end) = &mut *self.end else {
             return Err(Fault::Ends);
         };
         match self
@@ -60,7 +60,7 @@ impl<L: Exchange<Event> + Sync, R: Wait + Sync> Producing for Seat<'_, L, R> {
         };
         let mut inlet = LockedInlet::new(self.rt, self.shared, end, self.number);
         let stretch = sending.send(&mut inlet);
-        self.end = Some(inlet.into_end());
+        *self.end = Some(inlet.into_end());
         stretch
     }
 
@@ -82,7 +82,7 @@ impl<L: Exchange<Event> + Sync, R: Wait + Sync> Taking for Seat<'_, L, R> {
         };
         let mut outlet = LockedOutlet::new(self.rt, self.shared, end, self.number as usize);
         let stretch = receiving.receive(&mut outlet, signs);
-        self.end = Some(outlet.into_end());
+        *self.end = Some(outlet.into_end());
         stretch
     }
 

@@ -1,8 +1,8 @@
 //! The handlers' threads.
 
 use crate::clock::nanos_since;
+use crate::fault::Fault;
 use crate::words::Order;
-use dr_disruptor::RunFault;
 use dr_meaning::{Handler, Outlet};
 use dr_seq::Event;
 use dr_workers::{Bell, OpenGate, Ringing, WorkFault, consume_with};
@@ -78,19 +78,22 @@ fn start_one<
 >(
     rt: R,
     alloc: Global,
-    who: usize,
     outlet: O,
     bell: &Arc<Bell, Global>,
     order: Order,
     begun: Instant,
     room: usize,
-) -> Result<Handling, RunFault> {
+    started: &mut Vec<Handling>,
+) -> Result<(), Fault> {
+    let who = started.len();
     let took = vec![in alloc; 0u64; room]?;
     let bell = Arc::try_clone(bell)?;
-    let work = move || handle(&rt, who, outlet, &bell, order, begun, took);
-    match thread::spawn(&rt, work) {
-        Ok(handling) => Ok(handling),
-        Err(_) => Err(RunFault::Memory),
+    match thread::spawn(
+        &rt,
+        move || handle(&rt, who, outlet, &bell, order, begun, took),
+    ) {
+        Ok(handling) => Ok(started.push(handling)?),
+        Err(_) => Err(Fault::Memory),
     }
 }
 
@@ -105,27 +108,27 @@ pub fn start<
     bell: &Arc<Bell, Global>,
     order: Order,
     begun: Instant,
-) -> Result<Vec<Handling>, RunFault> {
+) -> Result<Vec<Handling>, Fault> {
     let last = outlets.len().wrapping_sub(1);
     let mut started = Vec::new(alloc);
-    for (who, outlet) in outlets.into_iter().enumerate() {
-        let room = if who == last { order.events } else { 0 };
-        started.push(start_one(rt, alloc, who, outlet, bell, order, begun, room)?)?;
+    for outlet in outlets {
+        let room = if started.len() == last {
+            order.events
+        } else {
+            0
+        };
+        start_one(rt, alloc, outlet, bell, order, begun, room, &mut started)?;
     }
     Ok(started)
 }
 
 /// Waits for all handlers, and gives what the last one noted.
-pub fn noted<R: Threads>(
-    rt: &R,
-    alloc: Global,
-    started: Vec<Handling>,
-) -> Result<Vec<u64>, RunFault> {
+pub fn noted<R: Threads>(rt: &R, alloc: Global, started: Vec<Handling>) -> Result<Vec<u64>, Fault> {
     let mut last = Vec::new(alloc);
     for (who, handling) in started.into_iter().enumerate() {
         match handling.join(rt) {
             Ok(took) => last = took,
-            Err(fault) => return Err(RunFault::Worker { who, fault }),
+            Err(fault) => return Err(Fault::Worker { who, fault }),
         }
     }
     Ok(last)

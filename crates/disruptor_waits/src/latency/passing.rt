@@ -1,12 +1,12 @@
 //! A measurement over each exchange.
 
 use crate::SENDER;
+use crate::fault::Fault;
 use crate::latency::handling::{noted, start};
 use crate::latency::sending::{Ends, send_all};
-use crate::pair::declare;
+use crate::pair::graph;
 use crate::words::{Exchange, Order};
-use dr_disruptor::RunFault;
-use dr_graph::{Graph, GraphBuilder, GraphFault};
+use dr_graph::Graph;
 use dr_meaning::{MAX_LIMIT, Outlet};
 use dr_plain_senders::senders_ring;
 use dr_ring::ring;
@@ -21,13 +21,11 @@ use std::time::Instant;
 /// The slots of the ring.
 const SLOTS: u64 = 1024;
 
-/// Three handlers, of which each follows the one before it.
-fn pipeline(alloc: Global) -> Result<Graph, GraphFault> {
-    let mut builder = GraphBuilder::new(alloc);
-    let second = declare(&mut builder)?;
-    let _third = builder.then(&second, &["third"])?;
-    builder.build()
-}
+/// Three handlers.
+const NAMES: [&str; 3] = ["first", "second", "third"];
+
+/// Each follows the one before it.
+const EDGES: [(&str, &str); 2] = [("first", "second"), ("second", "third")];
 
 /// Sends through an exchange with these ends.
 fn through<
@@ -41,12 +39,12 @@ fn through<
     begun: Instant,
     sender: I,
     receivers: Vec<O>,
-) -> Result<Vec<u64>, RunFault> {
+) -> Result<Vec<u64>, Fault> {
     let bell = Arc::new(alloc, Bell::new())?;
     let started = start(rt, alloc, receivers, &bell, order, begun)?;
     match send_all(&rt, sender, &bell, order, begun) {
         None => noted(&rt, alloc, started),
-        Some(fault) => Err(RunFault::Worker { who: SENDER, fault }),
+        Some(fault) => Err(Fault::Worker { who: SENDER, fault }),
     }
 }
 
@@ -57,8 +55,10 @@ fn through_ring<R: Threads + Clock + Wait + Copy + Send + 'static>(
     begun: Instant,
     graph: &Graph,
     size: Size,
-) -> Result<Vec<u64>, RunFault> {
-    let (sender, receivers, _halter) = ring(alloc, graph, size, MAX_LIMIT)?;
+) -> Result<Vec<u64>, Fault> {
+    let Ok((sender, receivers, _halter)) = ring(alloc, graph, size, MAX_LIMIT) else {
+        return Err(Fault::Memory);
+    };
     through(rt, alloc, order, begun, sender, receivers)
 }
 
@@ -69,9 +69,12 @@ fn through_plain<R: Threads + Clock + Wait + Copy + Send + 'static>(
     begun: Instant,
     graph: &Graph,
     size: Size,
-) -> Result<Vec<u64>, RunFault> {
+) -> Result<Vec<u64>, Fault> {
     let events = vec![in alloc; Event::NONE; size.get() as usize]?;
-    let (sender, receivers, _halter) = dr_plain::ring(alloc, graph, size, MAX_LIMIT, events)?;
+    let Ok((sender, receivers, _halter)) = dr_plain::ring(alloc, graph, size, MAX_LIMIT, events)
+    else {
+        return Err(Fault::Memory);
+    };
     through(rt, alloc, order, begun, sender, receivers)
 }
 
@@ -82,29 +85,30 @@ fn through_plain_senders<R: Threads + Clock + Wait + Copy + Send + 'static>(
     begun: Instant,
     graph: &Graph,
     size: Size,
-) -> Result<Vec<u64>, RunFault> {
+) -> Result<Vec<u64>, Fault> {
     let events = vec![in alloc; Event::NONE; size.get() as usize]?;
     let Ok((mut senders, receivers, _halter)) = senders_ring(
         alloc, graph, size, MAX_LIMIT, 1, events,
     ) else {
-        return Err(RunFault::Memory);
+        return Err(Fault::Memory);
     };
     match senders.pop() {
         Some(sender) => through(rt, alloc, order, begun, sender, receivers),
-        None => Err(RunFault::Memory),
+        None => Err(Fault::Memory),
     }
 }
 
-/// Sends the events of a measurement through three handlers, and tells how many nanoseconds each took. Its times count
-/// from then on.
+/// Sends the events of a measurement through three handlers, and tells how many nanoseconds each took.
 pub fn pass<R: Threads + Clock + Wait + Copy + Send + 'static>(
     rt: R,
     alloc: Global,
     order: Order,
-    begun: Instant,
-) -> Result<Vec<u64>, RunFault> {
-    let size = Size::new(SLOTS)?;
-    let graph = pipeline(alloc)?;
+) -> Result<Vec<u64>, Fault> {
+    let Ok(size) = Size::new(SLOTS) else {
+        return Err(Fault::Memory);
+    };
+    let begun = Instant::now(&rt)?;
+    let graph = graph(alloc, &NAMES, &EDGES)?;
     match order.exchange {
         Exchange::Ring => through_ring(rt, alloc, order, begun, &graph, size),
         Exchange::Plain => through_plain(rt, alloc, order, begun, &graph, size),
