@@ -3,7 +3,7 @@
 use crate::again::again;
 use crate::fault::Fault;
 use crate::graphs::{TWO, declare, tell_graph};
-use crate::telling::tell_about;
+use crate::telling::Lines;
 use dr_graph::{GraphBuilder, GraphFault, Group};
 use std::alloc::Global;
 
@@ -35,15 +35,15 @@ fn make(builder: &mut GraphBuilder, current: &mut Group, call: &Call) -> Result<
 }
 
 fn tell_call<R: Print>(
-    rt: &R,
+    out: &Lines<R>,
     builder: &mut GraphBuilder,
     current: &mut Group,
     call: &Call,
-) -> Result<(), Fault> {
+) {
     match make(builder, current, call) {
-        Ok(()) => tell_about(rt, "done", *call),
-        Err(GraphFault::NoMemory) => Err(Fault::Memory),
-        Err(fault) => tell_about(rt, fault.name(), *call),
+        Ok(()) => out.about("done", *call),
+        Err(GraphFault::NoMemory) => out.end(Fault::Memory),
+        Err(fault) => out.about(fault.name(), *call),
     }
 }
 
@@ -65,37 +65,31 @@ const CALLS: [Call; 15] = [
     Call::With(&["q"]),
 ];
 
-fn tell_calls<R: Print>(
-    rt: &R,
-    builder: &mut GraphBuilder,
-    current: &mut Group,
-) -> Result<(), Fault> {
+fn tell_calls<R: Print>(out: &Lines<R>, builder: &mut GraphBuilder, current: &mut Group) {
     for call in &CALLS {
-        again!(rt, tell_call(rt, builder, current, call));
+        again!(out, tell_call(out, builder, current, call));
     }
-    Ok(())
 }
 
-fn tell_all_calls<R: Print>(rt: &R, builder: &mut GraphBuilder) -> Result<(), Fault> {
-    let mut current = builder.handle_with(&TWO)?;
-    tell_calls(rt, builder, &mut current)
+fn tell_all_calls<R: Print>(out: &Lines<R>, builder: &mut GraphBuilder) {
+    match builder.handle_with(&TWO) {
+        Ok(mut current) => tell_calls(out, builder, &mut current),
+        Err(fault) => out.end(Fault::from(fault)),
+    }
 }
 
-fn tell_all_again<R: Print>(rt: &R, builder: &mut GraphBuilder) -> Result<(), Fault> {
-    again!(rt, tell_all_calls(rt, builder));
-    Ok(())
-}
-
-fn tell_build<R: Print>(rt: &R, builder: GraphBuilder) -> Result<(), Fault> {
-    let graph = builder.build()?;
-    tell_graph(rt, &graph)
+fn tell_build<R: Print>(out: &Lines<R>, builder: GraphBuilder) {
+    match builder.build() {
+        Ok(graph) => tell_graph(out, &graph),
+        Err(fault) => out.end(Fault::from(fault)),
+    }
 }
 
 /// Makes each call of a builder, and refused ones between them, which change nothing.
-pub fn tell_builder<R: Print>(rt: &R, alloc: Global) -> Result<(), Fault> {
+pub fn tell_builder<R: Print>(out: &Lines<R>, alloc: Global) {
     let mut builder = GraphBuilder::new(alloc);
-    tell_all_again(rt, &mut builder)?;
-    tell_build(rt, builder)
+    again!(out, tell_all_calls(out, &mut builder));
+    tell_build(out, builder);
 }
 
 const FOUR: [&str; 4] = ["a", "b", "c", "d"];
@@ -110,8 +104,10 @@ fn declare_edges(builder: &mut GraphBuilder) -> Result<(), GraphFault> {
 }
 
 /// Builds, with a builder of its own each time.
-pub fn tell_built<R: Print>(rt: &R, alloc: Global) -> Result<(), Fault> {
+pub fn tell_built<R: Print>(out: &Lines<R>, alloc: Global) {
     let mut builder = GraphBuilder::new(alloc);
-    declare_edges(&mut builder)?;
-    tell_build(rt, builder)
+    match declare_edges(&mut builder) {
+        Ok(()) => tell_build(out, builder),
+        Err(fault) => out.end(Fault::from(fault)),
+    }
 }

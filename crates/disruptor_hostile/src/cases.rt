@@ -1,32 +1,26 @@
 //! The cases, by their names.
 
-use crate::again::again;
-use crate::auditing::tell_audits;
 use crate::building::{tell_builder, tell_built};
-use crate::core_calls::{tell_opened, tell_run};
+use crate::core_calls::{OfCore, tell_core, tell_opened};
 use crate::fault::Fault;
+use crate::graphs::diamond;
 use crate::parts::tell_parts;
 use crate::plain_calls::{tell_plain, tell_plain_ends};
 use crate::plain_rings::{ONE_SENDER, TOGETHER, TWO_SENDERS, tell_rings};
 use crate::plain_senders_calls::tell_plain_senders_ends;
-use crate::recording::{tell_calls, tell_recorded};
-use crate::ring_calls::tell_ring;
+use crate::recording::{OfHistory, tell_history};
+use crate::ring_calls::{tell_ends, tell_ring};
 use crate::scripts::tell_scripts;
 use crate::settling::tell_settled;
-use crate::taking_none::{tell_core, tell_ends, tell_kept, tell_many};
+use crate::telling::Lines;
+use dr_graph::Graph;
 use std::alloc::Global;
 use std::sync::Wait;
 use std::thread::Threads;
 
-/// What is called.
+/// What is made over a diamond of handlers.
 #[derive(Clone, Copy)]
-pub enum Case {
-    /// Each call of a builder, refused ones among them.
-    Builder,
-    /// `build`, which spends its builder.
-    Build,
-    Open,
-    Record,
+pub enum Over {
     Ring,
     /// A ring over plain memory.
     Plain,
@@ -36,16 +30,6 @@ pub enum Case {
     PlainSenders,
     /// Such rings whose ends are dropped, one by one.
     PlainSendersDropped,
-    /// `run`, at a gap between two producers.
-    Run,
-    Call,
-    Audit,
-    /// A run in one call, with a thread for each of two handlers and of two scripts.
-    Scripts,
-    /// Every call of cores that are open.
-    Core,
-    /// A poll of many events.
-    Many,
     /// Every call of a ring's ends.
     Ends,
     /// Every call of the ends of a ring over plain memory.
@@ -54,102 +38,99 @@ pub enum Case {
     PlainSendersEnds,
     /// What brings the ends of a ring together.
     Settled,
-    /// `Recorded::call`, with room for what it keeps.
-    Kept,
     /// Every call of slots, rounds, a remembered count and a graph.
     Parts,
 }
 
-impl Case {
-    pub const ALL: [Case; 21] = [
-        Case::Builder,
-        Case::Build,
-        Case::Open,
-        Case::Record,
-        Case::Ring,
-        Case::Plain,
-        Case::PlainDropped,
-        Case::PlainSenders,
-        Case::PlainSendersDropped,
-        Case::Run,
-        Case::Call,
-        Case::Audit,
-        Case::Scripts,
-        Case::Core,
-        Case::Many,
-        Case::Ends,
-        Case::PlainEnds,
-        Case::PlainSendersEnds,
-        Case::Settled,
-        Case::Kept,
-        Case::Parts,
-    ];
+/// What is called.
+#[derive(Clone, Copy)]
+pub enum Case {
+    /// Each call of a builder, refused ones among them.
+    Builder,
+    /// `build`, which spends its builder.
+    Build,
+    /// Cores of one producer and of two.
+    Open,
+    Core(OfCore),
+    History(OfHistory),
+    Over(Over),
+    /// A run in one call, with a thread for each of two handlers and of two scripts.
+    Scripts,
+}
 
-    /// Its name on the command line.
-    pub fn name(self) -> &'static str {
-        match self {
-            Case::Builder => "builder",
-            Case::Build => "build",
-            Case::Open => "open",
-            Case::Record => "record",
-            Case::Ring => "ring",
-            Case::Plain => "plain",
-            Case::PlainDropped => "plain-dropped",
-            Case::PlainSenders => "plain-senders",
-            Case::PlainSendersDropped => "plain-senders-dropped",
-            Case::Run => "run",
-            Case::Call => "call",
-            Case::Audit => "audit",
-            Case::Scripts => "scripts",
-            Case::Core => "core",
-            Case::Many => "many",
-            Case::Ends => "ends",
-            Case::PlainEnds => "plain-ends",
-            Case::PlainSendersEnds => "plain-senders-ends",
-            Case::Settled => "settled",
-            Case::Kept => "kept",
-            Case::Parts => "parts",
+/// The cases, with their names on the command line.
+pub const CASES: [(&str, Case); 21] = [
+    ("builder", Case::Builder),
+    ("build", Case::Build),
+    ("open", Case::Open),
+    ("record", Case::History(OfHistory::Beginning)),
+    ("ring", Case::Over(Over::Ring)),
+    ("plain", Case::Over(Over::Plain)),
+    ("plain-dropped", Case::Over(Over::PlainDropped)),
+    ("plain-senders", Case::Over(Over::PlainSenders)),
+    (
+        "plain-senders-dropped",
+        Case::Over(Over::PlainSendersDropped),
+    ),
+    ("run", Case::Core(OfCore::Run)),
+    ("call", Case::History(OfHistory::Calls)),
+    ("audit", Case::History(OfHistory::Audits)),
+    ("scripts", Case::Scripts),
+    ("core", Case::Core(OfCore::EveryCall)),
+    ("many", Case::Core(OfCore::Many)),
+    ("ends", Case::Over(Over::Ends)),
+    ("plain-ends", Case::Over(Over::PlainEnds)),
+    ("plain-senders-ends", Case::Over(Over::PlainSendersEnds)),
+    ("settled", Case::Over(Over::Settled)),
+    ("kept", Case::History(OfHistory::Kept)),
+    ("parts", Case::Over(Over::Parts)),
+];
+
+/// The case of a name, where there is one.
+pub fn case_of(word: &str) -> Option<Case> {
+    for (name, case) in &CASES {
+        if *name == word {
+            return Some(*case);
         }
     }
+    None
+}
 
-    /// The case of a name, where there is one.
-    pub fn named(name: &str) -> Option<Case> {
-        for case in Case::ALL {
-            if case.name() == name {
-                return Some(case);
-            }
-        }
-        None
+fn tell_over<R: Print>(out: &Lines<R>, alloc: Global, graph: &Graph, over: Over) {
+    match over {
+        Over::Ring => tell_ring(out, alloc, graph),
+        Over::Plain => tell_plain(out, alloc, graph),
+        Over::PlainDropped => tell_rings(out, alloc, graph, &ONE_SENDER),
+        Over::PlainSenders => tell_rings(out, alloc, graph, &TOGETHER),
+        Over::PlainSendersDropped => tell_rings(out, alloc, graph, &TWO_SENDERS),
+        Over::Ends => tell_ends(out, alloc, graph),
+        Over::PlainEnds => tell_plain_ends(out, alloc, graph),
+        Over::PlainSendersEnds => tell_plain_senders_ends(out, alloc, graph),
+        Over::Settled => tell_settled(out, alloc, graph),
+        Over::Parts => tell_parts(out, alloc, graph),
+    }
+}
+
+fn tell_over_diamond<R: Print>(out: &Lines<R>, alloc: Global, over: Over) {
+    match diamond(alloc) {
+        Ok(graph) => tell_over(out, alloc, &graph, over),
+        Err(fault) => out.end(Fault::from(fault)),
     }
 }
 
 fn tell_once<R: Print + Threads + Wait + Copy + Send + 'static>(
-    rt: &R,
+    out: &Lines<R>,
     alloc: Global,
     case: Case,
-) -> Result<(), Fault> {
+) {
     match case {
-        Case::Builder => tell_builder(rt, alloc),
-        Case::Build => tell_built(rt, alloc),
-        Case::Open => tell_opened(rt, alloc),
-        Case::Record => tell_recorded(rt, alloc),
-        Case::Ring => tell_ring(rt, alloc),
-        Case::Plain => tell_plain(rt, alloc),
-        Case::PlainDropped => tell_rings(rt, alloc, &ONE_SENDER),
-        Case::PlainSenders => tell_rings(rt, alloc, &TOGETHER),
-        Case::PlainSendersDropped => tell_rings(rt, alloc, &TWO_SENDERS),
-        Case::Run => tell_run(rt, alloc),
-        Case::Call => tell_calls(rt, alloc),
-        Case::Audit => tell_audits(rt, alloc),
-        Case::Scripts => tell_scripts(*rt, alloc),
-        Case::Core => tell_core(rt, alloc),
-        Case::Many => tell_many(rt, alloc),
-        Case::Ends => tell_ends(rt, alloc),
-        Case::PlainEnds => tell_plain_ends(rt, alloc),
-        Case::PlainSendersEnds => tell_plain_senders_ends(rt, alloc),
-        Case::Settled => tell_settled(rt, alloc),
-        Case::Kept => tell_kept(rt, alloc),
-        Case::Parts => tell_parts(rt, alloc),
+        Case::Builder => tell_builder(out, alloc),
+        Case::Build => tell_built(out, alloc),
+        Case::Open => tell_opened(out, alloc),
+        Case::Core(what) => tell_core(out, alloc, what),
+        Case::History(what) => tell_history(out, alloc, what),
+        Case::Over(over) => tell_over_diamond(out, alloc, over),
+        Case::Scripts => tell_scripts(out, alloc),
     }
 }
 
@@ -160,9 +141,10 @@ pub fn tell<R: Print + Threads + Wait + Copy + Send + 'static>(
     alloc: Global,
     case: Case,
 ) -> Result<(), Fault> {
-    if matches!(case, Case::Builder) {
-        return tell_once(rt, alloc, case);
+    let out = Lines::new(rt);
+    tell_once(&out, alloc, case);
+    if !matches!(case, Case::Builder) && out.ran_out() {
+        tell_once(&out, alloc, case);
     }
-    again!(rt, tell_once(rt, alloc, case));
-    Ok(())
+    out.told()
 }

@@ -1,7 +1,6 @@
 //! Why the program ends early.
 
 use dr_graph::GraphFault;
-use dr_lock::AuditFault;
 use dr_meaning::{OpenFault, Refusal};
 use dr_ring::RingFault;
 use dr_seq::SizeFault;
@@ -85,15 +84,6 @@ impl From<RingFault> for Fault {
     fn from(fault: RingFault) -> Fault {
         match fault {
             RingFault::NoMemory => Fault::Memory,
-            _ => Fault::Refused(fault.name()),
-        }
-    }
-}
-
-impl From<AuditFault> for Fault {
-    fn from(fault: AuditFault) -> Fault {
-        match fault {
-            AuditFault::NoMemory => Fault::Memory,
             _ => Fault::Refused(fault.name()),
         }
     }

@@ -1,7 +1,6 @@
 //! The graphs that the cases open exchanges for.
 
-use crate::fault::Fault;
-use crate::telling::tell_about;
+use crate::telling::Lines;
 use dr_graph::{Graph, GraphBuilder, GraphFault, Group};
 use std::alloc::Global;
 
@@ -35,22 +34,17 @@ pub const ONE: [&str; 1] = ["a"];
 
 pub const TWO: [&str; 2] = ["a", "b"];
 
-const THIRD: [&str; 1] = ["c"];
+pub const THIRD: [&str; 1] = ["c"];
 
 /// Two handlers, and one after both.
 pub fn diamond(alloc: Global) -> Result<Graph, GraphFault> {
     graph(alloc, &TWO, &THIRD)
 }
 
-fn tell_handler<R: Print>(rt: &R, name: &str, upstreams: &[usize]) -> Result<(), Fault> {
-    println!(rt; "{name} after {upstreams:?}")?;
-    Ok(())
-}
-
 /// Tells each handler of a graph, with its upstreams.
-pub fn tell_graph<R: Print>(rt: &R, graph: &Graph) -> Result<(), Fault> {
+pub fn tell_graph<R: Print>(out: &Lines<R>, graph: &Graph) {
     for h in 0..graph.len() {
-        tell_handler(rt, graph.name(h), graph.upstreams(h))?;
+        out.named(graph.name(h), "after", graph.upstreams(h));
     }
-    tell_about(rt, "finals", graph.finals())
+    out.about("finals", graph.finals());
 }

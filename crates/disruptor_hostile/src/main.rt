@@ -25,7 +25,7 @@ mod settling;
 mod taking_none;
 mod telling;
 
-use cases::{Case, tell};
+use cases::{CASES, Case, case_of, tell};
 use fault::Fault;
 use std::alloc::Global;
 use std::env;
@@ -34,16 +34,38 @@ use std::rt::Runtime;
 use std::sync::Wait;
 use std::thread::Threads;
 
+fn tell_named<R: Print + Threads + Wait + Copy + Send + 'static>(
+    rt: &R,
+    alloc: Global,
+    name: &str,
+    case: Case,
+) -> Result<(), Fault> {
+    println!(rt; "case {name}")?;
+    tell(rt, alloc, case)
+}
+
 fn tell_all<R: Print + Threads + Wait + Copy + Send + 'static>(
     rt: &R,
     alloc: Global,
 ) -> Result<(), Fault> {
-    for case in Case::ALL {
-        let name = case.name();
-        println!(rt; "case {name}")?;
-        tell(rt, alloc, case)?;
+    for (name, case) in &CASES {
+        tell_named(rt, alloc, *name, *case)?;
     }
     Ok(())
+}
+
+fn tell_word<R: Print + Threads + Wait + Copy + Send + 'static>(
+    rt: &R,
+    alloc: Global,
+    word: &str,
+) -> Result<(), Fault> {
+    if word == "all" {
+        return tell_all(rt, alloc);
+    }
+    match case_of(word) {
+        Some(case) => tell(rt, alloc, case),
+        None => Err(Fault::Usage),
+    }
 }
 
 fn run<R: Runtime + Alloc<A = Global> + Threads + Wait + Copy + Send + 'static>(
@@ -52,11 +74,7 @@ fn run<R: Runtime + Alloc<A = Global> + Threads + Wait + Copy + Send + 'static>(
     let alloc = rt.alloc();
     let words: Vec<String> = env::args(rt)?.skip(1).collect(alloc)?;
     match words.as_slice() {
-        [all] if all.as_str() == "all" => tell_all(rt, alloc),
-        [name] => match Case::named(name.as_str()) {
-            Some(case) => tell(rt, alloc, case),
-            None => Err(Fault::Usage),
-        },
+        [word] => tell_word(rt, alloc, word.as_str()),
         _ => Err(Fault::Usage),
     }
 }

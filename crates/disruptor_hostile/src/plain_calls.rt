@@ -6,145 +6,136 @@ ghost use Rattle.dr_plain.specs.Calls.Settling.{AreAllEnds, IsHalterOf};
 use crate::again::again;
 use crate::core_calls::word;
 use crate::fault::Fault;
-use crate::graphs::{diamond, tell_graph};
+use crate::graphs::tell_graph;
 use crate::taking_none::tell_memory;
-use crate::telling::{tell_about, tell_both, tell_value, tell_words};
+use crate::telling::Lines;
 use dr_graph::Graph;
 use dr_meaning::MAX_LIMIT;
 use dr_plain::{Halter, Receiver, Sender, Values, finish, ring};
 use dr_seq::{Event, Size};
 use std::alloc::Global;
 
-#[derive(Drop)]
-struct Ends {
-    sender: Sender<Event>,
-    receivers: Vec<Receiver<Event>>,
-    halter: Halter<Event>,
-}
+/// All ends of a ring.
+type Ends = (Sender<Event>, Vec<Receiver<Event>>, Halter<Event>);
 
 /// The ends of a ring of four slots.
 fn opened(alloc: Global, graph: &Graph) -> Result<Ends, Fault>
-    ensures { IfOk result (λ ends. AreAllEnds ends.sender ends.receivers.items × IsHalterOf ends.sender ends.halter) }
+    ensures { IfOk result (λ ends. AreAllEnds ends.0 ends.1.items × IsHalterOf ends.0 ends.2) }
 {
+    let size = Size::new(4)?;
     let events = vec![in alloc; Event::NONE; 4]?;
-    let (sender, receivers, halter) = ring(alloc, graph, Size::new(4)?, MAX_LIMIT, events)?;
-    Ok(Ends {
-        sender,
-        receivers,
-        halter,
-    })
+    Ok(ring(alloc, graph, size, MAX_LIMIT, events)?)
 }
 
-fn tell_sending<R: Print>(rt: &R, sender: &mut Sender<Event>) -> Result<(), Fault> {
-    tell_value(rt, sender.try_claim(2))?;
-    tell_value(rt, sender.try_claim(3))?;
-    tell_value(rt, sender.close())?;
-    tell_value(rt, sender.write(0, word(4)))?;
-    tell_value(rt, sender.update(1, |event| event.first = 5))?;
-    tell_value(rt, sender.write(2, word(6)))?;
-    tell_value(rt, sender.publish(1, 1))?;
-    tell_value(rt, sender.publish(0, 1))?;
-    tell_about(rt, "looked", sender.looks() > 0)
+/// Changes an event where it lies.
+pub fn make_five(event: &mut Event) {
+    event.first = 5;
 }
 
-fn tell_in_hand<R: Print>(rt: &R, receiver: &Receiver<Event>) -> Result<(), Fault> {
+fn tell_sending<R: Print>(out: &Lines<R>, sender: &mut Sender<Event>) {
+    out.value(sender.try_claim(2));
+    out.value(sender.try_claim(3));
+    out.value(sender.close());
+    out.value(sender.write(0, word(4)));
+    out.value(sender.update(1, make_five));
+    out.value(sender.write(2, word(6)));
+    out.value(sender.publish(1, 1));
+    out.value(sender.publish(0, 1));
+    out.about("looked", sender.looks() > 0);
+}
+
+fn tell_in_hand<R: Print>(out: &Lines<R>, receiver: &Receiver<Event>) {
     for event in receiver.events() {
-        tell_value(rt, *event)?;
+        out.value(*event);
     }
-    tell_value(rt, receiver.event(1).copied())?;
-    tell_value(rt, receiver.event(2).copied())
+    out.value(receiver.event(1).copied());
+    out.value(receiver.event(2).copied());
 }
 
-fn tell_receiving<R: Print>(rt: &R, receiver: &mut Receiver<Event>) -> Result<(), Fault> {
-    tell_value(rt, receiver.poll(0))?;
-    tell_value(rt, receiver.poll(1))?;
-    tell_value(rt, receiver.poll(4))?;
-    tell_in_hand(rt, receiver)?;
-    tell_value(rt, receiver.complete(3))?;
-    tell_value(rt, receiver.complete(2))?;
-    tell_value(rt, receiver.poll(4))?;
-    tell_about(rt, "looked", receiver.looks() > 0)
+fn tell_receiving<R: Print>(out: &Lines<R>, receiver: &mut Receiver<Event>) {
+    out.value(receiver.poll(0));
+    out.value(receiver.poll(1));
+    out.value(receiver.poll(4));
+    tell_in_hand(out, receiver);
+    out.value(receiver.complete(3));
+    out.value(receiver.complete(2));
+    out.value(receiver.poll(4));
+    out.about("looked", receiver.looks() > 0);
 }
 
-fn tell_ending<R: Print>(rt: &R, ends: &mut Ends) -> Result<(), Fault> {
-    ends.halter.halt();
-    tell_value(rt, ends.sender.try_claim(1))?;
-    tell_value(rt, ends.sender.close())?;
-    for receiver in ends.receivers.iter_mut() {
-        tell_value(rt, receiver.poll(1))?;
+fn tell_polls<R: Print>(out: &Lines<R>, receivers: &mut [Receiver<Event>]) {
+    for receiver in receivers.iter_mut() {
+        out.value(receiver.poll(1));
     }
-    Ok(())
 }
 
-fn tell_calls<R: Print>(rt: &R, ends: &mut Ends) -> Result<(), Fault> {
-    tell_sending(rt, &mut ends.sender)?;
-    for receiver in ends.receivers.iter_mut() {
-        tell_receiving(rt, receiver)?;
+fn tell_calls<R: Print>(
+    out: &Lines<R>,
+    sender: &mut Sender<Event>,
+    receivers: &mut [Receiver<Event>],
+    halter: &mut Halter<Event>,
+) {
+    tell_sending(out, sender);
+    for receiver in receivers.iter_mut() {
+        tell_receiving(out, receiver);
     }
-    tell_ending(rt, ends)
-}
-
-fn tell_open<R: Print>(rt: &R, ends: &mut Ends) -> Result<(), Fault> {
-    tell_words(rt, "open")?;
-    tell_calls(rt, ends)
+    halter.halt();
+    out.value(sender.try_claim(1));
+    out.value(sender.close());
+    tell_polls(out, receivers);
 }
 
 /// How far a ring came, and the events of its four cells, when its ends came together. That took no memory.
 pub fn tell_back<R: Print>(
-    rt: &R,
+    out: &Lines<R>,
     alloc: Global,
     claimed: u64,
     handlers: usize,
     events: &mut Values<Event>,
-) -> Result<(), Fault> {
-    tell_both(rt, claimed, handlers)?;
+) {
+    out.between(claimed, " ", handlers);
     for _ in 0..5 {
-        tell_value(rt, events.next())?;
+        out.value(events.next());
     }
-    tell_memory(rt, alloc)
+    tell_memory(out, alloc);
 }
 
 // Brings the ends of a ring together, and tells what came back.
-fn tell_finished<R: Print>(rt: &R, alloc: Global, ends: Ends) -> Result<(), Fault>
-    requires { AreAllEnds ends.sender ends.receivers.items × IsHalterOf ends.sender ends.halter }
+fn tell_finished<R: Print>(out: &Lines<R>, alloc: Global, ends: Ends)
+    requires { AreAllEnds ends.0 ends.1.items × IsHalterOf ends.0 ends.2 }
 {
-    let (settled, mut events) = finish(ends.sender, ends.receivers, ends.halter);
+    let (sender, receivers, halter) = ends;
+    let (settled, mut events) = finish(sender, receivers, halter);
     let (claimed, handlers) = (settled.claimed(), settled.handlers());
-    tell_back(rt, alloc, claimed, handlers, &mut events)
+    tell_back(out, alloc, claimed, handlers, &mut events);
 }
 
-fn tell_ring_over<R: Print>(rt: &R, alloc: Global, graph: &Graph) -> Result<(), Fault> {
-    let mut ends = opened(alloc, graph)?;
-    tell_calls(rt, &mut ends)
-}
-
-fn tell_ring_of<R: Print>(rt: &R, alloc: Global, graph: &Graph) -> Result<(), Fault> {
-    again!(rt, tell_ring_over(rt, alloc, graph));
-    tell_graph(rt, graph)
-}
-
-/// Makes a ring, and makes every call of its ends.
-pub fn tell_plain<R: Print>(rt: &R, alloc: Global) -> Result<(), Fault> {
-    let graph = diamond(alloc)?;
-    tell_ring_of(rt, alloc, &graph)
-}
-
-fn tell_open_ring<R: Print>(rt: &R, alloc: Global, graph: &Graph) -> Result<(), Fault> {
-    let mut ends = opened(alloc, graph)?;
-    tell_open(rt, &mut ends)
-}
-
-// The ends of another ring are there before.
-fn tell_ends_of<R: Print>(rt: &R, alloc: Global, graph: &Graph) -> Result<(), Fault> {
-    let other = opened(alloc, graph)?;
-    match tell_open_ring(rt, alloc, graph) {
-        Ok(()) => tell_finished(rt, alloc, other),
-        Err(fault) => Err(fault),
+/// Makes a ring, says something, and makes every call of its ends.
+fn tell_ring_over<R: Print>(out: &Lines<R>, alloc: Global, graph: &Graph, says_open: bool) {
+    match opened(alloc, graph) {
+        Ok((mut sender, mut receivers, mut halter)) => {
+            if says_open {
+                out.words("open");
+            }
+            tell_calls(out, &mut sender, receivers.as_mut_slice(), &mut halter);
+        }
+        Err(fault) => out.end(fault),
     }
 }
 
-/// Every call of a ring's ends, and what brings those of another together.
-pub fn tell_plain_ends<R: Print>(rt: &R, alloc: Global) -> Result<(), Fault> {
-    let graph = diamond(alloc)?;
-    tell_ends_of(rt, alloc, &graph)
+/// Makes a ring, and makes every call of its ends.
+pub fn tell_plain<R: Print>(out: &Lines<R>, alloc: Global, graph: &Graph) {
+    again!(out, tell_ring_over(out, alloc, graph, false));
+    tell_graph(out, graph);
+}
+
+/// Every call of a ring's ends, and what brings those of another together, which are there before.
+pub fn tell_plain_ends<R: Print>(out: &Lines<R>, alloc: Global, graph: &Graph) {
+    match opened(alloc, graph) {
+        Ok(other) => {
+            tell_ring_over(out, alloc, graph, true);
+            tell_finished(out, alloc, other);
+        }
+        Err(fault) => out.end(fault),
+    }
 }

@@ -2,11 +2,11 @@
 
 use crate::again::again;
 use crate::fault::Fault;
-use crate::graphs::{diamond, tell_graph};
+use crate::graphs::tell_graph;
 use crate::plain_dropping::tell_plain_used;
 use crate::plain_senders_dropping::tell_plain_senders_used;
 use crate::plain_senders_making::{are_dropped, four_numbers, tell_together};
-use crate::telling::tell_about;
+use crate::telling::Lines;
 use dr_graph::Graph;
 use std::alloc::Global;
 use std::sync::Arc;
@@ -76,45 +76,37 @@ pub fn drop_in_turn<S: Drop, O: Drop, C: Drop, H: Drop>(
 
 /// Makes a ring over an event for each number, and ends it: each event is dropped then.
 fn tell_ring<R: Print>(
-    rt: &R,
+    out: &Lines<R>,
     alloc: Global,
     graph: &Graph,
     numbers: &[Arc<u64>],
     end: End,
-) -> Result<(), Fault> {
+) {
     match end {
-        End::OneSender(turn) => tell_plain_used(rt, alloc, graph, numbers, turn)?,
-        End::TwoSenders(turn) => tell_plain_senders_used(rt, alloc, graph, numbers, turn)?,
-        End::Together(count) => tell_together(rt, alloc, graph, numbers, count)?,
+        End::OneSender(turn) => tell_plain_used(out, alloc, graph, numbers, turn),
+        End::TwoSenders(turn) => tell_plain_senders_used(out, alloc, graph, numbers, turn),
+        End::Together(count) => tell_together(out, alloc, graph, numbers, count),
     }
-    tell_about(rt, "dropped", are_dropped(numbers))
+    out.about("dropped", are_dropped(numbers));
 }
 
 fn tell_rings_of<R: Print>(
-    rt: &R,
+    out: &Lines<R>,
     alloc: Global,
     graph: &Graph,
     numbers: &[Arc<u64>],
     ends: &[End],
-) -> Result<(), Fault> {
+) {
     for end in ends {
-        again!(rt, tell_ring(rt, alloc, graph, numbers, *end));
+        again!(out, tell_ring(out, alloc, graph, numbers, *end));
     }
-    tell_graph(rt, graph)
-}
-
-fn tell_rings_over<R: Print>(
-    rt: &R,
-    alloc: Global,
-    graph: &Graph,
-    ends: &[End],
-) -> Result<(), Fault> {
-    let numbers = four_numbers(alloc)?;
-    tell_rings_of(rt, alloc, graph, numbers.as_slice(), ends)
+    tell_graph(out, graph);
 }
 
 /// Makes rings, each of which ends in one of these ways.
-pub fn tell_rings<R: Print>(rt: &R, alloc: Global, ends: &[End]) -> Result<(), Fault> {
-    let graph = diamond(alloc)?;
-    tell_rings_over(rt, alloc, &graph, ends)
+pub fn tell_rings<R: Print>(out: &Lines<R>, alloc: Global, graph: &Graph, ends: &[End]) {
+    match four_numbers(alloc) {
+        Ok(numbers) => tell_rings_of(out, alloc, graph, numbers.as_slice(), ends),
+        Err(_) => out.end(Fault::Memory),
+    }
 }

@@ -5,32 +5,23 @@ ghost use Rattle.std.specs.Prelude.{IfOk};
 ghost use Rattle.dr_plain_senders.specs.Calls.Settling.{AreAllEnds};
 
 use crate::fault::Fault;
-use crate::telling::{tell_about, tell_both, tell_words};
+use crate::telling::Lines;
 use dr_graph::Graph;
 use dr_meaning::MAX_LIMIT;
-use dr_plain_senders::{Halter, Receiver, Sender, Settled, Values, finish, senders_ring};
+use dr_plain_senders::{Halter, Receiver, Sender, finish, senders_ring};
 use dr_seq::Size;
 use std::alloc::{AllocError, Global};
 use std::sync::Arc;
 
-#[derive(Drop)]
-pub struct Ends<T> {
-    pub senders: Vec<Sender<T>>,
-    pub receivers: Vec<Receiver<T>>,
-    pub halter: Halter<T>,
-}
+/// All ends of a ring.
+pub type Ends<T> = (Vec<Sender<T>>, Vec<Receiver<T>>, Halter<T>);
 
 /// The ends of a ring over some events, with two senders.
 pub fn opened<T: Drop>(alloc: Global, graph: &Graph, events: Vec<T>) -> Result<Ends<T>, Fault>
-    ensures { IfOk result (λ ends. AreAllEnds ends.senders.items ends.receivers.items ends.halter) }
+    ensures { IfOk result (λ ends. AreAllEnds ends.0.items ends.1.items ends.2) }
 {
     let size = Size::new(events.len() as u64)?;
-    let (senders, receivers, halter) = senders_ring(alloc, graph, size, MAX_LIMIT, 2, events)?;
-    Ok(Ends {
-        senders,
-        receivers,
-        halter,
-    })
+    Ok(senders_ring(alloc, graph, size, MAX_LIMIT, 2, events)?)
 }
 
 /// An event that has a part in a number, in which nobody else has one but who keeps the numbers.
@@ -73,7 +64,7 @@ pub fn are_dropped(numbers: &[Arc<u64>]) -> bool {
 }
 
 fn opened_with(alloc: Global, graph: &Graph, numbers: &[Arc<u64>]) -> Result<Ends<Counted>, Fault>
-    ensures { IfOk result (λ ends. AreAllEnds ends.senders.items ends.receivers.items ends.halter) }
+    ensures { IfOk result (λ ends. AreAllEnds ends.0.items ends.1.items ends.2) }
 {
     let events = events_of(alloc, numbers)?;
     opened(alloc, graph, events)
@@ -85,7 +76,7 @@ pub fn opened_over(
     graph: &Graph,
     numbers: &[Arc<u64>],
 ) -> Result<Ends<Counted>, Fault>
-    ensures { IfOk result (λ ends. AreAllEnds ends.senders.items ends.receivers.items ends.halter) }
+    ensures { IfOk result (λ ends. AreAllEnds ends.0.items ends.1.items ends.2) }
 {
     match opened_with(alloc, graph, numbers) {
         Ok(ends) => Ok(ends),
@@ -99,43 +90,38 @@ pub fn opened_over(
     }
 }
 
-fn tell_event<R: Print>(rt: &R, event: Option<Counted>) -> Result<(), Fault> {
-    match event {
-        Some(one) => tell_about(rt, "event", *one.number),
-        None => tell_words(rt, "no event"),
-    }
-}
+/// Changes nothing of an event.
+pub fn leave(_event: &mut Counted) {}
 
-/// Uses so many of the events that came back.
-fn tell_some<R: Print>(
-    rt: &R,
-    settled: &Settled<Counted>,
-    events: &mut Values<Counted>,
-    count: usize,
-) -> Result<(), Fault> {
-    tell_both(rt, settled.claimed(), settled.handlers())?;
-    for _ in 0..count {
-        tell_event(rt, events.next())?;
+fn tell_event<R: Print>(out: &Lines<R>, event: Option<Counted>) {
+    match event {
+        Some(one) => out.about("event", *one.number),
+        None => out.words("no event"),
     }
-    Ok(())
 }
 
 /// Brings the ends of a ring together, uses so many of the events that come back, and drops the others.
-fn tell_back<R: Print>(rt: &R, ends: Ends<Counted>, count: usize) -> Result<(), Fault>
-    requires { AreAllEnds ends.senders.items ends.receivers.items ends.halter }
+fn tell_back<R: Print>(out: &Lines<R>, ends: Ends<Counted>, count: usize)
+    requires { AreAllEnds ends.0.items ends.1.items ends.2 }
 {
-    let (settled, mut events) = finish(ends.senders, ends.receivers, ends.halter);
-    tell_some(rt, &settled, &mut events, count)
+    let (senders, receivers, halter) = ends;
+    let (settled, mut events) = finish(senders, receivers, halter);
+    out.between(settled.claimed(), " ", settled.handlers());
+    for _ in 0..count {
+        tell_event(out, events.next());
+    }
 }
 
 /// Makes a ring, brings its ends together, and uses so many of the events that come back.
 pub fn tell_together<R: Print>(
-    rt: &R,
+    out: &Lines<R>,
     alloc: Global,
     graph: &Graph,
     numbers: &[Arc<u64>],
     count: usize,
-) -> Result<(), Fault> {
-    let ends = opened_over(alloc, graph, numbers)?;
-    tell_back(rt, ends, count)
+) {
+    match opened_over(alloc, graph, numbers) {
+        Ok(ends) => tell_back(out, ends, count),
+        Err(fault) => out.end(fault),
+    }
 }

@@ -3,7 +3,7 @@
 use crate::core_calls::word;
 use crate::fault::Fault;
 use crate::graphs::{TWO, graph};
-use crate::telling::{tell_about, tell_value};
+use crate::telling::Lines;
 use dr_disruptor_senders::{Ran, RunFault, WaitStrategy, run_scripts};
 use dr_graph::Graph;
 use dr_meaning::Handler;
@@ -74,29 +74,38 @@ fn ran<R: Threads + Wait + Copy + Send + 'static>(
     }
 }
 
-fn tell_handlers<R: Print>(rt: &R, handlers: &[Merged]) -> Result<(), Fault> {
+fn tell_handlers<R: Print>(out: &Lines<R>, handlers: &[Merged]) {
     for handler in handlers {
-        tell_value(rt, *handler)?;
+        out.value(*handler);
     }
-    Ok(())
 }
 
-fn tell_ran<R: Print>(rt: &R, ran: Ran<Merged>) -> Result<(), Fault> {
-    tell_about(rt, "claimed", ran.settled.claimed())?;
+fn tell_ran<R: Print>(out: &Lines<R>, ran: Ran<Merged>) {
+    out.about("claimed", ran.settled.claimed());
     match ran.finished() {
-        Ok(handlers) => tell_handlers(rt, handlers.as_slice()),
-        Err(_) => Err(Fault::Refused("a worker")),
+        Ok(handlers) => tell_handlers(out, handlers.as_slice()),
+        Err(_) => out.end(Fault::Refused("a worker")),
+    }
+}
+
+fn tell_ran_over<R: Print + Threads + Wait + Copy + Send + 'static>(
+    out: &Lines<R>,
+    alloc: Global,
+    graph: &Graph,
+) {
+    match ran(*out.rt, alloc, graph) {
+        Ok(ran) => tell_ran(out, ran),
+        Err(fault) => out.end(fault),
     }
 }
 
 /// Sends two scripts through two handlers side by side.
 pub fn tell_scripts<R: Print + Threads + Wait + Copy + Send + 'static>(
-    rt: R,
+    out: &Lines<R>,
     alloc: Global,
-) -> Result<(), Fault> {
-    let graph = graph(alloc, &TWO, &[])?;
-    match ran(rt, alloc, &graph) {
-        Ok(ran) => tell_ran(&rt, ran),
-        Err(fault) => Err(fault),
+) {
+    match graph(alloc, &TWO, &[]) {
+        Ok(graph) => tell_ran_over(out, alloc, &graph),
+        Err(fault) => out.end(Fault::from(fault)),
     }
 }

@@ -1,17 +1,17 @@
 //! Calls that never take memory. Each case says `open`, makes every call of what it opened, and then
 //! asks for memory once, and tells whether it was given any.
 
-use crate::core_calls::{opened, word};
+use crate::core_calls::{FIVE, FOUR, THREE, TWO, opened, word};
 use crate::fault::Fault;
-use crate::graphs::{ONE, diamond, graph};
-use crate::recording::{call, commands, recorded};
-use crate::telling::{tell_about, tell_both, tell_value, tell_words};
+use crate::recording::{COMMANDS, call};
+use crate::ring_calls::tell_polls;
+use crate::telling::Lines;
 use dr_core::{Core, processor_turn};
-use dr_graph::Graph;
 use dr_lock::Recorded;
-use dr_meaning::{Command, Handler, MAX_LIMIT, Mode};
-use dr_ring::{Halter, Receiver, Sender, ring};
-use dr_seq::{Event, Size};
+use dr_meaning::Command::{Claim, Complete, Halt, Poll, Publish, Retire, Write};
+use dr_meaning::{Command, Handler, Mode};
+use dr_ring::{Halter, Receiver, Sender};
+use dr_seq::Event;
 use std::alloc::Global;
 
 /// Counts the events that it is shown.
@@ -47,265 +47,254 @@ impl Handler<Event> for Sum {
 }
 
 /// Asks for memory, and tells whether there was any.
-pub fn tell_memory<R: Print>(rt: &R, alloc: Global) -> Result<(), Fault> {
-    match Vec::<u64>::with_capacity(alloc, 1) {
-        Ok(_) => tell_words(rt, "memory"),
-        Err(_) => tell_words(rt, "no-memory"),
+pub fn tell_memory<R: Print>(out: &Lines<R>, alloc: Global) {
+    out.words(match Vec::<u64>::with_capacity(alloc, 1) {
+        Ok(_) => "memory",
+        Err(_) => "no-memory",
+    });
+}
+
+/// Makes a call of a core, and tells its answer. A poll has room for four events.
+fn tell_call<R: Print>(out: &Lines<R>, core: &mut Core<Event>, command: Command<Event>) {
+    let mut events = [Event::NONE; 4];
+    match command {
+        Claim { p, n } => out.value(core.claim(p, n)),
+        Write { p, s, event } => out.value(core.write(p, s, event)),
+        Publish { p, lo, hi } => out.value(core.publish(p, lo, hi)),
+        Poll { h, max: _ } => out.value(core.poll_into(h, &mut events)),
+        Complete { h, upto } => out.value(core.complete(h, upto)),
+        Retire { h } => out.value(core.retire(h)),
+        Halt => core.halt(),
     }
 }
 
-fn tell_sending<R: Print>(rt: &R, core: &mut Core<Event>) -> Result<(), Fault> {
-    tell_value(rt, core.claim(0, 2))?;
-    tell_value(rt, core.claim(1, 3))?;
-    tell_value(rt, core.claim(2, 1))?;
-    tell_value(rt, core.write(0, 0, word(4)))?;
-    tell_value(rt, core.write(1, 1, word(5)))?;
-    tell_value(rt, core.write(0, 1, word(5)))?;
-    tell_value(rt, core.publish(0, 0, 1))?;
-    tell_value(rt, core.publish(0, 0, 1))?;
-    Ok(())
+fn tell_calls<R: Print>(out: &Lines<R>, core: &mut Core<Event>, commands: &[Command<Event>]) {
+    for command in commands {
+        tell_call(out, core, *command);
+    }
 }
 
-fn tell_receiving<R: Print>(rt: &R, core: &mut Core<Event>) -> Result<(), Fault> {
-    let mut out = [Event::NONE; 4];
-    tell_value(rt, core.ready(0))?;
-    tell_value(rt, core.poll_into(0, &mut out))?;
-    tell_value(rt, core.poll_into(2, &mut out))?;
-    tell_value(rt, core.complete(0, 2))?;
-    tell_value(rt, core.complete(0, 3))
-}
+const SENDING: [Command<Event>; 8] = [
+    Claim { p: 0, n: 2 },
+    Claim { p: 1, n: 3 },
+    Claim { p: 2, n: 1 },
+    Write {
+        p: 0,
+        s: 0,
+        event: FOUR,
+    },
+    Write {
+        p: 1,
+        s: 1,
+        event: FIVE,
+    },
+    Write {
+        p: 0,
+        s: 1,
+        event: FIVE,
+    },
+    Publish { p: 0, lo: 0, hi: 1 },
+    Publish { p: 0, lo: 0, hi: 1 },
+];
 
-fn tell_turn<R: Print>(rt: &R, core: &mut Core<Event>) -> Result<(), Fault> {
-    let mut out = [Event::NONE; 4];
+const RECEIVING: [Command<Event>; 4] = [
+    Poll { h: 0, max: 4 },
+    Poll { h: 2, max: 4 },
+    Complete { h: 0, upto: 2 },
+    Complete { h: 0, upto: 3 },
+];
+
+const SENDING_MORE: [Command<Event>; 6] = [
+    Complete { h: 2, upto: 2 },
+    Claim { p: 0, n: 3 },
+    Write {
+        p: 0,
+        s: 2,
+        event: TWO,
+    },
+    Write {
+        p: 0,
+        s: 3,
+        event: THREE,
+    },
+    Write {
+        p: 0,
+        s: 4,
+        event: FOUR,
+    },
+    Publish { p: 0, lo: 2, hi: 4 },
+];
+
+const ENDING: [Command<Event>; 5] = [
+    Retire { h: 0 },
+    Retire { h: 2 },
+    Halt,
+    Claim { p: 0, n: 1 },
+    Poll { h: 1, max: 4 },
+];
+
+fn tell_turn<R: Print>(out: &Lines<R>, core: &mut Core<Event>) {
+    let mut events = [Event::NONE; 4];
     let mut count = Count { shown: 0 };
-    tell_value(rt, processor_turn(core, 1, &mut count, &mut out))?;
-    tell_value(rt, count)?;
-    tell_value(rt, core.execute(Command::Poll { h: 2, max: 4 }, &mut out))?;
-    tell_value(rt, out)
-}
-
-fn tell_sending_more<R: Print>(rt: &R, core: &mut Core<Event>) -> Result<(), Fault> {
-    tell_value(rt, core.complete(2, 2))?;
-    tell_value(rt, core.claim(0, 3))?;
-    for s in 2..5 {
-        tell_value(rt, core.write(0, s, word(s)))?;
-    }
-    tell_value(rt, core.publish(0, 2, 4))
+    out.value(processor_turn(core, 1, &mut count, &mut events));
+    out.value(count);
+    out.value(core.execute(Poll { h: 2, max: 4 }, &mut events));
+    out.value(events);
 }
 
 /// Turns of all handlers over three events that lie in two pieces, of one that took them all, and of one that the graph lacks.
-fn tell_turns_in_place<R: Print>(rt: &R, core: &mut Core<Event>) -> Result<(), Fault> {
+fn tell_turns_in_place<R: Print>(out: &Lines<R>, core: &mut Core<Event>) {
     let mut sum = Sum { total: 0 };
     for h in 0..3 {
-        tell_value(rt, core.turn_in_place(h, &mut sum))?;
-        tell_value(rt, sum)?;
+        out.value(core.turn_in_place(h, &mut sum));
+        out.value(sum);
     }
-    tell_value(rt, core.turn_in_place(0, &mut sum))?;
-    tell_value(rt, core.turn_in_place(3, &mut sum))
+    out.value(core.turn_in_place(0, &mut sum));
+    out.value(core.turn_in_place(3, &mut sum));
 }
 
-fn tell_ending<R: Print>(rt: &R, core: &mut Core<Event>) -> Result<(), Fault> {
-    let mut out = [Event::NONE; 4];
-    tell_value(rt, core.retire(0))?;
-    tell_value(rt, core.retire(2))?;
-    core.halt();
-    tell_value(rt, core.claim(0, 1))?;
-    tell_value(rt, core.poll_into(1, &mut out))?;
+/// Turns of one that has to go on, and of one that retired.
+fn tell_last_turns<R: Print>(out: &Lines<R>, core: &mut Core<Event>) {
     let mut count = Count { shown: 0 };
-    tell_value(rt, core.turn_in_place(1, &mut count))?;
-    tell_value(rt, core.turn_in_place(2, &mut count))
+    out.value(core.turn_in_place(1, &mut count));
+    out.value(core.turn_in_place(2, &mut count));
 }
 
-fn tell_claims<R: Print>(rt: &R, core: &Core<Event>) -> Result<(), Fault> {
-    let (next, size) = (core.next(), core.size().get());
-    println!(rt; "{next} claimed in {size} slots")?;
-    Ok(())
-}
+const COUNTS: [&str; 4] = ["", " ", " ", ""];
 
-fn tell_front<R: Print>(rt: &R, core: &Core<Event>) -> Result<(), Fault> {
-    let (front, producers) = (core.front(), core.producers());
-    println!(rt; "{front} in front of {producers}")?;
-    Ok(())
-}
-
-fn tell_handler<R: Print>(rt: &R, taken: u64, completed: u64, retired: bool) -> Result<(), Fault> {
-    println!(rt; "{taken} {completed} {retired}")?;
-    Ok(())
-}
-
-fn tell_handlers<R: Print>(rt: &R, core: &Core<Event>) -> Result<(), Fault> {
+/// The counts of a core and of its handlers.
+fn tell_counts<R: Print>(out: &Lines<R>, core: &Core<Event>) {
+    out.claims(core.next(), core.size().get());
+    out.between(core.front(), " in front of ", core.producers());
+    out.value(core.is_halted());
     for h in 0..core.graph().len() {
-        tell_handler(rt, core.taken(h), core.completed(h), core.is_retired(h))?;
+        out.three(
+            &COUNTS,
+            core.taken(h),
+            core.completed(h),
+            core.is_retired(h),
+        );
     }
-    tell_value(rt, core.graph().position("c"))
+    out.value(core.graph().position("c"));
 }
 
-fn tell_counts<R: Print>(rt: &R, core: &Core<Event>) -> Result<(), Fault> {
-    tell_claims(rt, core)?;
-    tell_front(rt, core)?;
-    tell_value(rt, core.is_halted())?;
-    tell_handlers(rt, core)
+fn tell_calls_of_core<R: Print>(out: &Lines<R>, core: &mut Core<Event>) {
+    tell_calls(out, core, &SENDING);
+    out.value(core.ready(0));
+    tell_calls(out, core, &RECEIVING);
+    tell_turn(out, core);
+    tell_calls(out, core, &SENDING_MORE);
+    tell_turns_in_place(out, core);
+    tell_calls(out, core, &ENDING);
+    tell_last_turns(out, core);
+    tell_counts(out, core);
 }
 
-fn tell_calls_of_core<R: Print>(rt: &R, core: &mut Core<Event>) -> Result<(), Fault> {
-    tell_sending(rt, core)?;
-    tell_receiving(rt, core)?;
-    tell_turn(rt, core)?;
-    tell_sending_more(rt, core)?;
-    tell_turns_in_place(rt, core)?;
-    tell_ending(rt, core)?;
-    tell_counts(rt, core)
-}
-
-fn tell_calls_of_cores<R: Print>(
-    rt: &R,
+fn tell_cores<R: Print>(
+    out: &Lines<R>,
     alloc: Global,
     of_two: &mut Core<Event>,
     of_one: &mut Core<Event>,
-) -> Result<(), Fault> {
-    tell_words(rt, "open")?;
-    tell_calls_of_core(rt, of_two)?;
-    tell_calls_of_core(rt, of_one)?;
-    tell_memory(rt, alloc)
+) {
+    out.words("open");
+    tell_calls_of_core(out, of_two);
+    tell_calls_of_core(out, of_one);
+    tell_memory(out, alloc);
 }
 
 /// Every call of a core of two producers, and of one of a single producer.
-pub fn tell_core<R: Print>(rt: &R, alloc: Global) -> Result<(), Fault> {
-    let mut of_two = opened(alloc, Mode::Multi(2))?;
-    match opened(alloc, Mode::Single) {
-        Ok(mut of_one) => tell_calls_of_cores(rt, alloc, &mut of_two, &mut of_one),
-        Err(fault) => Err(fault),
+pub fn tell_core_beside<R: Print>(out: &Lines<R>, alloc: Global, of_two: &mut Core<Event>) {
+    match opened(alloc, true, 4, Mode::Single) {
+        Ok(mut of_one) => tell_cores(out, alloc, of_two, &mut of_one),
+        Err(fault) => out.end(fault),
     }
 }
 
 /// More events than a poll copies one by one.
-const MANY: usize = 32;
+pub const MANY: usize = 32;
 
-/// A core with a slot for each of so many events, and a single handler.
-fn large(alloc: Global) -> Result<Core<Event>, Fault> {
-    let size = Size::new(MANY as u64)?;
-    let graph = graph(alloc, &ONE, &[])?;
-    Ok(Core::open(alloc, graph, size, Mode::Single, MAX_LIMIT, Event::NONE)?)
-}
-
-fn tell_many_sent<R: Print>(rt: &R, core: &mut Core<Event>) -> Result<(), Fault> {
-    tell_value(rt, core.claim(0, MANY as u64))?;
+fn tell_many_sent<R: Print>(out: &Lines<R>, core: &mut Core<Event>) {
+    out.value(core.claim(0, MANY as u64));
     for s in 0..MANY as u64 {
-        core.write(0, s, word(s))?;
+        out.done(core.write(0, s, word(s)));
     }
-    tell_value(rt, core.publish(0, 0, MANY as u64 - 1))
+    out.value(core.publish(0, 0, MANY as u64 - 1));
 }
 
-fn tell_many_taken<R: Print>(rt: &R, core: &mut Core<Event>) -> Result<(), Fault> {
-    let mut out = [Event::NONE; MANY];
-    tell_value(rt, core.poll_into(0, &mut out))?;
-    tell_both(rt, out[0], out[MANY - 1])
+fn tell_many_taken<R: Print>(out: &Lines<R>, core: &mut Core<Event>) {
+    let mut events = [Event::NONE; MANY];
+    out.value(core.poll_into(0, &mut events));
+    out.between(events[0], " ", events[MANY - 1]);
 }
 
-fn tell_many_of<R: Print>(rt: &R, alloc: Global, core: &mut Core<Event>) -> Result<(), Fault> {
-    tell_words(rt, "open")?;
-    tell_many_sent(rt, core)?;
-    tell_many_taken(rt, core)?;
-    tell_memory(rt, alloc)
+/// A poll of so many events that they are not copied one by one, by a single handler.
+pub fn tell_many<R: Print>(out: &Lines<R>, alloc: Global, core: &mut Core<Event>) {
+    out.words("open");
+    tell_many_sent(out, core);
+    tell_many_taken(out, core);
+    tell_memory(out, alloc);
 }
 
-/// A poll of so many events that they are not copied one by one.
-pub fn tell_many<R: Print>(rt: &R, alloc: Global) -> Result<(), Fault> {
-    let mut core = large(alloc)?;
-    tell_many_of(rt, alloc, &mut core)
+fn tell_sender<R: Print>(out: &Lines<R>, sender: &mut Sender) {
+    out.value(sender.try_claim(2));
+    out.value(sender.try_claim(3));
+    out.value(sender.close());
+    out.value(sender.write(0, word(4)));
+    out.value(sender.write(1, word(5)));
+    out.value(sender.write(2, word(6)));
+    out.value(sender.publish(1, 1));
+    out.value(sender.publish(0, 1));
+    out.about("looked", sender.looks() > 0);
 }
 
-fn tell_sender<R: Print>(rt: &R, sender: &mut Sender) -> Result<(), Fault> {
-    tell_value(rt, sender.try_claim(2))?;
-    tell_value(rt, sender.try_claim(3))?;
-    tell_value(rt, sender.close())?;
-    tell_value(rt, sender.write(0, word(4)))?;
-    tell_value(rt, sender.write(1, word(5)))?;
-    tell_value(rt, sender.write(2, word(6)))?;
-    tell_value(rt, sender.publish(1, 1))?;
-    tell_value(rt, sender.publish(0, 1))?;
-    tell_about(rt, "looked", sender.looks() > 0)
-}
-
-fn tell_receiver<R: Print>(rt: &R, receiver: &mut Receiver) -> Result<(), Fault> {
-    let mut out = [Event::NONE; 4];
-    tell_value(rt, receiver.poll_into(&mut []))?;
-    tell_value(rt, receiver.poll_into(&mut out[..1]))?;
-    tell_value(rt, receiver.poll_into(&mut out))?;
-    tell_value(rt, receiver.complete(3))?;
-    tell_value(rt, receiver.complete(2))?;
-    tell_value(rt, receiver.poll_into(&mut out))?;
-    println!(rt; "{out:?} looked {}", receiver.looks() > 0)?;
-    Ok(())
-}
-
-fn tell_end<R: Print>(
-    rt: &R,
-    sender: &mut Sender,
-    receivers: &mut [Receiver],
-    halter: &mut Halter,
-) -> Result<(), Fault> {
-    halter.halt();
-    tell_value(rt, sender.try_claim(1))?;
-    tell_value(rt, sender.close())?;
-    for receiver in receivers.iter_mut() {
-        tell_value(rt, receiver.poll_into(&mut [Event::NONE]))?;
-    }
-    Ok(())
-}
-
-fn tell_calls_of_ends<R: Print>(
-    rt: &R,
-    alloc: Global,
-    sender: &mut Sender,
-    receivers: &mut [Receiver],
-    halter: &mut Halter,
-) -> Result<(), Fault> {
-    tell_words(rt, "open")?;
-    tell_sender(rt, sender)?;
-    for receiver in receivers.iter_mut() {
-        tell_receiver(rt, receiver)?;
-    }
-    tell_end(rt, sender, receivers, halter)?;
-    tell_memory(rt, alloc)
-}
-
-fn tell_ends_of<R: Print>(rt: &R, alloc: Global, graph: &Graph) -> Result<(), Fault> {
-    let size = Size::new(4)?;
-    let (mut sender, mut receivers, mut halter) = ring(alloc, graph, size, MAX_LIMIT)?;
-    tell_calls_of_ends(
-        rt,
-        alloc,
-        &mut sender,
-        receivers.as_mut_slice(),
-        &mut halter,
-    )
+fn tell_receiver<R: Print>(out: &Lines<R>, receiver: &mut Receiver) {
+    let mut events = [Event::NONE; 4];
+    out.value(receiver.poll_into(&mut []));
+    out.value(receiver.poll_into(&mut events[..1]));
+    out.value(receiver.poll_into(&mut events));
+    out.value(receiver.complete(3));
+    out.value(receiver.complete(2));
+    out.value(receiver.poll_into(&mut events));
+    out.between(events, " looked ", receiver.looks() > 0);
 }
 
 /// Every call of a ring's ends.
-pub fn tell_ends<R: Print>(rt: &R, alloc: Global) -> Result<(), Fault> {
-    let graph = diamond(alloc)?;
-    tell_ends_of(rt, alloc, &graph)
+pub fn tell_every_call<R: Print>(
+    out: &Lines<R>,
+    alloc: Global,
+    sender: &mut Sender,
+    receivers: &mut [Receiver],
+    halter: &mut Halter,
+) {
+    out.words("open");
+    tell_sender(out, sender);
+    for receiver in receivers.iter_mut() {
+        tell_receiver(out, receiver);
+    }
+    halter.halt();
+    out.value(sender.try_claim(1));
+    out.value(sender.close());
+    tell_polls(out, receivers);
+    tell_memory(out, alloc);
 }
 
-fn tell_calls_kept<R: Print>(
-    rt: &R,
-    alloc: Global,
+fn tell_kept_call<R: Print>(
+    out: &Lines<R>,
     recorded: &mut Recorded<Event>,
-) -> Result<(), Fault> {
-    tell_words(rt, "open")?;
-    for command in commands() {
-        let mut out = [Event::NONE; 8];
-        let reply = call(recorded, command, &mut out)?;
-        tell_value(rt, reply)?;
+    command: Command<Event>,
+) {
+    match call(recorded, command) {
+        Ok(reply) => out.value(reply),
+        Err(fault) => out.end(fault),
     }
-    let kept = recorded.history().len();
-    tell_both(rt, kept, recorded.values())?;
-    tell_memory(rt, alloc)
 }
 
 /// The calls of a history that has room for all that it is to keep.
-pub fn tell_kept<R: Print>(rt: &R, alloc: Global) -> Result<(), Fault> {
-    let mut recorded = recorded(alloc, 17, 8)?;
-    tell_calls_kept(rt, alloc, &mut recorded)
+pub fn tell_kept<R: Print>(out: &Lines<R>, alloc: Global, recorded: &mut Recorded<Event>) {
+    out.words("open");
+    for command in &COMMANDS {
+        tell_kept_call(out, recorded, *command);
+    }
+    out.between(recorded.history().len(), " ", recorded.values());
+    tell_memory(out, alloc);
 }

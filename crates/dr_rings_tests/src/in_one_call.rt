@@ -4,9 +4,8 @@ use crate::checks::check;
 use crate::graphs::{Shape, graph};
 use crate::work::{Count, Tally, Work};
 use dr_disruptor::{
-    RunFault, WaitStrategy, run, run_here, run_three, run_two, run_waiting, run_with,
+    Ran, RunFault, WaitStrategy, run, run_here, run_three, run_two, run_waiting, run_with,
 };
-use dr_graph::Graph;
 use dr_seq::{Event, Size};
 use dr_workers::{OpenGate, produce};
 use std::alloc::Global;
@@ -29,26 +28,28 @@ fn handlers(rt: &impl Abort, alloc: Global, last: u64) -> Vec<Work> {
     vec![in alloc; Work::Sum(0), Work::Keep(0), Work::Sum(last)].expect(rt, "memory")
 }
 
-/// What the handlers of a diamond come to, where all is done.
-fn worked<R: Threads + Wait + Abort + Copy + Send + 'static>(
-    rt: R,
-    alloc: Global,
-    graph: &Graph,
-    script: &[Event],
-) -> Vec<Work> {
-    let size = Size::new(8).expect(&rt, "a size");
-    let ran = run(rt, alloc, graph, size, handlers(&rt, alloc, 1), script).expect(&rt, "a run");
-    check(&rt, ran.settled.published(), script.len() as u64);
-    ran.finished().expect(&rt, "handlers")
+/// A run published so many events, and the handlers of a diamond came to this.
+fn check_ran(
+    rt: &impl Abort,
+    ran: Result<Ran<Work>, RunFault>,
+    published: u64,
+    wanted: &[Work; 3],
+) {
+    let ran = ran.expect(rt, "a run");
+    check(rt, ran.settled.published(), published);
+    let handlers = ran.finished().expect(rt, "handlers");
+    check(rt, handlers.as_slice(), &wanted[..]);
 }
 
 #[test]
 fn a_script_through_a_diamond(rt: HostRuntime) {
+    let size = Size::new(8).expect(&rt, "a size");
     let graph = graph(&rt, rt.alloc(), Shape::Diamond);
     let script = script(&rt, rt.alloc());
-    let handlers = worked(rt, rt.alloc(), &graph, script.as_slice());
+    let handlers = handlers(&rt, rt.alloc(), 1);
+    let ran = run(rt, rt.alloc(), &graph, size, handlers, script.as_slice());
     let wanted = [Work::Sum(499_500), Work::Keep(999), Work::Sum(499_501)];
-    check(&rt, handlers.as_slice(), &wanted[..]);
+    check_ran(&rt, ran, 1000, &wanted);
 }
 
 fn check_handlers(rt: &impl Abort, alloc: Global, fault: &RunFault) {
@@ -122,94 +123,72 @@ fn handlers_of_another_number_are_not_called(rt: HostRuntime) {
     check(&rt, called(rt, rt.alloc(), Shape::Chain, false), 4);
 }
 
-/// What the handlers of a diamond come to, where a closure sends an event five times.
-fn sent_by_a_closure<R: Threads + Wait + Abort + Copy + Send + 'static>(
-    rt: R,
-    alloc: Global,
-    graph: &Graph,
-    event: Event,
-) -> Vec<Work> {
-    let size = Size::new(2).expect(&rt, "a size");
-    let handlers = handlers(&rt, alloc, 0);
-    let way = WaitStrategy::Spinning;
-    let ran = run_with(rt, alloc, graph, size, handlers, way, |sender| {
-        produce(&rt, sender, &OpenGate, 16, &[event; 5], 1).fault
-    });
-    let ran = ran.expect(&rt, "a run");
-    ran.finished().expect(&rt, "handlers")
-}
+const SEVEN: Event = Event {
+    first: 7,
+    second: 0,
+};
+
+const THREE: Event = Event {
+    first: 3,
+    second: 0,
+};
 
 #[test]
 fn events_by_a_closure(rt: HostRuntime) {
-    let event = Event {
-        first: 7,
-        second: 0,
-    };
+    let size = Size::new(2).expect(&rt, "a size");
     let graph = graph(&rt, rt.alloc(), Shape::Diamond);
-    let handlers = sent_by_a_closure(rt, rt.alloc(), &graph, event);
-    let wanted = [Work::Sum(35), Work::Keep(7), Work::Sum(35)];
-    check(&rt, handlers.as_slice(), &wanted[..]);
-}
-
-/// What the handlers of a diamond come to by yielding.
-fn yielded<R: Threads + Wait + Abort + Copy + Send + 'static>(
-    rt: R,
-    alloc: Global,
-    graph: &Graph,
-    event: Event,
-) -> Vec<Work> {
-    let size = Size::new(8).expect(&rt, "a size");
-    let handlers = handlers(&rt, alloc, 0);
-    let way = WaitStrategy::Yielding;
-    let ran = run_waiting(rt, alloc, graph, size, handlers, &[event; 100], way);
-    let ran = ran.expect(&rt, "a run");
-    ran.finished().expect(&rt, "handlers")
+    let handlers = handlers(&rt, rt.alloc(), 0);
+    let way = WaitStrategy::Spinning;
+    let ran = run_with(rt, rt.alloc(), &graph, size, handlers, way, |sender| {
+        produce(&rt, sender, &OpenGate, 16, &[SEVEN; 5], 1).fault
+    });
+    check_ran(&rt, ran, 5, &[Work::Sum(35), Work::Keep(7), Work::Sum(35)]);
 }
 
 #[test]
 fn a_script_by_yielding(rt: HostRuntime) {
-    let event = Event {
-        first: 3,
-        second: 0,
-    };
+    let size = Size::new(8).expect(&rt, "a size");
     let graph = graph(&rt, rt.alloc(), Shape::Diamond);
-    let handlers = yielded(rt, rt.alloc(), &graph, event);
+    let handlers = handlers(&rt, rt.alloc(), 0);
+    let way = WaitStrategy::Yielding;
+    let ran = run_waiting(rt, rt.alloc(), &graph, size, handlers, &[THREE; 100], way);
     let wanted = [Work::Sum(300), Work::Keep(3), Work::Sum(300)];
-    check(&rt, handlers.as_slice(), &wanted[..]);
+    check_ran(&rt, ran, 100, &wanted);
 }
 
 #[test]
-fn handlers_of_two_and_of_three_types(rt: HostRuntime) {
+fn handlers_of_two_types(rt: HostRuntime) {
     let size = Size::new(8).expect(&rt, "a size");
-    let script = [Event {
-        first: 3,
-        second: 0,
-    }; 100];
-    let chain = graph(&rt, rt.alloc(), Shape::Chain);
-    let two = run_two(
+    let graph = graph(&rt, rt.alloc(), Shape::Chain);
+    let script = [THREE; 100];
+    let ran = run_two(
         rt,
         rt.alloc(),
-        &chain,
+        &graph,
         size,
         Work::Sum(0),
         Count(0),
         &script,
     );
-    let (sum, count) = two.expect(&rt, "a run");
-    check(&rt, sum, Work::Sum(300));
-    check(&rt, count, Count(100));
-    let diamond = graph(&rt, rt.alloc(), Shape::Diamond);
-    let three = run_three(
+    check(&rt, ran.expect(&rt, "a run"), (Work::Sum(300), Count(100)));
+}
+
+#[test]
+fn handlers_of_three_types(rt: HostRuntime) {
+    let size = Size::new(8).expect(&rt, "a size");
+    let graph = graph(&rt, rt.alloc(), Shape::Diamond);
+    let script = [THREE; 100];
+    let alloc = rt.alloc();
+    let ran = run_three(
         rt,
-        rt.alloc(),
-        &diamond,
+        alloc,
+        &graph,
         size,
         Count(0),
         Work::Keep(0),
         Count(1),
         &script,
     );
-    let (first, second, third) = three.expect(&rt, "a run");
-    check(&rt, second, Work::Keep(3));
-    check(&rt, [first, third], [Count(100), Count(101)]);
+    let wanted = (Count(100), Work::Keep(3), Count(101));
+    check(&rt, ran.expect(&rt, "a run"), wanted);
 }
