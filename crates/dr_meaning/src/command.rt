@@ -1,14 +1,13 @@
 //! What is asked of an exchange, and what it answers.
 
-ghost use Rattle.std.specs.Prelude.{◌≡◌, ⊤};
+ghost use Rattle.std.specs.Prelude.{◌≡◌};
 ghost use Rattle.dr_meaning.specs.Meaning.Runs.{count_in};
 
 use crate::refusal::Refusal;
-use std::alloc::AllocError;
 
 /// One call on an exchange. Producers go by number from 0, and handlers by their number in the
 /// built order of the graph.
-#[derive(Debug, PartialEq, Eq)]
+#[derive(Clone, Copy, Debug, PartialEq, Eq)]
 pub enum Command<E> {
     /// Producer `p` asks for the next `n` sequences.
     Claim { p: u64, n: u64 },
@@ -25,18 +24,6 @@ pub enum Command<E> {
     /// Handler `h` takes no more events, and claims no longer wait for it.
     Retire { h: usize },
 }
-
-impl<E: Copy> Clone for Command<E> {
-    ghost is_clone = { λ command copy. copy ≡ command };
-
-    ghost is_infallible = { λ _. ⊤ };
-
-    fn clone(&self) -> Result<Self, AllocError> {
-        Ok(*self)
-    }
-}
-
-impl<E: Copy> Copy for Command<E> {}
 
 /// What a call answers.
 #[derive(Clone, Copy, Debug, PartialEq, Eq)]
