@@ -1,7 +1,6 @@
 //! The core: the exchange on one thread.
 
 ghost use Rattle.std.specs.Prelude.{◌≡◌, ◌↔◌, ◌<◌, Err, IfOk, ◌≤◌, true, false, not, slice_index};
-ghost use Rattle.dr_core.specs.Inside.Availability.{HasOwners};
 ghost use Rattle.dr_core.specs.Calls.CoreView.{opened, retired_in};
 ghost use Rattle.dr_core.specs.Calls.Going.{IsNeverStuck};
 ghost use Rattle.dr_core.specs.Calls.Shows.{IsOpened};
@@ -10,7 +9,7 @@ ghost use Rattle.dr_meaning.specs.Calls.OpenFault.{has_bad_producers, is_bad_lim
 ghost use Rattle.dr_core.specs.Calls.Reached.{IsReached};
 ghost use Rattle.dr_core.specs.Calls.Shows.{Shows};
 
-use crate::engine::retiring::flag_gating;
+use crate::engine::opening::{gating_at_first, none_counted, none_marked, owners_for};
 use dr_graph::Graph;
 use dr_meaning::{Mode, OpenFault, is_valid_limit};
 use dr_seq::{Rounds, Size, Slots};
@@ -18,6 +17,7 @@ use std::alloc::{AllocError, Global};
 use std::marker::Model;
 
 mod execute;
+mod opening;
 mod polling;
 mod publishing;
 mod retiring;
@@ -104,16 +104,11 @@ impl<E: Copy> Core<E> {
         requires limit { is_bad_limit limit ≡ false }
         ensures { IfOk result (λ core. IsOpened core (setup_of graph.upstreams size mode limit) graph.names) }
     {
-        let handlers = graph.len();
-        let published = Rounds::new(alloc, size)?;
-        let written = Rounds::new(alloc, size)?;
+        let (published, written) = none_marked(alloc, size)?;
         let owners = owners_for(alloc, mode, size)?;
         let events = Slots::new(alloc, size, blank)?;
-        let taken = vec![in alloc; 0u64; handlers]?;
-        let completed = vec![in alloc; 0u64; handlers]?;
-        let retired = vec![in alloc; false; handlers]?;
-        let mut gating = vec![in alloc; false; handlers]?;
-        flag_gating(&graph, &retired, &mut gating);
+        let (taken, completed, retired) = none_counted(alloc, graph.len())?;
+        let gating = gating_at_first(alloc, &graph, &retired)?;
         Ok(Core {
             graph,
             size,
@@ -218,15 +213,5 @@ impl<E: Copy> Core<E> {
         ensures { result ≡ retired_in self.now h }
     {
         self.retired[h]
-    }
-}
-
-/// Slots for the numbers of several producers; one producer needs none.
-fn owners_for(alloc: Global, mode: Mode, size: Size) -> Result<Vec<u64>, AllocError>
-    ensures { IfOk result (λ owners. HasOwners mode owners.items size) }
-{
-    match mode {
-        Mode::Single => Ok(Vec::new(alloc)),
-        Mode::Multi(_) => Ok(vec![in alloc; 0u64; size.get() as usize]?),
     }
 }
