@@ -6,7 +6,7 @@
     bench/beside.py sizes              ring sizes from 1 to 65,536
     bench/beside.py handlers           1 to 16 handlers, in a chain and side by side
     bench/beside.py claims             claims of 1 to 1000 events
-    bench/beside.py widths             events of 1, 2, 8 and 16 words, on one thread
+    bench/beside.py widths             events of 1, 2, 8 and 16 words, on one thread and through plain memory
     bench/beside.py producers          1 to 16 producers behind a lock
     bench/beside.py senders            1 to 16 senders of one ring; three of them are LMAX's `sequencer`
     bench/beside.py languages          the rings from C beside ours, channels and LMAX, with `--library`
@@ -72,7 +72,7 @@ class Programs:
     def rate(self, kind, topology, size):
         """Millions of events a second, or None where it takes too long."""
         words = self.given.under.split() + self.words[kind]
-        name = f"plain-{topology}" if kind == "memory" else topology
+        name = f"plain{'' if topology[0].isdigit() else '-'}{topology}" if kind == "memory" else topology
         words += [name, str(size), str(self.given.seconds), str(self.given.rounds)]
         try:
             ran = subprocess.run(words, stdout=subprocess.PIPE, text=True, timeout=self.given.patience)
@@ -136,12 +136,13 @@ def grow(programs, word, steps):
 
 
 def widths(programs):
-    """The core of large and small events beside the plain ring of them."""
-    print_head(["words an event", "size", "ours", "ring"])
-    for pace in ("", "-b10"):
-        for words, name in ((1, "core1"), (2, "core"), (8, "core8"), (16, "core16")):
-            for size in SIZES:
-                print_row(f"{words}{pace} | {size}", programs, ("ours", "ring"), f"{name}-unicast{pace}", size)
+    """The core of large and small events beside the plain ring of them, and the ring over plain memory."""
+    for prefix, kinds in (("core", ("ours", "ring")), ("", ("memory",))):
+        print_head(["words an event", "size", *kinds])
+        for pace in ("", "-b10"):
+            for words, width in ((1, "1-"), (2, "-" if prefix else ""), (8, "8-"), (16, "16-")):
+                for size in SIZES:
+                    print_row(f"{words}{pace} | {size}", programs, kinds, f"{prefix}{width}unicast{pace}", size)
 
 
 def producers(programs):

@@ -2,7 +2,7 @@
 """Long runs over exchanges, with a thread for each end.
 
     tests/long_runs.py                         some minutes
-    tests/long_runs.py --events 1000000000     as many events as asked, through all topologies of the ring together
+    tests/long_runs.py --events 1000000000     as many events as asked, through all topologies of the rings together
     tests/long_runs.py --rounds 100000         as many exchanges of each kind that are halted at a random time
     tests/long_runs.py --lone 1000000          as many lone events
     tests/long_runs.py --seed 7                other exchanges
@@ -25,6 +25,8 @@ BENCH = os.path.join(TOP, "crates", "disruptor_bench", "out", "disruptor_bench")
 HALTS = os.path.join(TOP, "crates", "disruptor_halts", "out", "disruptor_halts")
 WAITS = os.path.join(TOP, "crates", "disruptor_waits", "out", "disruptor_waits")
 SIZES = (64, 1024, 65536)
+# Topologies of several senders, which the program's list leaves out.
+SEVERAL = [f"plain-senders3-{shape}{pace}" for shape in ("unicast", "pipeline", "multicast", "diamond") for pace in ("", "-b10", "-b100")]
 ROUNDS_AT_ONCE = 200
 
 
@@ -49,15 +51,17 @@ def passed(topology, size, wanted):
 
 
 def pass_events(wanted):
-    topologies = [name for name in run([BENCH, "--list"]).stdout.split() if not name.startswith("core")]
+    topologies = [name for name in run([BENCH, "--list"]).stdout.split() if not name.startswith("core")] + SEVERAL
     each = -(-wanted // (len(topologies) * len(SIZES)))
-    total = 0
+    totals = {}
     for topology in topologies:
         for size in SIZES:
             events, seconds = passed(topology, size, each)
-            total += events
+            ring = next((it for it in ("plain-senders", "plain") if topology.startswith(it)), "words")
+            totals[ring] = totals.get(ring, 0) + events
             print(f"{topology} {size}: {events} events in {seconds:.1f} s, sums right", flush=True)
-    print(f"{total} events through the ring, all sums right", flush=True)
+    for ring, events in totals.items():
+        print(f"{events} events through {ring}, all sums right", flush=True)
 
 
 def halt_exchanges(seed, rounds):

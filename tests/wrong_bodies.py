@@ -146,11 +146,18 @@ class Libraries:
             return together.said_by(["rt", "must-fail", name], room)[1]
 
 
+def are_busy():
+    """Whether as many threads as there are processors run, or could, beside the one that asks."""
+    return int(re.search(r"(\d+)/", open("/proc/loadavg").read())[1]) > prove.processors()
+
+
 class Lanes:
-    """Work that runs side by side, one piece on each processor as far as memory goes, the most urgent first. Work may add more."""
+    """Work that runs side by side, one piece on each processor as far as memory goes, the most urgent first. Work may add more. While
+    they are held, it goes only on processors that others leave idle: two checks on one take more of its time than one after the other."""
 
     def __init__(self):
         self.ready, self.added, self.running, self.changed = [], 0, 0, threading.Condition()
+        self.are_held, self.taken_at = False, 0
 
     def add(self, urgency, work):
         with self.changed:
@@ -159,16 +166,24 @@ class Lanes:
             self.changed.notify()
 
     def take(self):
-        """Returns the next work, once there is memory for it, or None where all is done."""
+        """Returns the next work, once there is memory and a processor for it, or None where all is done."""
         with self.changed:
-            while self.running and (not self.ready or prove.memory() < ROOM):
+            while self.are_to_wait():
                 self.changed.wait(1)
-            self.running += bool(self.ready)
+            self.running, self.taken_at = self.running + bool(self.ready), time.time()
             return heapq.heappop(self.ready)[2] if self.ready else None
 
-    def hold(self):
-        """Has the lanes wait for work that is still to be added, until it is released."""
-        self.running += 1
+    def are_to_wait(self):
+        """Whether others keep all processors busy, as what was taken in this second may, or there is no work yet, or no memory for it."""
+        if self.are_held and (time.time() < self.taken_at + 1 or are_busy()):
+            return True
+        return bool(self.running or self.are_held) and (not self.ready or prove.memory() < ROOM)
+
+    def hold(self, are_held):
+        """Has the lanes wait for work that is still to be added, or no longer do so."""
+        with self.changed:
+            self.are_held = are_held
+            self.changed.notify_all()
 
     def release(self):
         with self.changed:
@@ -271,7 +286,7 @@ class Trial:
                         crate.kept, crate.is_open = f"{self.room}/{name}", True
                         self.lanes.add(-MANY, functools.partial(self.begin, name))
         finally:
-            self.lanes.release()
+            self.lanes.hold(False)
 
     def begin(self, name):
         """Has the longest check of bodies begin from nothing, and then the others, each over what those before it kept."""
@@ -360,7 +375,7 @@ class Trial:
     def run(self, file=None):
         """Tries all edits, tells what was not refused, and returns how many were refused, and how many not."""
         if file:
-            self.lanes.hold()
+            self.lanes.hold(True)
             threading.Thread(target=self.follow, args=(file,), daemon=True).start()
         else:
             self.prove_what_is_ready()
