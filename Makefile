@@ -77,7 +77,7 @@ help:
 	@echo '  make bench                events a second of core and ring: some minutes, and many where other work runs'
 	@echo '  make bench-plots          draws what bench/measured holds, as docs/pictures, and writes its tables: seconds'
 	@echo '  make hello DIR=../hello   starts a repository of your own in that folder, with a program over the'
-	@echo '                            ring, which is proved, built and run: some minutes'
+	@echo '                            ring, which is proved, built and run: ten to 25 minutes'
 	@echo '  make clean                removes what was built, and what proofs are kept'
 	@echo
 	@echo 'What is printed of proofs goes to $(log).'

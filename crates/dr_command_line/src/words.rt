@@ -118,7 +118,7 @@ its number, its balance, and how many movements it was refused.
 
 It ends with 0 where all is done, 1 where the command line is at fault, 2 where
 the file is at fault, 3 if memory runs out, 4 where reading or writing failed and
-5 where a worker was refused or stopped, or an audit found the history amiss.";
+5 where a worker was stopped, or an audit found the history amiss.";
 
 const CHECK: &str = "Check a file for drive or replay, and say where it is at fault";
 
