@@ -50,4 +50,10 @@ if [ -n "$others" ]; then
     printf 'an end that is dropped does more than to leave what it holds:\n%s\n' "$others"
     exit 1
 fi
+dropped=$(cat crates/dr_plain/src/*.rt crates/dr_plain/src/laws/*.rt crates/dr_plain_senders/src/*.rt crates/dr_plain_senders/src/laws/*.rt)
+ends=$(grep -cE '^impl.* Drop for (Sender|Receiver|Halter)<' <<< "$dropped") left=$(grep -cE '^    +drop\(ring\.[a-z]+\.leave\(' <<< "$dropped")
+if [ "$ends" != 6 ] || [ "$left" != 6 ]; then
+    echo "of six ends that may be dropped $ends are found, and $left that leave what they hold"
+    exit 1
+fi
 echo 'each load and store of a ring is a step of its laws, and a dropped end does no more than leave'

@@ -51,7 +51,7 @@ impl<T> Model for Sender<T> {
 
 impl<T> Sender<T> {
     /// Claims the next `n` sequences. It looks at halt first, then at the final handlers' counts
-    /// where those that it remembers leave no room, and at halt once more.
+    /// where those that it remembers leave no room, as you read in the code, and at halt once more.
     ///
     /// The causes of a refusal in their order: `BadCount` (none, or more than the size), `Halted`,
     /// `Exhausted`, `NoRoom`, and `Halted` once more. A refused claim may have looked, and changes

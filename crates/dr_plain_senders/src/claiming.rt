@@ -1,6 +1,6 @@
 //! What a claim is made of, and why it is refused.
 
-ghost use Rattle.std.specs.Prelude.{◌≡◌, ◌+◌, ◌^◌, ◌≤◌, IfOk};
+ghost use Rattle.std.specs.Prelude.{◌≡◌, ◌+◌, ◌^◌, ◌≤◌, IfOk, Some};
 ghost use Rattle.dr_plain_senders.specs.Calls.ClaimFault.{number_of, name_of};
 ghost use Rattle.dr_plain_senders.specs.Calls.Ends.{HasLoaded};
 ghost use Rattle.dr_plain_senders.specs.Calls.Sending.{ClaimCall, ClaimTakes, IsCount};
@@ -9,17 +9,16 @@ ghost use Rattle.dr_plain_senders.specs.Inside.Scans.{Scans, ClaimsApart};
 use crate::laws::SenderStation;
 use crate::plan::HALT_BIT;
 use dr_meaning::{Claimed, Refusal};
+use std::error::Error;
+use std::fmt;
 use std::marker::Brand;
-use thiserror::Error;
 
 /// Why a claim is refused.
-#[derive(Clone, Copy, Debug, PartialEq, Eq, Error)]
+#[derive(Clone, Copy, Debug, PartialEq, Eq)]
 pub enum ClaimFault {
     /// For a cause that every exchange has.
-    #[error("{0}")]
     Refused(Refusal),
     /// Another sender claimed meanwhile, and nothing is changed: the claim may be tried again.
-    #[error("contended")]
     Contended,
 }
 
@@ -46,6 +45,16 @@ impl ClaimFault {
     }
 }
 
+impl fmt::Display for ClaimFault {
+    ghost output = { λ fault. Some (name_of fault) };
+
+    fn fmt<W: fmt::Write>(&self, f: &mut fmt::Formatter<W>) -> fmt::Result {
+        f.write_str(self.name())
+    }
+}
+
+impl Error for ClaimFault {}
+
 impl<T> SenderStation<T> {
     /// Claims the next `n` sequences. It looks at the claim word, then at each final handler's
     /// count, and exchanges the claim word if it still is what it was. It then has the slots of
@@ -53,7 +62,8 @@ impl<T> SenderStation<T> {
     ///
     /// The causes of a refusal in their order: `BadCount` (none, or more than the size), `Halted`,
     /// `Exhausted`, `NoRoom`, and at the exchange `Halted` once more, or `Contended`: another
-    /// sender claimed meanwhile. A refused claim may have looked, and changes nothing else.
+    /// sender claimed meanwhile. A refused claim may have looked, and at the exchange have
+    /// stored what was there; it changes nothing else.
     #[tactic(auto, using(crate::proofs::Stations::begins_same, crate::proofs::Stations::begins_on))]
     pub fn try_claim(&mut self, n: u64) -> Result<Claimed, ClaimFault>
         ensures call { ClaimCall self.old n self.new result }

@@ -108,7 +108,7 @@ impl<T> Sender<T> {
     ///
     /// Refusals in their order: `BadCount` (`lo` above `hi`), `NotClaimed` (`hi` is nobody's), and
     /// of the first sequence that is refused `AlreadyPublished`, `NotClaimed` (another sender's) or
-    /// `NotWritten`. They change nothing.
+    /// `NotWritten`. They change nothing but what the sender remembers of its looks.
     pub fn publish(&mut self, lo: u64, hi: u64) -> Result<(), Refusal>
         ensures call { PublishCall self.old lo hi self.new result }
         ensures beyond { lo ≤ hi → 2 ^ 62 ≤ hi → result ≡ Err NotClaimed }

@@ -15,7 +15,7 @@ impl<T> Sender<T> {
     /// moved.
     ///
     /// Refusals in their order: `NotClaimed` (nobody's), `AlreadyPublished`, `NotClaimed` (another
-    /// sender's). They change nothing.
+    /// sender's). They change nothing but what the sender remembers of its looks.
     pub fn update<F: FnOnce(&mut T) + Drop>(
         &mut self,
         sequence: u64,

@@ -52,7 +52,7 @@ impl<T: Drop> Sender<T> {
     /// one that was written before, or of what lay in its cell, which is dropped.
     ///
     /// Refusals in their order: `NotClaimed` (nobody's), `AlreadyPublished`, `NotClaimed` (another
-    /// sender's). They change nothing.
+    /// sender's). They change nothing but what the sender remembers of its looks.
     pub fn write(&mut self, sequence: u64, event: T) -> Result<(), Refusal>
         ensures call { WriteCall self.old sequence event self.new result }
         ensures beyond { 2 ^ 62 ≤ sequence → result ≡ Err NotClaimed }

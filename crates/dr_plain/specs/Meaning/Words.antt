@@ -1,5 +1,5 @@
 -- Where each word of a ring lies, and each slot of its lanes. Words that different ends store are 16 words or more apart,
--- so that no two ends write to one cache line; the words between are never touched.
+-- so that no two ends write to one cache line, but for the word of the halt; the words between are never touched.
 use Rattle.std.specs.Prelude.{ℕ, ◌+◌, ◌*◌, ◌%◌}
 use Rattle.dr_plain.specs.Meaning.Shape.{Shape, handlers_of}
 

@@ -19,8 +19,8 @@ use Rattle.dr_plain_senders.specs.Meaning.Records.{Owns, is_published, mark_look
 use Rattle.dr_plain_senders.specs.Calls.Ends.{SenderEnd, sender_place}
 
 -- The refusals of each call are the machine's, in its order. What a sender knows of its own sequences is exact. Of another's it learns by looks at
--- the claim word, at its mark and at the claim word again whether it is published, which these tell exactly; all that is then left of the machine's
--- tests is answered `NotClaimed`, as the machine answers it at one of these moments (`moments`). A sequence at the limit or beyond is never claimed.
+-- the claim word, at its mark and at the claim word again whether it is published, which these tell exactly (`moments`) if it looks at the mark between
+-- the others: a record does not tell that. All that is then left of the machine's tests is answered `NotClaimed`. A sequence at the limit or beyond is never claimed.
 
 -- what a sender knows of a sequence when it answers: how far it brought its own, and what it wrote, else what it found
 -- at the claim word, at the mark and at the claim word again, or that it is never claimed; or it asked nothing of it

@@ -4,7 +4,6 @@ use Rattle.std.specs.Prelude.{Option, None, slice_index_or}
 use mathlib.Core.Option.{some}
 use lib.ListN.{get_elem?}
 use Rattle.dr_cells.specs.declared.token.Token.{Token}
-use Rattle.dr_cells.specs.Hold.{held}
 use Rattle.dr_seq.specs.Rounds.{is_marked}
 use Rattle.dr_lent.specs.Rows.{cells_of}
 use Rattle.dr_lent.specs.declared.lent.Lent.{Lent}
