@@ -52,14 +52,14 @@ quiet k w h r r' at same all =
 
 -- it looks at a mark
 found : (k : Shape Event) (w : World Event) (h : ℕ) (r r' : ReceiverRecord Event) → get_elem? w.receivers h ≡ some r
-    → r'.marks ≡ r.marks ++ mark_look (length r.received) (word_at w.words (mark_word k (length r.received))) ∷ [] → KeepsRule k w → MarksWithin k w
+    → r'.marks ≡ r.marks ++ mark_look r.looks (length r.received) (word_at w.words (mark_word k (length r.received))) ∷ [] → KeepsRule k w → MarksWithin k w
     → AreWithin k (set w.receivers h r') (length w.stages)
 found k w h r r' at more K all =
     each_set (λ j x. AllWithin k (length w.stages) x.marks) w.receivers h r' (subst (AllWithin k (length w.stages)) (sym more) new)
     (λ j x ne there. all j x there)
   where
     here : MarkLook
-    here = mark_look (length r.received) (word_at w.words (mark_word k (length r.received)))
+    here = mark_look r.looks (length r.received) (word_at w.words (mark_word k (length r.received)))
 
     only : (j : ℕ) (x : MarkLook) → get_elem? (here ∷ []) j ≡ some x → here ≡ x
     only zero x there = some-injective here x there

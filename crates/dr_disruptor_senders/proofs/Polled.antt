@@ -88,7 +88,7 @@ looked : (a b : ReceiverEnd Event) (seen : PollLooks) (lents : List (Lent Event)
     → b.knows ≡ record (looked_round a.plan a.knows seen) { received = a.knows.received ++ lents } → LookedOn a b
 looked a b seen lents place is = record {
   place = place;
-  found = mark_looks a.plan (length a.knows.received) seen.marks;
+  found = mark_looks a.plan (a.knows.looks ++ look claim_word seen.claims ∷ []) (length a.knows.received) seen.marks;
   marks = ap (λ (r : ReceiverRecord Event). r.marks) is;
   more = look claim_word seen.claims ∷ count_looks (ups_of a.plan a.knows) seen.counts;
   looks = ap (λ (r : ReceiverRecord Event). r.looks) is;
@@ -126,24 +126,24 @@ looked_on a b (CompletesBelow upto (Err (Refused r))) is = same_record a b is.0 
 -- What its barrier offered.
 
 -- a walk came as far as its last look tells
-walked_last : (k : Shape Event) (end s m : ℕ) (marks : List ℕ) (upto : ℕ) → WalksTo k end s (m ∷ marks) upto
-    → (before after : List MarkLook) × (x : MarkLook) × (mark_looks k s (m ∷ marks) ≡ before ++ x ∷ after)
+walked_last : (k : Shape Event) (looks : List Look) (end s m : ℕ) (marks : List ℕ) (upto : ℕ) → WalksTo k end s (m ∷ marks) upto
+    → (before after : List MarkLook) × (x : MarkLook) × (mark_looks k looks s (m ∷ marks) ≡ before ++ x ∷ after)
     × (upto ≡ x.sequence + marked_from k x.sequence x.found)
-walked_last k end s m [] upto W = ([], [], mark_look s m, refl, elim W.1 [ inl here ↦ here.1.1 | inr stop ↦ stop.2 ])
-walked_last k end s m (next ∷ ms) upto W = elim W.1 [
+walked_last k looks end s m [] upto W = ([], [], mark_look looks s m, refl, elim W.1 [ inl here ↦ here.1.1 | inr stop ↦ stop.2 ])
+walked_last k looks end s m (next ∷ ms) upto W = elim W.1 [
   | inl here ↦
-      let rest = walked_last k end (s + marked_from k s m) next ms upto here.1 in
-      (mark_look s m ∷ rest.0, rest.1, rest.2, ap (λ (l : List MarkLook). mark_look s m ∷ l) rest.3, rest.4)
+      let rest = walked_last k looks end (s + marked_from k s m) next ms upto here.1 in
+      (mark_look looks s m ∷ rest.0, rest.1, rest.2, ap (λ (l : List MarkLook). mark_look looks s m ∷ l) rest.3, rest.4)
   | inr stop ↦ (let no = stop.1 in absurd (cc))
 ]
 
 -- no sequence is offered that was not published
-walk_within : (n : ℕ) (k : Shape Event) (ups : List ℕ) (old r : ReceiverRecord Event) (end : ℕ) (marks : List ℕ) (upto : ℕ)
-    → WalksTo k end (length old.received) marks upto → r.marks ≡ old.marks ++ mark_looks k (length old.received) marks
+walk_within : (n : ℕ) (k : Shape Event) (looks : List Look) (ups : List ℕ) (old r : ReceiverRecord Event) (end : ℕ) (marks : List ℕ) (upto : ℕ)
+    → WalksTo k end (length old.received) marks upto → r.marks ≡ old.marks ++ mark_looks k looks (length old.received) marks
     → length old.received < upto → SawAtMost n k ups r → upto ≤ n
-walk_within n k ups old r end [] upto W is on saw = let at = W.1 in absurd (omega arith)
-walk_within n k ups old r end (m ∷ marks) upto W is on saw =
-    let last = walked_last k end (length old.received) m marks upto W in
+walk_within n k looks ups old r end [] upto W is on saw = let at = W.1 in absurd (omega arith)
+walk_within n k looks ups old r end (m ∷ marks) upto W is on saw =
+    let last = walked_last k looks end (length old.received) m marks upto W in
     let all : r.marks ≡ (old.marks ++ last.0) ++ last.2 ∷ last.1 =
     is ∙ ap (λ (l : List MarkLook). old.marks ++ l) last.3 ∙ sym (append_assoc old.marks last.0 (last.2 ∷ last.1)) in
     let low = saw.marks (old.marks ++ last.0) last.1 last.2 all in let at = last.4 in
@@ -167,14 +167,15 @@ by_marks upto [] (c ∷ counts) many none = absurd (omega arith)
 by_marks upto (u ∷ ups) counts many none = absurd (let all = ap length none in omega arith)
 
 offer_within : (n room : ℕ) (k : Shape Event) (old r : ReceiverRecord Event) (seen : PollLooks) → LooksInOrder k old room seen
-    → r.marks ≡ old.marks ++ mark_looks k (length old.received) seen.marks
+    → r.marks ≡ old.marks ++ mark_looks k (old.looks ++ look claim_word seen.claims ∷ []) (length old.received) seen.marks
     → r.looks ≡ old.looks ++ look claim_word seen.claims ∷ count_looks (ups_of k old) seen.counts
     → length old.received < offer seen → SawAtMost n k (ups_of k old) r → offer seen ≤ n
 offer_within n room k old r seen order marked grew further saw =
     offered n k seen.claims seen.upto r old.looks (ups_of k old) seen.counts order.each grew
     (λ none.
     let upto = by_marks seen.upto (ups_of k old) seen.counts order.each none in
-    walk_within n k (ups_of k old) old r (walk_end old (claimed_in seen.claims) room) seen.marks seen.upto (order.walks none) marked (omega arith) saw)
+    walk_within n k (old.looks ++ look claim_word seen.claims ∷ []) (ups_of k old) old r (walk_end old (claimed_in seen.claims) room) seen.marks seen.upto
+    (order.walks none) marked (omega arith) saw)
     saw
 
 -- What it was handed.

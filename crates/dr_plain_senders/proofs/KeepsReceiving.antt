@@ -93,7 +93,7 @@ module _ {T : Type 0} where
       → AreNext w r (taken_at_mark k r (word_at w.words (mark_word k (length r.received))) room) lents → KeepsRule k w
       → KeepsRule k (receiver_knows w h (mark_looked r (word_at w.words (mark_word k (length r.received))) lents))
   keeps_mark_look k w h room r lents at none N K = let found = word_at w.words (mark_word k (length r.received)) in
-      takes_kept k w h (taken_at_mark k r found room) r lents (r.marks ++ mark_look (length r.received) found ∷ [])
+      takes_kept k w h (taken_at_mark k r found room) r lents (r.marks ++ mark_look r.looks (length r.received) found ∷ [])
       r.looks at (offers_at_mark k w h room r at none K) N (K.received h r at).looks refl K
 
   pub keeps_count_look : (k : Shape T) (w : World T) (h i room : ℕ) (r : ReceiverRecord T) (lents : List (Lent T))

@@ -125,9 +125,9 @@ module _ {T : Type 0} where
         xs = [];
         looks = sym (append-nil r.looks);
         found = All-nil (FoundLater k w);
-        ms = mark_look s found ∷ [];
+        ms = mark_look r.looks s found ∷ [];
         marks = refl;
-        are = All-cons (IsMarkOf k w.stages n) (mark_look s found) []
+        are = All-cons (IsMarkOf k w.stages n) (mark_look r.looks s found) []
             (λ i lt out near. ap (λ (j : ℕ). is_there k (s + i) (word_at w.words j)) (sym (same_word k s i lt)) ∙ K.marked (s + i) out (omega arith))
             (All-nil (IsMarkOf k w.stages n));
       }
@@ -219,15 +219,16 @@ module _ {T : Type 0} where
   abbrev GoesFar : Shape T → List (Stage T) → ℕ → ℕ → ℕ → Type 0
   GoesFar k stages n end upto = (end ≤ upto) ⊎ (n ≤ upto + k.size → IsOut stages upto → ⊥)
 
-  walk_far : (k : Shape T) (stages : List (Stage T)) (n end s : ℕ) (ms : List ℕ) (upto : ℕ) → All (IsMarkOf k stages n) (mark_looks k s ms)
+  walk_far : (k : Shape T) (stages : List (Stage T)) (looks : List Look) (n end s : ℕ) (ms : List ℕ) (upto : ℕ)
+      → All (IsMarkOf k stages n) (mark_looks k looks s ms)
       → WalksTo k end s ms upto → GoesFar k stages n end upto
-  walk_far k stages n end s [] upto A W = inl (let a = W.0 in let b = W.1 in omega arith)
-  walk_far k stages n end s (m ∷ ms) upto A W =
+  walk_far k stages looks n end s [] upto A W = inl (let a = W.0 in let b = W.1 in omega arith)
+  walk_far k stages looks n end s (m ∷ ms) upto A W =
       elim W.1 [
-        | inl hit ↦ walk_far k stages n end (s + marked_from k s m) ms upto (λ i d lt. A (suc i) d (omega arith)) hit.1
+        | inl hit ↦ walk_far k stages looks n end (s + marked_from k s m) ms upto (λ i d lt. A (suc i) d (omega arith)) hit.1
         | inr stop ↦ inr (λ near out. (let at = stop.2 in let run = marked_from k s m in
             both_ways (is_there k (s + run) m) (run_stops k s m (in_word k s) stop.0)
-            (A 0 (mark_look 0 0) (omega arith) run stop.0 (subst (IsOut stages) at out) (omega arith))))
+            (A 0 (mark_look [] 0 0) (omega arith) run stop.0 (subst (IsOut stages) at out) (omega arith))))
       ]
 
   -- the counts that were found are no less than what was completed
@@ -261,7 +262,7 @@ module _ {T : Type 0} where
   -- what an answer says of the poll's looks, and of what it hands over
   record HasPolled (k : Shape T) (r : ReceiverRecord T) (room : ℕ) (r' : ReceiverRecord T) (seen : PollLooks) (n : ℕ) : Type 0 where
     looks : r'.looks ≡ r.looks ++ look claim_word seen.claims ∷ count_looks (ups_of k r) seen.counts
-    marks : r'.marks ≡ r.marks ++ mark_looks k (length r.received) seen.marks
+    marks : r'.marks ≡ r.marks ++ mark_looks k (r.looks ++ look claim_word seen.claims ∷ []) (length r.received) seen.marks
     completed : r'.completed ≡ r.completed
     hands : min (offer seen - length r.received) room ≤ n
 
@@ -304,12 +305,13 @@ module _ {T : Type 0} where
       ]
 
   -- without upstreams a poll goes as far as was published, as far as there is room
-  walked_far : (k : Shape T) (w : World T) (n s room claimed done : ℕ) (ms : List ℕ) (upto : ℕ) → All (IsMarkOf k w.stages n) (mark_looks k s ms)
+  walked_far : (k : Shape T) (w : World T) (looks : List Look) (n s room claimed done : ℕ) (ms : List ℕ) (upto : ℕ)
+      → All (IsMarkOf k w.stages n) (mark_looks k looks s ms)
       → WalksTo k (min claimed (s + room + 1)) s ms upto → length w.stages ≤ claimed → n ≤ k.size + done → done ≤ s
       → min (front (picture_of k w) - s) room ≤ min (upto - s) room
-  walked_far k w n s room claimed done ms upto marks walks all round took =
+  walked_far k w looks n s room claimed done ms upto marks walks all round took =
       let within = front_claimed k w in let low = walks_low k (min claimed (s + room + 1)) s upto ms walks in
-      elim (walk_far k w.stages n (min claimed (s + room + 1)) s ms upto marks walks) [
+      elim (walk_far k w.stages looks n (min claimed (s + room + 1)) s ms upto marks walks) [
         | inl far ↦ far_enough (front (picture_of k w)) (length w.stages) claimed s room upto within all far
         | inr never ↦ no_more (front (picture_of k w)) upto s room (front_low k w upto (never (omega arith)))
       ]
@@ -328,9 +330,10 @@ module _ {T : Type 0} where
       let claims : length w.stages ≤ claimed_in seen.claims = (all 0 (look 0 0) (omega arith)).0 refl in
       let inside = handler_inside k w h r at K in let L = keeps_runs k steps es w u R K in let round = above k u L h inside in
       let count = (L.received h r' there_is).count in let done = answer.completed in let took = was.completed in
+      let looked : List Look = r.looks ++ look claim_word seen.claims ∷ [] in
       let published : ups ≡ [] → min (front (picture_of k w) - s) room ≤ min (seen.upto - s) room = λ none.
-      walked_far k w n s room (claimed_in seen.claims) r.completed seen.marks seen.upto
-      (subst (All (IsMarkOf k w.stages n)) (append_cancel_left r.marks later.ms (mark_looks k s seen.marks) (sym later.marks ∙ answer.marks)) later.are)
+      walked_far k w looked n s room (claimed_in seen.claims) r.completed seen.marks seen.upto
+      (subst (All (IsMarkOf k w.stages n)) (append_cancel_left r.marks later.ms (mark_looks k looked s seen.marks) (sym later.marks ∙ answer.marks)) later.are)
       (order.walks none) claims (omega arith) took in
       let handlers : (v : ℕ) → Contains ups v → v < handlers_of k = λ v has.
       upstream_inside k K.shape.graph h v inside (subst (λ (vs : List ℕ). Contains vs v) same has) in

@@ -241,7 +241,7 @@ module _ {T : Type 0} (e : SenderStand T) (o : Owned) (end : ℕ) (tokens : List
   module _ (a : SenderStand T) (lo hi stop : ℕ) (R : Reached e hi a true) (front : IsFront (is_ready o) lo (hi + 1) stop) (high : stop ≤ hi) where
     publish_stops : (e' : SenderStand T) (x : Sight T) (refusal : Refusal) → IsSight me stop x
         → IsFirst MayHold MayFail refusal (sequence_causes (sight_tests e.plan stop x)) → Stays a e'
-        → e'.knows ≡ record a.knows { marks = a.knows.marks ++ marks_of stop x; looks = a.knows.looks ++ claims_of x }
+        → e'.knows ≡ record a.knows { marks = a.knows.marks ++ marks_of a.knows.looks stop x; looks = a.knows.looks ++ claims_of x }
         → e'.stored ≡ a.stored → IsBeginning a.past e'.past
         → PublishCall me lo hi (sender_end e' o tokens) (Err refusal)
     publish_stops e' x refusal sight first stays knows stored past =
@@ -265,8 +265,11 @@ module _ {T : Type 0} (e : SenderStand T) (o : Owned) (end : ℕ) (tokens : List
           lents = [];
           lent = refl;
           knows =
-              knows ∙ ap (λ (q : SenderRecord T). record q { marks = q.marks ++ marks_of stop x; looks = q.looks ++ claims_of x }) R.knows
-              ∙ ap (λ (s : ℕ). record e.knows { marks = e.knows.marks ++ marks_of s x; looks = (e.knows.looks ++ reach_looks R.reach) ++ claims_of x })
+              knows ∙ ap (λ (q : SenderRecord T). record q { marks = q.marks ++ marks_of q.looks stop x; looks = q.looks ++ claims_of x }) R.knows
+              ∙ ap (λ (s : ℕ). record e.knows {
+                marks = e.knows.marks ++ marks_of (e.knows.looks ++ reach_looks R.reach) s x;
+                looks = (e.knows.looks ++ reach_looks R.reach) ++ claims_of x;
+              })
               (sym at);
           writes = (λ i. writes_of (plan i) o tokens (own i));
           cells = refl;

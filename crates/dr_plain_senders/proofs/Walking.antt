@@ -2,6 +2,7 @@
 use Rattle.std.proofs.Common.{◌≡◌, ℕ, ◌+◌, ◌-◌, ◌<◌, ◌≤◌, true, inl, inr, min, List, [], ◌∷◌, ◌++◌, length, refl, sym, ap, ◌∙◌, subst, arith, append_assoc}
 use Rattle.std.proofs.lemmas.List.{length-append, append-nil}
 use Rattle.dr_lent.specs.declared.lent.Lent.{Lent}
+use Rattle.dr_runs.specs.declared.look.Look.{Look}
 use Rattle.dr_plain_senders.specs.Meaning.Shape.{Shape}
 use Rattle.dr_plain_senders.specs.Meaning.Words.{in_word, marked_from}
 use Rattle.dr_plain_senders.specs.declared.record.MarkLook.{MarkLook}
@@ -37,10 +38,11 @@ walks_stop k end s [] m front A lt less = (
 walks_stop k end s (x ∷ ms) m front A lt less = (A.0, inl (A.1, walks_stop k end (s + marked_from k s x) ms m front A.2 lt less))
 
 -- one look more at a mark
-looks_more : {T : Type 0} (k : Shape T) (end s : ℕ) (ms : List ℕ) (m front : ℕ)
-    → AllCarry k end s ms front → mark_looks k s (ms ++ m ∷ []) ≡ mark_looks k s ms ++ mark_look front m ∷ []
-looks_more k end s [] m front A = ap (λ (q : ℕ). mark_look q m ∷ []) (sym A)
-looks_more k end s (x ∷ ms) m front A = ap (λ (xs : List MarkLook). mark_look s x ∷ xs) (looks_more k end (s + marked_from k s x) ms m front A.2)
+looks_more : {T : Type 0} (k : Shape T) (looks : List Look) (end s : ℕ) (ms : List ℕ) (m front : ℕ)
+    → AllCarry k end s ms front → mark_looks k looks s (ms ++ m ∷ []) ≡ mark_looks k looks s ms ++ mark_look looks front m ∷ []
+looks_more k looks end s [] m front A = ap (λ (q : ℕ). mark_look looks q m ∷ []) (sym A)
+looks_more k looks end s (x ∷ ms) m front A =
+    ap (λ (xs : List MarkLook). mark_look looks s x ∷ xs) (looks_more k looks end (s + marked_from k s x) ms m front A.2)
 
 module _ {T : Type 0} where
   pub loads_more : (e s s' : ReceiverEnd T) → OnlyLoads e s → OnlyLoads s s' → OnlyLoads e s'
@@ -60,13 +62,13 @@ module _ {T : Type 0} where
       → length s.received ≡ front → s ≡ walked k r ms ls → s' ≡ mark_looked s m lents → s' ≡ walked k r (ms ++ m ∷ []) (ls ++ lents)
   more_is k r s s' end ms ls lents m front A here was is =
       let a = length r.received in
-      let marks : s.marks ++ mark_look (length s.received) m ∷ [] ≡ r.marks ++ mark_looks k a (ms ++ m ∷ []) =
-      (λ i. (was i).marks ++ mark_look (here i) m ∷ []) ∙ append_assoc r.marks (mark_looks k a ms) (mark_look front m ∷ [])
-      ∙ ap (λ (xs : List MarkLook). r.marks ++ xs) (sym (looks_more k end a ms m front A)) in
+      let marks : s.marks ++ mark_look s.looks (length s.received) m ∷ [] ≡ r.marks ++ mark_looks k r.looks a (ms ++ m ∷ []) =
+      (λ i. (was i).marks ++ mark_look (was i).looks (here i) m ∷ []) ∙ append_assoc r.marks (mark_looks k r.looks a ms) (mark_look r.looks front m ∷ [])
+      ∙ ap (λ (xs : List MarkLook). r.marks ++ xs) (sym (looks_more k r.looks end a ms m front A)) in
       let received : s.received ++ lents ≡ r.received ++ (ls ++ lents) =
       ap (λ (q : ReceiverRecord T). q.received ++ lents) was ∙ append_assoc r.received ls lents in
       is ∙ (λ i. record s { received = received i; marks = marks i })
-      ∙ ap (λ (q : ReceiverRecord T). record q { received = r.received ++ (ls ++ lents); marks = r.marks ++ mark_looks k a (ms ++ m ∷ []) }) was
+      ∙ ap (λ (q : ReceiverRecord T). record q { received = r.received ++ (ls ++ lents); marks = r.marks ++ mark_looks k r.looks a (ms ++ m ∷ []) }) was
 
   pub walking_none : (k : Shape T) (r : ReceiverRecord T) (room end front : ℕ) → front ≡ length r.received → Walking k r room end front r
   walking_none k r room end front is = record {

@@ -17,10 +17,12 @@ pub struct Own<T> {
     pub stage: Stage<T>,
 }
 
-/// A look at the mark of a sequence, and what it found in the word of that mark.
+/// A look at the mark of a sequence, what it found in the word of that mark, and how many looks at
+/// other words came before it.
 pub struct MarkLook {
     pub sequence: u64,
     pub found: u64,
+    pub after: u64,
 }
 
 /// What a sender knows: its number, the sequences that it claimed, and its looks, those at marks

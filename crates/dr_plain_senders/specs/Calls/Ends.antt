@@ -38,10 +38,10 @@ HalterStand T = EndOf T HalterRecord
 abbrev pub count_looks : List ℕ → List ℕ → List Look
 count_looks hs counts = looks_at count_word hs counts
 
--- looks at marks from that of the sequence s on, each at the first that the words before do not tell to be there
-abbrev pub mark_looks : {T : Type 0} → Shape T → ℕ → List ℕ → List MarkLook
-mark_looks k s [] = []
-mark_looks k s (m ∷ marks) = mark_look s m ∷ mark_looks k (s + marked_from k s m) marks
+-- looks at marks from that of the sequence s on, each at the first that the words before do not tell to be there, after these looks at other words
+abbrev pub mark_looks : {T : Type 0} → Shape T → List Look → ℕ → List ℕ → List MarkLook
+mark_looks k looks s [] = []
+mark_looks k looks s (m ∷ marks) = mark_look looks s m ∷ mark_looks k looks (s + marked_from k s m) marks
 
 -- a sender as its caller sees it: with what is written of each of its sequences, as it
 -- claimed them one after another, while it is not published, and what it has in the cells

@@ -96,7 +96,10 @@ module _ {T : Type 0} where
   abbrev pub after_publication : SenderRecord T → ℕ → PublishLooks T → List (Lent T) → Result (Unit {0}) Refusal → SenderRecord T
   after_publication r lo seen lents (Ok _) = has_published r lo lents
   after_publication r lo seen lents (Err refusal) =
-      record r { marks = r.marks ++ marks_of (lo + seen.ready) seen.stop; looks = (r.looks ++ reach_looks seen.reach) ++ claims_of seen.stop }
+      record r {
+        marks = r.marks ++ marks_of (r.looks ++ reach_looks seen.reach) (lo + seen.ready) seen.stop;
+        looks = (r.looks ++ reach_looks seen.reach) ++ claims_of seen.stop;
+      }
 
   -- nothing is written any more of what is published
   abbrev pub writes_left : List (Own T) → List (Option T) → ℕ → ℕ → Result (Unit {0}) Refusal → List (Option T)

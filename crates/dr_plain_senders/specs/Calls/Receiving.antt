@@ -62,7 +62,7 @@ module _ {T : Type 0} where
   abbrev pub looked_round : Shape T → ReceiverRecord T → PollLooks → ReceiverRecord T
   looked_round k r seen = record r {
     told = r.told || (is_halted seen.claims && (claimed_in seen.claims == length r.received));
-    marks = r.marks ++ mark_looks k (length r.received) seen.marks;
+    marks = r.marks ++ mark_looks k (r.looks ++ look claim_word seen.claims ∷ []) (length r.received) seen.marks;
     looks = r.looks ++ look claim_word seen.claims ∷ count_looks (ups_of k r) seen.counts;
   }
 

@@ -19,8 +19,8 @@ use Rattle.dr_plain_senders.specs.Meaning.Records.{Owns, is_published, mark_look
 use Rattle.dr_plain_senders.specs.Calls.Ends.{SenderEnd, sender_place}
 
 -- The refusals of each call are the machine's, in its order. What a sender knows of its own sequences is exact. Of another's it learns by looks at
--- the claim word, at its mark and at the claim word again whether it is published, which these tell exactly (`moments`) if it looks at the mark between
--- the others: a record does not tell that. All that is then left of the machine's tests is answered `NotClaimed`. A sequence at the limit or beyond is never claimed.
+-- the claim word, at its mark and at the claim word again whether it is published, which these tell exactly; all that is then left of the machine's
+-- tests is answered `NotClaimed`, as the machine answers it at one of these moments (`moments`). A sequence at the limit or beyond is never claimed.
 
 -- what a sender knows of a sequence when it answers: how far it brought its own, and what it wrote, else what it found
 -- at the claim word, at the mark and at the claim word again, or that it is never claimed; or it asked nothing of it
@@ -47,10 +47,10 @@ module _ {T : Type 0} where
   IsAsked Unasked = ⊥
   IsAsked _ = Unit {0}
 
-  -- what it found at the mark of a sequence, and at the claim word
-  abbrev pub marks_of : ℕ → Sight T → List MarkLook
-  marks_of s (Found before m after) = mark_look s m ∷ []
-  marks_of s _ = []
+  -- what it found at the mark of a sequence, between two looks at the claim word that came after others, and at that word
+  abbrev pub marks_of : List Look → ℕ → Sight T → List MarkLook
+  marks_of looks s (Found before m after) = mark_look (looks ++ look claim_word before ∷ []) s m ∷ []
+  marks_of looks s _ = []
 
   abbrev pub claims_of : Sight T → List Look
   claims_of (Found before m after) = look claim_word before ∷ look claim_word after ∷ []
@@ -80,7 +80,7 @@ module _ {T : Type 0} where
   -- what a sender knows after a write: where it is refused, what it found
   abbrev pub after_write : SenderRecord T → ℕ → Sight T → Result (Unit {0}) Refusal → SenderRecord T
   after_write r s x (Ok _) = r
-  after_write r s x (Err refusal) = record r { marks = r.marks ++ marks_of s x; looks = r.looks ++ claims_of x }
+  after_write r s x (Err refusal) = record r { marks = r.marks ++ marks_of r.looks s x; looks = r.looks ++ claims_of x }
 
   -- what is written of each of its sequences, once it is this of all that are such
   abbrev pub written_where : (ℕ → Bool) → Option T → List (Own T) → List (Option T) → List (Option T)

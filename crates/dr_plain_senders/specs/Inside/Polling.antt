@@ -71,7 +71,7 @@ module _ {T : Type 0} where
 
   -- it has found these marks, and taken these events
   abbrev pub walked : Shape T → ReceiverRecord T → List ℕ → List (Lent T) → ReceiverRecord T
-  walked k r marks lents = record r { received = r.received ++ lents; marks = r.marks ++ mark_looks k (length r.received) marks }
+  walked k r marks lents = record r { received = r.received ++ lents; marks = r.marks ++ mark_looks k r.looks (length r.received) marks }
 
   -- so far each mark was there, up to the sequence front, and it took as many as there is room for
   pub record Walking (k : Shape T) (r : ReceiverRecord T) (room end front : ℕ) (r' : ReceiverRecord T) : Type 0 where

@@ -11,7 +11,10 @@ use Rattle.dr_plain_senders.specs.Calls.Finds.{FindsOwn}
 
 -- what a sender knows after these looks
 abbrev pub refused_by : {T : Type 0} → SenderRecord T → ℕ → ℕ → ℕ → ℕ → SenderRecord T
-refused_by r s before m after = record r { marks = r.marks ++ mark_look s m ∷ []; looks = r.looks ++ look claim_word before ∷ look claim_word after ∷ [] }
+refused_by r s before m after = record r {
+  marks = r.marks ++ mark_look (r.looks ++ look claim_word before ∷ []) s m ∷ [];
+  looks = r.looks ++ look claim_word before ∷ look claim_word after ∷ [];
+}
 
 pub record RefusesBy {T : Type 0} (e : SenderStand T) (s : ℕ) (e' : SenderStand T) (refusal : Refusal) : Type 0 where
   pub before : ℕ

@@ -23,9 +23,9 @@ barrier_seen k h looks = offered_by 0 (map (λ u. last_look 0 looks (count_word 
 abbrev pub halter_halted : HalterRecord → ℕ → HalterRecord
 halter_halted r found = record r { looks = r.looks ++ look claim_word (halted_from found) ∷ [] }
 
--- a look at the mark of a sequence, which found this in its word
-abbrev pub mark_look : ℕ → ℕ → MarkLook
-mark_look s found = record { sequence = s; found = found }
+-- a look at the mark of a sequence, which found this in its word, after these looks at other words
+abbrev pub mark_look : List Look → ℕ → ℕ → MarkLook
+mark_look looks s found = record { sequence = s; found = found; after = length looks }
 
 module _ {T : Type 0} where
   -- the events that were lent
@@ -73,7 +73,7 @@ module _ {T : Type 0} where
 
   -- it has looked at the mark of a sequence
   abbrev pub mark_found : SenderRecord T → ℕ → ℕ → SenderRecord T
-  mark_found r s found = record r { marks = r.marks ++ mark_look s found ∷ [] }
+  mark_found r s found = record r { marks = r.marks ++ mark_look r.looks s found ∷ [] }
 
   -- it has claimed n sequences from c on
   abbrev pub claimed_from : SenderRecord T → ℕ → ℕ → SenderRecord T
@@ -96,7 +96,7 @@ module _ {T : Type 0} where
 
   -- it has looked at that mark, and taken these
   abbrev pub mark_looked : ReceiverRecord T → ℕ → List (Lent T) → ReceiverRecord T
-  mark_looked r found lents = record r { received = r.received ++ lents; marks = r.marks ++ mark_look (length r.received) found ∷ [] }
+  mark_looked r found lents = record r { received = r.received ++ lents; marks = r.marks ++ mark_look r.looks (length r.received) found ∷ [] }
 
   -- how many events it takes at a look at an upstream's count, where it has room for so many: what its upstreams then let through, as far as it saw
   abbrev pub taken_at_count : Shape T → ReceiverRecord T → ℕ → ℕ → ℕ → ℕ
