@@ -7,6 +7,7 @@
 mod again;
 mod auditing;
 mod building;
+mod by_traits;
 mod cases;
 mod core_calls;
 mod fault;

@@ -4,6 +4,7 @@ ghost use Rattle.std.specs.Prelude.{IfOk};
 ghost use Rattle.dr_plain.specs.Calls.Settling.{AreAllEnds, IsHalterOf};
 
 use crate::again::again;
+use crate::by_traits::{tell_inlet, tell_outlets};
 use crate::core_calls::word;
 use crate::fault::Fault;
 use crate::graphs::tell_graph;
@@ -79,6 +80,8 @@ fn tell_calls<R: Print>(
     for receiver in receivers.iter_mut() {
         tell_receiving(out, receiver);
     }
+    tell_inlet(out, sender);
+    tell_outlets(out, receivers);
     halter.halt();
     out.value(sender.try_claim(1));
     out.value(sender.close());

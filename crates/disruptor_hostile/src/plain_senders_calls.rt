@@ -3,6 +3,7 @@
 ghost use Rattle.std.specs.Prelude.{IfOk};
 ghost use Rattle.dr_plain_senders.specs.Calls.Settling.{AreAllEnds};
 
+use crate::by_traits::{tell_inlet, tell_outlets};
 use crate::core_calls::word;
 use crate::fault::Fault;
 use crate::plain_calls::{make_five, tell_back};
@@ -40,6 +41,12 @@ fn tell_senders<R: Print>(out: &Lines<R>, senders: &mut [Sender<Event>]) {
     for sender in senders.iter_mut() {
         tell_sending(out, sender, lo);
         lo = lo.wrapping_add(2);
+    }
+}
+
+fn tell_inlets<R: Print>(out: &Lines<R>, senders: &mut [Sender<Event>]) {
+    for sender in senders.iter_mut() {
+        tell_inlet(out, sender);
     }
 }
 
@@ -83,6 +90,8 @@ fn tell_open_ring<R: Print>(out: &Lines<R>, alloc: Global, graph: &Graph) {
             out.words("open");
             tell_senders(out, senders.as_mut_slice());
             tell_receiving(out, receivers.as_mut_slice());
+            tell_inlets(out, senders.as_mut_slice());
+            tell_outlets(out, receivers.as_mut_slice());
             halter.halt();
             tell_halting(out, senders.as_mut_slice());
             tell_draining(out, receivers.as_mut_slice());

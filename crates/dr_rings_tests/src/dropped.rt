@@ -1,9 +1,10 @@
 //! An end of a ring over plain memory that is dropped does nothing more: a receiver completes nothing of what it has in hand, and
-//! a sender closes nothing.
+//! a sender closes nothing. With the last end each event is dropped, once.
 
 use crate::calls::Answer::{Says, Shows};
 use crate::calls::Call::{Claim, Complete, Halt, Poll, Publish, Write};
 use crate::calls::Row;
+use crate::checks::check;
 use crate::counted::{Counted, Counting, none_alive, some_events};
 use crate::events::{ONE, TWO};
 use crate::graphs::Shape;
@@ -12,8 +13,9 @@ use crate::{plain, plain_senders};
 use dr_meaning::MAX_LIMIT;
 use dr_meaning::Refusal::NoRoom;
 use dr_meaning::Reply::{Claimed, Completed, Drained, Halting, Idle, Published, Refused, Written};
-use dr_seq::Event;
+use dr_seq::Size;
 use std::alloc::Global;
+use std::mem::swap;
 use std::process::Abort;
 use std::sync::Arc;
 
@@ -50,8 +52,12 @@ const RECEIVE_ALL: &[Row] = &[
 
 const DRAINED: &[Row] = &[(0, Poll(1), Says(Drained))];
 
-fn one_sender(rt: &impl Abort, alloc: Global) -> plain::Ends<Event> {
-    plain::open_words(rt, alloc, Shape::Alone, 2, MAX_LIMIT)
+fn one_sender(rt: &impl Abort, alloc: Global, alive: &Arc<u64>) -> Counting<plain::Ends<Counted>> {
+    let size = Size::new(2).expect(rt, "a size");
+    let events = some_events(rt, alloc, alive, 2);
+    assert!(rt; events.len() as u64 == size.get());
+    let ends = plain::open(rt, alloc, Shape::Alone, size, MAX_LIMIT, events);
+    Counting::new(rt, ends, alive)
 }
 
 fn two_senders(
@@ -64,24 +70,37 @@ fn two_senders(
     Counting::new(rt, ends, alive)
 }
 
+/// All ends go, and with them each event.
+fn drop_all<E: Drop>(rt: &impl Abort, ends: Counting<E>, alive: &Arc<u64>) {
+    drop(ends);
+    check(rt, Arc::strong_count(alive), 1);
+}
+
 #[test]
 fn a_receiver_that_is_dropped_completes_nothing(rt: HostRuntime) {
-    let mut ends = one_sender(&rt, rt.alloc());
+    let alive = none_alive(&rt, rt.alloc());
+    let mut ends = one_sender(&rt, rt.alloc(), &alive);
     play(&rt, &mut ends, FILL, "filled");
     play(&rt, &mut ends, TAKE_BOTH, "in hand");
-    ends.receivers.clear();
+    ends.ends.receivers.clear();
     play(&rt, &mut ends, ONE_IS_FREE, "dropped");
+    drop_all(&rt, ends, &alive);
 }
 
 #[test]
 fn a_sender_that_is_dropped_closes_nothing(rt: HostRuntime) {
-    let mut ends = one_sender(&rt, rt.alloc());
+    let alive = none_alive(&rt, rt.alloc());
+    let mut ends = one_sender(&rt, rt.alloc(), &alive);
     play(&rt, &mut ends, FILL, "filled");
     // That of another ring comes in its place.
-    let other = one_sender(&rt, rt.alloc());
-    ends.sender = other.sender;
+    let elsewhere = none_alive(&rt, rt.alloc());
+    let mut other = one_sender(&rt, rt.alloc(), &elsewhere);
+    swap(&mut ends.ends.sender, &mut other.ends.sender);
+    drop(other);
     play(&rt, &mut ends, HALT, "halted");
     play(&rt, &mut ends, RECEIVE_ALL, "dropped");
+    drop_all(&rt, ends, &alive);
+    check(&rt, Arc::strong_count(&elsewhere), 1);
 }
 
 #[test]
@@ -92,6 +111,7 @@ fn a_receiver_beside_two_senders_that_is_dropped_completes_nothing(rt: HostRunti
     play(&rt, &mut ends, TAKE_BOTH, "in hand");
     ends.ends.receivers.clear();
     play(&rt, &mut ends, ONE_IS_FREE, "dropped");
+    drop_all(&rt, ends, &alive);
 }
 
 #[test]
@@ -103,4 +123,5 @@ fn two_senders_that_are_dropped_close_nothing(rt: HostRuntime) {
     play(&rt, &mut ends, RECEIVE_ALL, "dropped");
     play(&rt, &mut ends, HALT, "halted");
     play(&rt, &mut ends, DRAINED, "drained");
+    drop_all(&rt, ends, &alive);
 }

@@ -15,6 +15,24 @@ pub enum Shape {
     Diamond,
 }
 
+pub const SHAPES: [Shape; 4] = [
+    Shape::Alone,
+    Shape::SideBySide,
+    Shape::Chain,
+    Shape::Diamond,
+];
+
+impl Shape {
+    /// How many handlers there are.
+    pub fn handlers(self) -> usize {
+        match self {
+            Shape::Alone => 1,
+            Shape::SideBySide | Shape::Chain => 2,
+            Shape::Diamond => 3,
+        }
+    }
+}
+
 fn declare_first(builder: &mut GraphBuilder, shape: Shape) -> Result<Group, GraphFault> {
     match shape {
         Shape::Alone | Shape::Chain => builder.handle_with(&["a"]),

@@ -27,6 +27,8 @@ mod graphs;
 #[cfg(test)]
 mod in_one_call;
 #[cfg(test)]
+mod leaving;
+#[cfg(test)]
 mod moments;
 #[cfg(test)]
 mod plain;

@@ -5,6 +5,7 @@ ghost use Rattle.dr_plain.specs.Calls.Settling.{AreAllEnds, IsHalterOf};
 
 mod calling;
 mod endings;
+mod leaving;
 mod looks;
 mod play;
 mod texts;

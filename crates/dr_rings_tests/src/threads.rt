@@ -30,9 +30,9 @@ pub fn start<R: Threads + Wait + Abort + Copy + Send + 'static, T: Receive + Dro
     started
 }
 
-/// Three receivers received so many events each.
-pub fn check_received(rt: &(impl Threads + Abort), started: Started, events: u64) {
-    check(rt, started.len(), 3);
+/// So many receivers received so many events each.
+pub fn check_received(rt: &(impl Threads + Abort), started: Started, many: usize, events: u64) {
+    check(rt, started.len(), many);
     for worker in started {
         check(rt, worker.join(rt), Some(events));
     }

@@ -2,7 +2,7 @@
 
 use super::texts::open_texts;
 use crate::checks::check;
-use crate::graphs::Shape;
+use crate::graphs::SHAPES;
 use crate::text_threads::{receive, send};
 use crate::threads::{Receive, check_received, start};
 use dr_plain::{Receiver, Sender};
@@ -11,7 +11,7 @@ use std::sync::Wait;
 
 /// Sends, and closes.
 fn send_and_close(mut sender: Sender<String>, alloc: Global) -> u64 {
-    let sent = send(&mut sender, alloc, 100_000, 16);
+    let sent = send(&mut sender, alloc, 25_000, 16);
     let _ = sender.close();
     sent
 }
@@ -23,9 +23,11 @@ impl Receive for Receiver<String> {
 }
 
 #[test]
-fn texts_through_a_diamond_of_threads(rt: HostRuntime) {
-    let ends = open_texts(&rt, rt.alloc(), Shape::Diamond, 64);
-    let started = start(rt, rt.alloc(), ends.receivers);
-    check(&rt, send_and_close(ends.sender, rt.alloc()), 100_000);
-    check_received(&rt, started, 100_000);
+fn texts_through_threads_of_each_shape(rt: HostRuntime) {
+    for shape in SHAPES {
+        let ends = open_texts(&rt, rt.alloc(), shape, 64);
+        let started = start(rt, rt.alloc(), ends.receivers);
+        check(&rt, send_and_close(ends.sender, rt.alloc()), 25_000);
+        check_received(&rt, started, shape.handlers(), 25_000);
+    }
 }

@@ -36,5 +36,5 @@ fn workers_over_a_diamond(rt: HostRuntime) {
         fault: None,
     };
     check(&rt, send(&rt, ends.sender, script.as_slice()), all);
-    check_received(&rt, started, 10_000);
+    check_received(&rt, started, 3, 10_000);
 }

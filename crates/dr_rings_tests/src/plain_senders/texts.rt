@@ -7,10 +7,10 @@ use dr_meaning::MAX_LIMIT;
 use std::alloc::Global;
 use std::process::Abort;
 
-/// A ring of so many texts, which are empty at first, with two senders and three handlers.
-pub fn open_texts(rt: &impl Abort, alloc: Global, slots: u64) -> Ends<String> {
+/// A ring of so many texts, which are empty at first, with two senders.
+pub fn open_texts(rt: &impl Abort, alloc: Global, shape: Shape, slots: u64) -> Ends<String> {
     let texts = empty_texts(rt, alloc, slots);
-    open(rt, alloc, Shape::Diamond, MAX_LIMIT, 2, texts)
+    open(rt, alloc, shape, MAX_LIMIT, 2, texts)
 }
 
 // Twenty times three texts, from both senders in turn. Each receiver takes two of them first.
@@ -25,7 +25,7 @@ fn send_turns(rt: &impl Abort, alloc: Global, ends: &mut Ends<String>) {
 
 #[test]
 fn texts_of_two_senders_through_a_diamond(rt: HostRuntime) {
-    let mut ends = open_texts(&rt, rt.alloc(), 4);
+    let mut ends = open_texts(&rt, rt.alloc(), Shape::Diamond, 4);
     send_turns(&rt, rt.alloc(), &mut ends);
     ends.halter.halt();
     check_drained(&rt, ends.receivers.as_mut_slice());

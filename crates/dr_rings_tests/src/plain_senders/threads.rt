@@ -2,6 +2,7 @@
 
 use super::texts::open_texts;
 use crate::checks::check;
+use crate::graphs::SHAPES;
 use crate::text_threads::{receive, send};
 use crate::threads::{Receive, check_received, start};
 use dr_plain_senders::{Receiver, Sender};
@@ -45,11 +46,13 @@ impl Receive for Receiver<String> {
 }
 
 #[test]
-fn texts_of_two_threads_through_a_diamond_of_threads(rt: HostRuntime) {
-    let mut ends = open_texts(&rt, rt.alloc(), 64);
-    let started = start(rt, rt.alloc(), ends.receivers);
-    let sending = start_senders(rt, rt.alloc(), ends.senders, 50_000);
-    check_sent(&rt, sending, 50_000);
-    ends.halter.halt();
-    check_received(&rt, started, 100_000);
+fn texts_of_two_threads_through_threads_of_each_shape(rt: HostRuntime) {
+    for shape in SHAPES {
+        let mut ends = open_texts(&rt, rt.alloc(), shape, 64);
+        let started = start(rt, rt.alloc(), ends.receivers);
+        let sending = start_senders(rt, rt.alloc(), ends.senders, 12_500);
+        check_sent(&rt, sending, 12_500);
+        ends.halter.halt();
+        check_received(&rt, started, shape.handlers(), 25_000);
+    }
 }

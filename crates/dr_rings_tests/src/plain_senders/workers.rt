@@ -59,5 +59,5 @@ fn two_workers_over_a_diamond(rt: HostRuntime) {
     let sending = start_senders(rt, rt.alloc(), ends.senders, 5_000);
     check_sent(&rt, sending, 5_000);
     ends.halter.halt();
-    check_received(&rt, started, 10_000);
+    check_received(&rt, started, 3, 10_000);
 }

@@ -82,5 +82,5 @@ fn a_million_through_a_diamond(rt: HostRuntime) {
     let ends = open(&rt, rt.alloc(), Shape::Diamond, 1024, MAX_LIMIT);
     let started = start(rt, rt.alloc(), ends.receivers);
     check(&rt, send(ends.sender, 1_000_000, 64), 1_000_000);
-    check_received(&rt, started, 1_000_000);
+    check_received(&rt, started, 3, 1_000_000);
 }
