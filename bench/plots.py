@@ -109,12 +109,15 @@ def lines_of(points):
     return {program: sorted(lines[program].items()) for program in LOOKS if program in lines}
 
 
-def apart(heights, gap):
-    """The same heights, moved up where two of them are nearer than the gap."""
+def apart(heights, gap, most):
+    """The same heights, moved up where two of them are nearer than the gap, and down where one would be above the most."""
     moved = list(heights)
     order = sorted(range(len(heights)), key=lambda k: heights[k])
     for below, above in zip(order, order[1:]):
         moved[above] = max(moved[above], moved[below] + gap)
+    for above in reversed(order):
+        moved[above] = min(moved[above], most)
+        most = moved[above] - gap
     return moved
 
 
@@ -139,7 +142,8 @@ def name_lines(axes, lines):
     """Each line's name at its end, once it is settled where the lines are."""
     points_a_pixel = 72 / axes.figure.dpi
     ends = [axes.transData.transform(points[-1])[1] * points_a_pixel for points in lines.values()]
-    for (program, points), end, height in zip(lines.items(), ends, apart(ends, 10)):
+    top = axes.bbox.ymax * points_a_pixel
+    for (program, points), end, height in zip(lines.items(), ends, apart(ends, 10, top)):
         look = LOOKS[program]
         place = {"xytext": (7, height - end), "textcoords": "offset points", "va": "center"}
         axes.annotate(look.name, points[-1], color=look.colour, **place)
