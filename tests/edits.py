@@ -2,11 +2,14 @@
 
 import os
 import re
-from dataclasses import dataclass, field
+import shutil
+from collections import Counter
+from dataclasses import dataclass, field, replace
 
 FUNCTION = re.compile(r'^([ \t]*)(?:pub(?:\([\w: ]+\))? )?(?:(?:const|unsafe|extern "C") )*fn (\w+)', re.M)
 OWNER = re.compile(r"^(?:pub )?(?:unsafe )?(?:impl|trait)\b[^\n{]*", re.M)
 TRAIT = re.compile(r"(?:pub )?(?:unsafe )?trait\b")
+CONSTANT = re.compile(r"\bconst\b")
 TYPE = re.compile(r"^(?:pub(?:\([\w: ]+\))? )?(?:struct|enum|union|trait) (\w+)", re.M)
 # What no check admits, since it cites what nothing declares: an error of a name, which refuses no edit.
 NOWHERE = "\nno-offers : nowhere\nno-offers = nothing\n"
@@ -17,7 +20,8 @@ STATED = re.compile(r"\b(requires|ensures|ghost|struct|enum|fn|impl|trait|const|
 @dataclass
 class Edit:
     """A wrong body: the texts that it changes, and the functions in which these stand, as files, owners and names. It may be of one
-    body and nothing else, or of nothing but the clause that its goal names."""
+    body and nothing else, or of nothing but the clause that its goal names. And a check may try it on a copy of its function, under
+    another name, where the function can have one."""
 
     crate: str
     name: str
@@ -25,6 +29,8 @@ class Edit:
     functions: list = field(default_factory=list)
     is_of_a_body: bool = True
     is_of_its_clause: bool = True
+    can_have_a_copy: bool = False
+    copied: tuple = ()
     judge: str = ""
     goal: str = ""
 
@@ -70,12 +76,55 @@ def fault_of(edit, folder):
     return None if edit.pairs else "it has no pair of lines `old:` and `new:`"
 
 
-def applied(edit, folder):
-    for file, old, new in edit.pairs:
-        text = open(f"{folder}/{file}", encoding="utf-8").read()
-        os.remove(f"{folder}/{file}")  # (it may be a link)
-        with open(f"{folder}/{file}", "w", encoding="utf-8") as it:
-            it.write(text.replace(old, new))
+def in_one_check(edits):
+    """Returns these edits as one check tries them: of those of one body the first stays with its function, and others have a copy each."""
+    tried, seen = [], Counter()
+    for edit in edits:
+        if edit.is_of_a_body:
+            [(file, owner, name)] = edit.functions
+            seen[file, owner, name] += 1
+            if seen[file, owner, name] > 1:
+                other = (file, owner, f"{name}_{seen[file, owner, name]}")
+                edit = replace(edit, functions=[other], copied=(file, owner, name))
+        tried.append(edit)
+    return tried
+
+
+def apply_all(edits, folder):
+    """Applies edits, as one check tries them, to the copy of a crate: those of copied functions first, which stand below these."""
+    texts = texts_of(folder)
+    for edit in sorted(edits, key=lambda it: not it.copied):
+        if edit.copied:
+            copy_proof(proof_of(edit.copied, texts), proof_of(edit.functions[0], texts), folder)
+        for file in {it[0] for it in edit.pairs}:
+            text = open(f"{folder}/{file}", encoding="utf-8").read()
+            os.remove(f"{folder}/{file}")  # (it may be a link)
+            with open(f"{folder}/{file}", "w", encoding="utf-8") as it:
+                it.write(with_a_copy(text, edit) if edit.copied else changed(text, file, edit))
+
+
+def changed(text, file, edit):
+    for _, old, new in (it for it in edit.pairs if it[0] == file):
+        text = text.replace(old, new, 1)
+    return text
+
+
+def with_a_copy(text, edit):
+    """Returns the text of a file with a copy of the edit's function, which the edit changes, below that."""
+    [file, _, name] = edit.copied
+    function = next(it for it in FUNCTION.finditer(text) if function_of(file, text, it) == edit.copied)
+    end = body_of(text, function)[1]
+    head = re.compile(rf"\bfn {name}\b")
+    return f"{text[:end]}\n\n{head.sub(f'fn {edit.functions[0][2]}', changed(text[function.start() : end], file, edit), 1)}{text[end:]}"
+
+
+def copy_proof(proof, other, folder):
+    """Gives a copy of a function the files of that function's proof, which name what it is a proof of."""
+    for name in os.listdir(f"{folder}/{proof}") if os.path.isdir(f"{folder}/{proof}") else ():
+        text = open(f"{folder}/{proof}/{name}", encoding="utf-8").read()
+        os.makedirs(f"{folder}/{other}", exist_ok=True)
+        with open(f"{folder}/{other}/{name}", "w", encoding="utf-8") as it:
+            it.write(text.replace(f".{proof.replace('/', '.')}.", f".{other.replace('/', '.')}."))
 
 
 def owner_of(head):
@@ -179,6 +228,18 @@ def place(edit, folder):
         texts[file] = texts[file].replace(old, new)
     edit.is_of_a_body &= len(edit.functions) == 1 and not edit.judge
     edit.is_of_its_clause &= bool(edit.judge and edit.goal)
+    edit.can_have_a_copy = edit.is_of_a_body and has_a_copy(edit.functions[0], folder)
+
+
+def has_a_copy(function, folder):
+    """Whether a crate can have a copy of a function under another name: it is no trait's and no constant one, has no closure with a
+    proof of its own, and its proof does not name it other than by its path."""
+    texts = texts_of(folder)
+    found = [it for it in FUNCTION.finditer(texts[function[0]]) if function_of(function[0], texts[function[0]], it) == function]
+    head, proof = head_of(texts[function[0]], found[0]), proof_of(function, texts)
+    is_free = len(found) == 1 and " for " not in head and not TRAIT.match(head) and not CONSTANT.search(found[0][0])
+    has_closures = os.path.isdir(f"{folder}/{os.path.dirname(proof)}/fn/{function[2]}")
+    return is_free and bool(body_of(texts[function[0]], found[0])) and not has_closures and not os.path.isfile(f"{folder}/{proof}/Proof.antt")
 
 
 def companies(edits):
@@ -225,9 +286,10 @@ def seconds_of(edit, sizes):
 
 
 def go_together(one, other):
-    """Whether neither edit changes what refuses the other: bodies of two functions do not, nor do two clauses of one function."""
+    """Whether neither edit changes what refuses the other: bodies of two functions do not, or of a function and a copy of it, nor do two
+    clauses of one function."""
     if one.is_of_a_body and other.is_of_a_body:
-        return one.functions != other.functions
+        return one.functions != other.functions or one.can_have_a_copy
     return one.is_of_its_clause and other.is_of_its_clause and one.judge == other.judge and one.goal != other.goal
 
 

@@ -5,7 +5,7 @@ import os
 import re
 import textwrap
 
-from edits import FUNCTION, TRAIT, body_of, function_of, functions_of, head_of, proof_of, proofs_of, texts_of
+from edits import CONSTANT, FUNCTION, TRAIT, body_of, function_of, functions_of, head_of, proof_of, proofs_of, texts_of
 
 # The proof of a function, left open.
 PROOF = "use Rattle.{}.proofs.{}.Statement.{{statement}}\n\npub {name}_spec : {{M : Type 1}} → statement M\n{name}_spec = ?\n"
@@ -13,7 +13,6 @@ PROOF = "use Rattle.{}.proofs.{}.Statement.{{statement}}\n\npub {name}_spec : {{
 BEGINS = re.compile(r"^(?=[^\s)\]}-])", re.M)
 # A declaration into which nothing sees, unless what unfolds names it: its name stands first.
 STATES = re.compile(r"(?:pub(?:\([^)]*\))? )?([^\s:]+)\s+:\s")
-CONSTANT = re.compile(r"\bconst\b")
 MODULE = re.compile(r"module (?:.*\n)*?.* where\n")
 INSIDE = re.compile(r"^  ", re.M)
 UNFOLDS = re.compile(r"\bunfolding[ (]([^)\n]*)")

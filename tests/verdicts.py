@@ -66,8 +66,14 @@ def verdict(output, edit):
     said = dict(TELLS.findall(output))
     for path in [path_in(said, edit)] if edit.is_of_a_body else [it for it in said if it.endswith(edit.judge)]:
         if path and (goal := goal_of(output, path, said[path], edit.goal)):
-            return f"{path.partition('::')[2]}, goal {goal}"
+            return f"{named(path, edit)}, goal {goal}"
     return None
+
+
+def named(path, edit):
+    """Returns a function as the edit means it, of which a check may have tried a copy."""
+    path = path.partition("::")[2]
+    return path.removesuffix(edit.functions[0][2]) + edit.copied[2] if edit.copied else path
 
 
 def is_by_names(output):

@@ -9,9 +9,10 @@
 
 A function is proved against its own contract and the contracts of what it calls, and never against a body. So wrong
 bodies of different functions can stand in one copy of a crate, and one check of these functions refuses each by its own.
-An edit counts as refused where that function is told as not proved, for a goal of its own. What is not told so is tried
-once more, alone; and what that does not tell, nor that a proof file which cites a name is all that refuses it, is judged by
-a check of the whole crate. Each edit has a line that names the goal that refused it, and the last line is `N refused, M not`.
+Of several of one function, each but the first goes to a copy of that function, under another name. An edit counts as refused
+where that function is told as not proved, for a goal of its own. What is not told so is tried once more, alone; and what that
+does not tell, nor that a proof file which cites a name is all that refuses it, is judged by a check of the whole crate. Each
+edit has a line that names the goal that refused it, and the last line is `N refused, M not`.
 
 First each crate is proved as it is, over what earlier runs kept. With `--over` that is `rt ci`'s part: a crate's edits are
 tried once `rt ci` has proved it. The libraries that it leaves hold statements alone, so a check of edits begins with no proof of the
@@ -21,7 +22,6 @@ crate. It needs none either but those of the functions that it asks of: those of
 import argparse
 import contextlib
 import functools
-import heapq
 import json
 import os
 import re
@@ -29,7 +29,6 @@ import shutil
 import sys
 import threading
 import time
-from concurrent.futures import ThreadPoolExecutor
 
 TOP = os.path.dirname(os.path.dirname(os.path.abspath(__file__)))
 sys.dont_write_bytecode = True
@@ -37,15 +36,14 @@ sys.path[:0] = [f"{TOP}/tools", f"{TOP}/tests"]
 import prove  # noqa: E402
 import together  # noqa: E402
 import verdicts  # noqa: E402
-from edits import applied, companies, fault_of, offers_nothing, only, place, read_edit, seconds_of, shared_out  # noqa: E402
+from edits import apply_all, companies, fault_of, in_one_check, offers_nothing, only, place, read_edit, seconds_of, shared_out  # noqa: E402
+from lanes import Lanes  # noqa: E402
 from openings import leave_open  # noqa: E402
 
 # In a processor's seconds, how long a check takes before it comes to an edit, how long it is to take in all, and more than any does.
 BEGINS = 12
 MOST = 270
 MANY = 1_000_000
-# So much memory, in kB, is free before a further check begins: others go on beside it.
-ROOM = 6_000_000
 # What `rt ci` says once a library stands, or a program is proved, and at its end.
 PROVED = re.compile(r"^rt: (\w+) (?:proved$|is kept: )", re.M)
 ENDED = re.compile(r"^\d+ passed, \d+ failed", re.M)
@@ -70,7 +68,7 @@ class Libraries:
     """The libraries of the crates, as some `rt` built them, and how a crate is checked over them."""
 
     def __init__(self, top, room):
-        self.top, self.room, self.uses, self.below = top, room, prove.uses_of(top), prove.crates_of(top)
+        self.top, self.room, self.uses, self.below, self.checks = top, room, prove.uses_of(top), prove.crates_of(top), set()
         self.kit = os.path.dirname(together.said_by(["rt", "doc"], top)[1].strip())
 
     def take(self, name):
@@ -107,14 +105,14 @@ class Libraries:
                     shutil.copytree(f"{self.top}/crates/{name}/{it}", f"{room}/{it}")
             if kept and os.path.isdir(kept):
                 shutil.copytree(kept, f"{room}/kept", copy_function=prove.link)
-            for it in edits if is_applied else ():
-                applied(it, room)
+            if is_applied:
+                apply_all(edits, room)
             if is_open:
                 leave_open(edits, room, self.functions(name))
             if is_short:
                 offers_nothing(edits, room)
             asked = [*([] if is_of_all else only(edits)), *["--allow-holes"] * is_open]
-            said = NO_FUNCTION.sub("", together.said_by([*self.words(name), *asked], room)[1])
+            said = NO_FUNCTION.sub("", together.said_by([*self.words(name), *asked], room, self.checks)[1])
             # (where a file of these is of no function that it knows)
             if is_short and "error: rattle does not read this file" in said:
                 return self.check(edits, kept, keeps, is_open=is_open, is_applied=is_applied)
@@ -144,63 +142,6 @@ class Libraries:
             for it in edits:
                 shutil.copy2(f"{self.top}/crates/{name}/wrong/{it.name}.edit", f"{folder}/must-fail")
             return together.said_by(["rt", "must-fail", name], room)[1]
-
-
-def are_busy():
-    """Whether as many threads as there are processors run, or could, beside the one that asks."""
-    return int(re.search(r"(\d+)/", open("/proc/loadavg").read())[1]) > prove.processors()
-
-
-class Lanes:
-    """Work that runs side by side, one piece on each processor as far as memory goes, the most urgent first. Work may add more. While
-    they are held, it goes only on processors that others leave idle: two checks on one take more of its time than one after the other."""
-
-    def __init__(self):
-        self.ready, self.added, self.running, self.changed = [], 0, 0, threading.Condition()
-        self.are_held, self.taken_at = False, 0
-
-    def add(self, urgency, work):
-        with self.changed:
-            heapq.heappush(self.ready, (urgency, self.added, work))
-            self.added += 1
-            self.changed.notify()
-
-    def take(self):
-        """Returns the next work, once there is memory and a processor for it, or None where all is done."""
-        with self.changed:
-            while self.are_to_wait():
-                self.changed.wait(1)
-            self.running, self.taken_at = self.running + bool(self.ready), time.time()
-            return heapq.heappop(self.ready)[2] if self.ready else None
-
-    def are_to_wait(self):
-        """Whether others keep all processors busy, as what was taken in this second may, or there is no work yet, or no memory for it."""
-        if self.are_held and (time.time() < self.taken_at + 1 or are_busy()):
-            return True
-        return bool(self.running or self.are_held) and (not self.ready or prove.memory() < ROOM)
-
-    def hold(self, are_held):
-        """Has the lanes wait for work that is still to be added, or no longer do so."""
-        with self.changed:
-            self.are_held = are_held
-            self.changed.notify_all()
-
-    def release(self):
-        with self.changed:
-            self.running -= 1
-            self.changed.notify_all()
-
-    def go_on(self):
-        while work := self.take():
-            try:
-                work()
-            finally:
-                self.release()
-
-    def run(self):
-        with ThreadPoolExecutor(prove.processors()) as pool:
-            for it in [pool.submit(self.go_on) for _ in range(prove.processors())]:
-                it.result()
 
 
 class Crate:
@@ -236,7 +177,7 @@ class Trial:
         self.libraries = Libraries(top, f"{room}/libraries")
         self.crates = {it: Crate(top, it) for it in names}
         self.all = [it for it in self.below if any(it in (one, *self.below[one]) for one in names)]
-        self.left, self.proved, self.changing, self.lanes = list(self.all), set(), threading.Lock(), Lanes()
+        self.left, self.proved, self.changing, self.lanes = list(self.all), set(), threading.Lock(), Lanes(self.libraries.checks)
 
     def ready(self):
         """Returns the crates that were not begun, and whose lower crates are proved, in their order."""
@@ -309,9 +250,10 @@ class Trial:
         """Has one short check judge these edits, and then each of which it does not tell a longer one of its own."""
         crate = self.crates[edits[0].crate]
         # An edit of what lemmas are about may make one of them false, with which all is proved.
-        said = self.said_of(edits, crate.is_open and (is_short or edits[0].is_of_a_body), is_short=is_short)
-        for edit in edits:
-            if goal := verdicts.verdict(said, edit):
+        tried = in_one_check(edits)
+        said = self.said_of(tried, crate.is_open and (is_short or edits[0].is_of_a_body), is_short=is_short)
+        for edit, one in zip(edits, tried):
+            if goal := verdicts.verdict(said, one):
                 self.note(edit, goal)
             elif is_short and (edit.functions or crate.is_open and only(edits)):
                 self.add([[edit]], is_short=False)

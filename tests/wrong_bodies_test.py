@@ -2,7 +2,8 @@
 """Tests of `wrong_bodies.py` over a crate of five functions, made in a folder of its own: which edits it takes as refused, over
 the library that `rt lib` built and beside an `rt ci` whose words are written here, and by `rt must-fail` alone. In which order it
 has which checks it shows without `rt`, by answers that stand here for those of checks. And of what it stands on: which errors are a
-name's, which edits one check tries, what such a check leaves open, and that commands end with the process that started them."""
+name's, which edits one check tries, what such a check leaves open, that commands end with the process that started them, and that
+they stop and go on."""
 
 import os
 import signal
@@ -14,6 +15,7 @@ sys.dont_write_bytecode = True
 sys.path.insert(0, os.path.dirname(os.path.abspath(__file__)))
 import wrong_bodies  # noqa: E402
 from edits import Edit, companies, seconds_of, shared_out  # noqa: E402
+from lanes import Lanes  # noqa: E402
 from openings import lemmas_open, without_bodies  # noqa: E402
 from wrong_bodies import together, verdicts  # noqa: E402
 
@@ -151,10 +153,12 @@ LEFT_OUT = {
 # Each edit by its name: the file, the old text, the new one, and what its line has to say.
 EDITS = {
     "adds_one": ("src/lib.rt", "    n + n", "    n + n + 1", "refused by twice, goal"),
+    "adds_two": ("src/lib.rt", "    n + n", "    n + n + 2", "refused by twice, goal"),
     "leaves_all": ("src/lib.rt", "rest = n - m", "rest = n", "refused by rest_of, goal"),
     # Refused only in company, since its function calls another wrong body there.
     "means_the_same": ("src/lib.rt", "half + half", "2 * half", "NOT REFUSED: toy/means_the_same: the crate is still proved"),
     "begins_with_a_return": ("src/lib.rt", "result ≡ n } {", "result ≡ n } { if n > 100 { return 0; }", "refused by same, goal"),
+    "begins_with_a_name": ("src/lib.rt", "result ≡ n } {", "result ≡ n } { let n = n;", "NOT REFUSED: toy/begins_with_a_name: the crate is still proved"),
     "says_less": ("src/lib.rt\njudge: four_times", "    ensures { result ≡ n + n }", "    ensures { n ≤ result }", "refused by four_times, goal"),
     "takes_a_name_away": (
         "src/lib.rt",
@@ -162,6 +166,7 @@ EDITS = {
         "let pair = twice(n as u32); let double = pair;",
         "NOT REFUSED: toy/takes_a_name_away: only a file of proofs",
     ),
+    "triples_once_too_often": ("src/lib.rt", "double + double + double", "double + double + double + 1", "refused by six_times, goal"),
     "is_not_there": ("src/lib.rt", "n * n", "n", "BAD EDIT: its old text stands in src/lib.rt 0 times"),
     "stands_twice": ("src/lib.rt", "n as u32", "n as u32 + 1", "BAD EDIT: its old text stands in src/lib.rt 2 times"),
 }
@@ -177,7 +182,7 @@ ANSWERED = {
     "is_of_a_test": "logic=proved\n",
     "means_the_same": "logic=proved\n",
     "leaves_all": "note: src/lib.rt:1:1: not proved (`returns`)\nfn toy::rest_of: not proved\n",
-    "leaves_half": "note: src/lib.rt:1:1: not proved (`returns`)\nfn toy::rest_of: not proved\n",
+    "leaves_half": "note: src/lib.rt:1:1: not proved (`returns`)\nfn toy::rest_of_2: not proved\n",
 }
 # Errors that only a name's being gone explains, and others.
 NAMES = [
@@ -240,7 +245,7 @@ def over_a_library(top):
     """Tries edits over a library, by checks and by `rt must-fail`, and sees that checks with none applied tell nothing."""
     made_in(top, EDITS)
     wrong_bodies.prove.prove(top, "toy", [], 1, 0, ["lib"])
-    failed = failures(top, {name: it[3] for name, it in EDITS.items()}, "4 refused, 4 not", "rt: toy proved\n")
+    failed = failures(top, {name: it[3] for name, it in EDITS.items()}, "6 refused, 5 not", "rt: toy proved\n")
     for name in EDITS:
         if name != "takes_a_name_away":
             os.remove(f"{top}/crates/toy/wrong/{name}.edit")
@@ -263,10 +268,9 @@ def over_answers(top):
     failed = failures(top, {it: (EDITS | MORE)[it][3] for it in names}, "3 refused, 2 not", "rt: toy proved\n")
     failed += failures(top, {"leaves_all": "toy is not proved"}, "0 refused, 5 not", "rt: toy NOT PROVED\n0 passed, 1 failed\n")
     wrong_bodies.Libraries.check = of_rt
-    first = [(["leaves_all", "means_the_same"], False, True, True, True, False)]
+    first = [(["leaves_all", "leaves_half", "means_the_same"], False, True, True, True, False)]
     rest = [([it], False, False, False, True, False) for it in ("changes_a_lemma", "is_of_a_test")]
-    rest += [(["leaves_half"], True, True, True, True, False), (["means_the_same"], True, True, True, False, False)]
-    rest += [(["means_the_same"], False, True, False, False, True)]
+    rest += [(["means_the_same"], True, True, True, False, False), (["means_the_same"], False, True, False, False, True)]
     if asked[:1] != first or sorted(asked[1:]) != sorted(rest):
         failed += 1
         print(f"FAILED: these checks came: {asked}")
@@ -289,10 +293,15 @@ def left_in():
 
 
 def lists_apart():
-    """Returns how many lists of edits are otherwise than they were to be: those of one function are apart, and no list takes too long."""
-    edits = [Edit("toy", f"{name}_{k}", functions=[("src/lib.rt", "", name)]) for name, k in (("g", 1), ("f", 1), ("h", 1), ("f", 2))]
-    failed = 0
-    for most, wanted in ((1000, [["f_1", "g_1"], ["f_2", "h_1"]]), (10, [["f_1"], ["f_2"], ["g_1"], ["h_1"]])):
+    """Returns how many lists of edits are otherwise than they were to be: those of one function are apart if that can have no copy, and
+    no list takes too long."""
+    failed, names = 0, (("g", 1), ("f", 1), ("h", 1), ("f", 2))
+    for copies, most, wanted in (
+        (False, 1000, [["f_1", "g_1"], ["f_2", "h_1"]]),
+        (True, 1000, [["f_1", "f_2", "g_1", "h_1"]]),
+        (True, 10, [["f_1"], ["f_2"], ["g_1"], ["h_1"]]),
+    ):
+        edits = [Edit("toy", f"{name}_{k}", functions=[("src/lib.rt", "", name)], can_have_a_copy=copies) for name, k in names]
         found = [[it.name for it in group] for group in shared_out(edits, lambda it: seconds_of(it, {"f": 2.0}), most)]
         if found != wanted:
             failed += 1
@@ -300,12 +309,26 @@ def lists_apart():
     return failed
 
 
-def is_running(number):
-    """Whether a process runs, and is not only left for its parent to see."""
+def state_of(number):
+    """Returns the letter that stands for a process's state, where it is not gone."""
     try:
-        return open(f"/proc/{number}/stat", encoding="utf-8").read().rpartition(")")[2].split()[0] not in "ZX"
+        return open(f"/proc/{number}/stat", encoding="utf-8").read().rpartition(")")[2].split()[0]
     except OSError:
-        return False
+        return "X"
+
+
+def gives_way():
+    """Whether a command, and what that started, stops where others want its processor, and goes on once they do not."""
+    with subprocess.Popen(["sh", "-c", "sleep 600 & echo $!; wait"], stdout=subprocess.PIPE, text=True) as begun:
+        all_of_it, states = [begun.pid, int(begun.stdout.readline())], []
+        lanes = Lanes({begun.pid})
+        for least, most in ((0, 1), (1, 2), (-1, 0), (-2, -1)):
+            lanes.stop_or_go_on(least, most)
+            time.sleep(0.1)
+            states.append([state_of(it) == "T" for it in all_of_it])
+        for it in all_of_it:
+            os.kill(it, signal.SIGKILL)
+    return states == [[it] * 2 for it in (False, True, True, False)]
 
 
 def ends_all(number):
@@ -318,7 +341,7 @@ def ends_all(number):
         started = begun.stdout.readline().split()
         begun.send_signal(number)
         for _ in range(100):
-            if not any(is_running(it) for it in started):
+            if all(state_of(it) in "ZX" for it in started):
                 return len(started) == 2
             time.sleep(0.1)
         begun.kill()
@@ -350,6 +373,9 @@ def main():
         if not ends_all(number):
             failed += 1
             print(f"FAILED: what was started goes on after signal {number}")
+    if not gives_way():
+        failed += 1
+        print("FAILED: what a command does where others want its processor")
     failed += lists_apart() + left_in()
     for tries in (over_answers, over_a_library):
         with together.folder("toy-") as top:

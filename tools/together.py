@@ -41,10 +41,15 @@ def run(words, **how):
     return subprocess.run(words, stdin=subprocess.DEVNULL, process_group=begun()[1], **how)
 
 
-def said_by(words, at):
-    """Returns the status of a command in a folder, and what it said."""
-    ran = run(words, cwd=at, stdout=subprocess.PIPE, stderr=subprocess.STDOUT)
-    return ran.returncode, ran.stdout.decode(errors="replace")
+def said_by(words, at, running=None):
+    """Returns the status of a command in a folder, and what it said. While it runs, its process is among those running."""
+    running = set() if running is None else running
+    how = {"stdin": subprocess.DEVNULL, "stdout": subprocess.PIPE, "stderr": subprocess.STDOUT, "process_group": begun()[1]}
+    with subprocess.Popen(words, cwd=at, **how) as ran:
+        running.add(ran.pid)
+        said = ran.communicate()[0]
+        running.discard(ran.pid)
+    return ran.returncode, said.decode(errors="replace")
 
 
 def main():
