@@ -21,7 +21,7 @@ import tempfile
 TOP = os.path.dirname(os.path.dirname(os.path.abspath(__file__)))
 EXAMPLES = os.path.join(TOP, "examples")
 FENCE = re.compile(r"^```(\w*)\n(.*?)^```$", re.MULTILINE | re.DOTALL)
-EXCERPT = re.compile(r"[Ff]rom `(crates/[^`]*)`:\n\n```rust\n(.*?)^```$", re.MULTILINE | re.DOTALL)
+EXCERPT = re.compile(r"[Ff]rom `(crates/[^`]*)`:\n\n```(?:rust|antt)\n(.*?)^```$", re.MULTILINE | re.DOTALL)
 LINK = re.compile(r"\]\((?!https:)([^)#\s]*)#?([^)\s]*)\)")
 CRATE_PATH = re.compile(r"`(?:crates/)?(\w+/(?:src|specs|proofs|wrong)/[\w./-]*)`")
 

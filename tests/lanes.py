@@ -79,12 +79,15 @@ class Lanes:
 
     def give_way(self):
         """While the lanes are held, stops a process where more threads run than there are processors, and has one go on where fewer do."""
-        while self.are_held:
-            time.sleep(LOOKS / 2)
-            before = running()
-            time.sleep(LOOKS / 2)
-            self.stop_or_go_on(min(before, running()) - prove.processors(), max(before, running()) - prove.processors())
-        self.stop_or_go_on(-len(self.stopped), -len(self.stopped))
+        try:
+            while self.are_held:
+                time.sleep(LOOKS / 2)
+                before = running()
+                time.sleep(LOOKS / 2)
+                counts = before - prove.processors(), running() - prove.processors()
+                self.stop_or_go_on(min(counts), max(counts))
+        finally:
+            self.stop_or_go_on(-len(self.stopped), -len(self.stopped))
 
     def stop_or_go_on(self, least, most):
         """Stops the process that began last, where more threads run than there are to be, or has so many go on as there is room for."""

@@ -42,7 +42,7 @@ from openings import leave_open  # noqa: E402
 
 # In a processor's seconds, how long a check takes before it comes to an edit, how long it is to take in all, and more than any does.
 BEGINS = 12
-MOST = 270
+MOST = 400
 MANY = 1_000_000
 # What `rt ci` says once a library stands, or a program is proved, and at its end.
 PROVED = re.compile(r"^rt: (\w+) (?:proved$|is kept: )", re.M)
