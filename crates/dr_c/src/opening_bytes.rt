@@ -76,10 +76,7 @@ pub fn open(
     if receivers.len() != masks.len() {
         return Err(OpenFault::BadCount);
     }
-    let (w, rs, h) = match ends(alloc, size, limit, bytes, masks) {
-        Ok(ends) => ends,
-        Err(fault) => return Err(fault),
-    };
+    let (w, rs, h) = ends(alloc, size, limit, bytes, masks)?;
     let (Ok(w), Ok(h)) = (
         boxed(alloc, End::SenderOfBytes(w)),
         boxed(alloc, End::HalterOfBytes(h)),
@@ -90,15 +87,11 @@ pub fn open(
     let Ok(rs) = as_many(rs, receivers.len()) else {
         return Err(OpenFault::NoMemory);
     };
-    match fill(alloc, receivers, rs) {
-        Ok(()) => {
-            sender.keep(w);
-            halter.keep(h);
-            Ok(())
-        }
-        Err(_) => {
-            free_all(alloc, receivers);
-            Err(OpenFault::NoMemory)
-        }
+    if fill(alloc, receivers, rs).is_err() {
+        free_all(alloc, receivers);
+        return Err(OpenFault::NoMemory);
     }
+    sender.keep(w);
+    halter.keep(h);
+    Ok(())
 }

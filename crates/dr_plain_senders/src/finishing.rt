@@ -223,10 +223,7 @@ pub fn finish<T: Drop>(
         Snapshot::of(&halter),
     );
     let (ring, halts) = halter.into_left();
-    let words = &ring.table.shared;
-    let plan = &ring.plan;
-    let mut seat = halts.seat;
-    let strip = halts.strip;
+    let (words, plan, mut seat, strip) = (&ring.table.shared, &ring.plan, halts.seat, halts.strip);
     let Gathered {
         mut counts,
         mut hands,
@@ -235,16 +232,8 @@ pub fn finish<T: Drop>(
     } = halts.gathered;
     gather_senders(words, plan, &mut seat, senders, &mut tokens, &mut brought);
     gather_receivers(words, &mut seat, receivers, &mut counts, &mut hands);
-    let (found, row) = reclaim_all(
-        words,
-        plan,
-        seat,
-        &counts,
-        hands,
-        tokens,
-        &brought,
-        strip.cells,
-    );
+    let cells = strip.cells;
+    let (found, row) = reclaim_all(words, plan, seat, &counts, hands, tokens, &brought, cells);
     moments::<T>();
     let settled = Settled {
         claimed: claimed_in(found),
