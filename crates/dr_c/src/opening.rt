@@ -122,10 +122,7 @@ pub fn open(
     if receivers.len() != masks.len() {
         return Err(OpenFault::BadCount);
     }
-    let (s, rs, h) = match ends(alloc, size, limit, masks) {
-        Ok(ends) => ends,
-        Err(fault) => return Err(fault),
-    };
+    let (s, rs, h) = ends(alloc, size, limit, masks)?;
     let (Ok(s), Ok(h)) = (boxed(alloc, End::Sender(s)), boxed(alloc, End::Halter(h))) else {
         return Err(OpenFault::NoMemory);
     };
@@ -133,15 +130,11 @@ pub fn open(
     let Ok(rs) = as_many(rs, receivers.len()) else {
         return Err(OpenFault::NoMemory);
     };
-    match fill(alloc, receivers, rs) {
-        Ok(()) => {
-            sender.keep(s);
-            halter.keep(h);
-            Ok(())
-        }
-        Err(_) => {
-            free_all(alloc, receivers);
-            Err(OpenFault::NoMemory)
-        }
-    }
+    let Ok(()) = fill(alloc, receivers, rs) else {
+        free_all(alloc, receivers);
+        return Err(OpenFault::NoMemory);
+    };
+    sender.keep(s);
+    halter.keep(h);
+    Ok(())
 }

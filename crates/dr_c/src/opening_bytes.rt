@@ -87,10 +87,10 @@ pub fn open(
     let Ok(rs) = as_many(rs, receivers.len()) else {
         return Err(OpenFault::NoMemory);
     };
-    if fill(alloc, receivers, rs).is_err() {
+    let Ok(()) = fill(alloc, receivers, rs) else {
         free_all(alloc, receivers);
         return Err(OpenFault::NoMemory);
-    }
+    };
     sender.keep(w);
     halter.keep(h);
     Ok(())
