@@ -5,7 +5,7 @@ import os
 import re
 import textwrap
 
-from edits import CONSTANT, FUNCTION, TRAIT, body_of, function_of, functions_of, head_of, proof_of, proofs_of, texts_of
+from edits import CONSTANT, FUNCTION, TRAIT, body_of, function_of, head_of, proof_of, proofs_of, texts_of
 
 # The proof of a function, left open.
 PROOF = "use Rattle.{}.proofs.{}.Statement.{{statement}}\n\npub {name}_spec : {{M : Type 1}} → statement M\n{name}_spec = ?\n"
@@ -13,6 +13,7 @@ PROOF = "use Rattle.{}.proofs.{}.Statement.{{statement}}\n\npub {name}_spec : {{
 BEGINS = re.compile(r"^(?=[^\s)\]}-])", re.M)
 # A declaration into which nothing sees, unless what unfolds names it: its name stands first.
 STATES = re.compile(r"(?:pub(?:\([^)]*\))? )?([^\s:]+)\s+:\s")
+WORD = re.compile(r"\w+")
 MODULE = re.compile(r"module (?:.*\n)*?.* where\n")
 INSIDE = re.compile(r"^  ", re.M)
 UNFOLDS = re.compile(r"\bunfolding[ (]([^)\n]*)")
@@ -24,28 +25,44 @@ NO_BODY = "{{\n{0}    unreachable!()\n{0}}}"
 
 
 def leave_open(edits, folder, made):
-    """Leaves open, in the copy of a crate, the proof of each lemma, and of each function but those that a check of these edits is to
-    look at: of those of its sources, whose bodies it leaves out, and of what is made of its types, as the folders of proofs `made` tell."""
+    """Leaves open, in the copy of a crate, the proof of each lemma, and of each function that those call which a check of these edits
+    is to look at: of its sources, whose bodies it leaves out, and of what is made of its types, as the folders of proofs `made` tell."""
     crate, texts = edits[0].crate, texts_of(folder)
     asked = {it for edit in edits for it in (*proofs_of(edit, texts), *(proof_of(one, texts) for one in edit.functions))}
     # A cycle of calls has one proof.
     asked |= {it.replace("/+", "/") for it in made if "/+" in it}
     for file, text in texts.items():
         write(f"{folder}/{file}", without_bodies(file, text, lambda function: proof_of(function, texts) in asked))
-    written = {proof_of(it, texts) for file, text in texts.items() for it in functions_of(file, text)}
+    written, called = functions_apart(texts, asked)
     for at in written.union(it for it in made if MADE.search(it)) - asked:
         *path, name = at.split("/")[1:]
-        os.makedirs(f"{folder}/{at}", exist_ok=True)
         for it in OF_FUNCTIONS:
             if os.path.isfile(f"{folder}/{at}/{it}"):
                 os.remove(f"{folder}/{at}/{it}")
-        write(f"{folder}/{at}/Proof.antt", PROOF.format(crate, ".".join([*path, name]), name=name))
+        if at in called or at not in written:
+            os.makedirs(f"{folder}/{at}", exist_ok=True)
+            write(f"{folder}/{at}/Proof.antt", PROOF.format(crate, ".".join([*path, name]), name=name))
     files = [f"{at}/{it}" for at, _, names in os.walk(f"{folder}/proofs") for it in names if it.endswith(".antt")]
     written = {it: open(it, encoding="utf-8").read() for it in files}
     names = " ".join(it for text in (*texts.values(), *written.values()) for it in UNFOLDS.findall(text))
     seen = set(re.split(r"[\s,]+|::", names))
     for it in (it for it in files if os.path.basename(it) not in OF_FUNCTIONS):
         write(it, lemmas_open(written[it], seen))
+
+
+def functions_apart(texts, asked):
+    """Returns the proofs' folders of all functions, and of those that the ones to look at may call: what their texts name, and
+    all that are a trait's, which operators, loops and drops call too."""
+    found, words = {}, set()
+    for file, text in texts.items():
+        for it in FUNCTION.finditer(text):
+            head, body = head_of(text, it), body_of(text, it)
+            if not TRAIT.match(head):
+                function = function_of(file, text, it)
+                found[proof_of(function, texts)] = None if " for " in head else function[2]
+                if body and proof_of(function, texts) in asked:
+                    words.update(WORD.findall(text[it.start() : body[1]]))
+    return set(found), {at for at, name in found.items() if name is None or name in words}
 
 
 def without_bodies(file, text, is_kept):
