@@ -13,14 +13,14 @@ use dr_meaning::Refusal;
 use dr_seq::Event;
 use std::alloc::{AllocError, Global};
 
-/// The number of the journal in the exchange's graph.
-const JOURNAL: usize = 0;
+/// The number of the journal in a replay's graph, and of its worker where it has one.
+pub const JOURNAL: usize = 0;
 
-/// The number of the replica.
-const REPLICA: usize = 1;
+/// The number of the replica, and of its worker.
+pub const REPLICA: usize = 1;
 
-/// The number of the business handler, which follows both others.
-const BUSINESS: usize = 2;
+/// The number of the business handler, which follows both others, and of its worker.
+pub const BUSINESS: usize = 2;
 
 /// Journal and replica, and the business handler that follows them.
 #[derive(Drop)]

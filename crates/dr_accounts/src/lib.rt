@@ -18,6 +18,7 @@ mod topology;
 mod worker;
 
 pub use business::Business;
+pub use handlers::{BUSINESS, JOURNAL, REPLICA};
 pub use journal::Journal;
 pub use operation::{Movement, Operation, producer_of};
 pub use replica::Replica;

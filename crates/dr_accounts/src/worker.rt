@@ -6,15 +6,12 @@ ghost use Rattle.dr_accounts.specs.Keeping.{Keeps, error_of};
 use crate::reporter::{Reporter, part};
 use dr_ring::Receiver;
 use dr_seq::Event;
-use dr_workers::{Bell, Gate, Parking, Ringing, WorkFault, consume_with};
+use dr_workers::{BATCH, Bell, Gate, Parking, Ringing, WorkFault, consume_with};
 use std::alloc::Global;
 use std::marker::PhantomData;
 use std::snapshot::Snapshot;
 use std::sync::Wait;
 use std::thread::Promise;
-
-/// How many events a worker takes at once, at most.
-const BATCH: usize = 256;
 
 /// What a worker gives back: its end, and its handler's part of the report or why there is none.
 #[derive(Drop)]

@@ -9,14 +9,11 @@ use crate::watching::Watching;
 use dr_lock::{End, Exchange, LockedOutlet};
 use dr_meaning::Handler;
 use dr_seq::Event;
-use dr_workers::{OpenGate, Ringing, WorkFault, consume_with};
+use dr_workers::{BATCH, OpenGate, Ringing, WorkFault, consume_with};
 use std::snapshot::Snapshot;
 use std::sync::Wait;
 use std::sync::ledger::Ledger;
 use std::thread::Promise;
-
-/// How many events a worker takes at once, at most.
-const BATCH: usize = 256;
 
 /// What a worker gives back: its end, its handler, and its fault if it has one.
 #[derive(Drop)]

@@ -1,23 +1,21 @@
 //! What an audit finds amiss.
 
-ghost use Rattle.std.specs.Prelude.{◌≡◌};
+ghost use Rattle.std.specs.Prelude.{◌≡◌, Some};
 ghost use Rattle.dr_lock.specs.Calls.AuditFault.{number_of, name_of};
 ghost use Rattle.dr_lock.specs.declared.audit_fault.AuditFault.TheVariants.{NoMemory};
 
 use std::alloc::AllocError;
-use thiserror::Error;
+use std::error::Error;
+use std::fmt;
 
 /// What an audit finds amiss. Its three faults are this project's own.
-#[derive(Clone, Copy, Debug, PartialEq, Eq, Error)]
+#[derive(Clone, Copy, Debug, PartialEq, Eq)]
 pub enum AuditFault {
     /// The least producer whose published events are not its script.
-    #[error("script-differs")]
     ScriptDiffers(u64),
     /// The least handler, of those that are not retired, that did not take every published event.
-    #[error("not-drained")]
     NotDrained(usize),
     /// An allocation failed.
-    #[error("no-memory")]
     NoMemory,
 }
 
@@ -44,6 +42,16 @@ impl AuditFault {
         }
     }
 }
+
+impl fmt::Display for AuditFault {
+    ghost output = { λ fault. Some (name_of fault) };
+
+    fn fmt<W: fmt::Write>(&self, f: &mut fmt::Formatter<W>) -> fmt::Result {
+        f.write_str(self.name())
+    }
+}
+
+impl Error for AuditFault {}
 
 impl From<AllocError> for AuditFault {
     ghost from_gives = { λ _ fault. fault ≡ NoMemory };

@@ -18,12 +18,10 @@ use crate::event_file::read_events;
 use crate::fault::ReplayFault;
 use crate::given_back::Delivered;
 use crate::lock_workers::{Around, Joined, exchange, make_ends};
-use crate::outcome::{
-    BUSINESS, JOURNAL, PRODUCER, REPLICA, audit_fault, ended, joined, lock_fault,
-};
+use crate::outcome::{PRODUCER, audit_fault, ended, joined, lock_fault};
 use crate::part::Part;
 use crate::scripts::{scripts, views};
-use dr_accounts::{Business, Journal, Replica, graph};
+use dr_accounts::{BUSINESS, Business, JOURNAL, Journal, REPLICA, Replica, graph};
 use dr_files::{Counted, write_text};
 use dr_lock::{End, Exchange, Recorded, Shared, audit, finish};
 use dr_meaning::{MAX_LIMIT, Mode};

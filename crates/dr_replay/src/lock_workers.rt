@@ -9,20 +9,17 @@ ghost use Rattle.dr_replay.specs.Inside.LockWorkers.{AreSent, AreUnused, ComesBa
 ghost use Rattle.dr_replay.specs.Meaning.Exchange.{IsHalters};
 
 use crate::given_back::{Delivered, Handled, HandledBy, SentBy};
-use crate::outcome::{BUSINESS, JOURNAL, PRODUCER, REPLICA};
+use crate::outcome::PRODUCER;
 use crate::part::Listing;
-use dr_accounts::{Business, Journal, Replica, Reporter};
+use dr_accounts::{BUSINESS, Business, JOURNAL, Journal, REPLICA, Replica, Reporter};
 use dr_lock::{End, Exchange, LockedInlet, LockedOutlet, Shared, halt};
 use dr_seq::{Event, Size};
-use dr_workers::{Bell, Gate, Parking, Ringing, WorkFault, consume_with, produce_with};
+use dr_workers::{BATCH, Bell, Gate, Parking, Ringing, WorkFault, consume_with, produce_with};
 use std::alloc::{AllocError, Global};
 use std::sync::Wait;
 use std::sync::ledger::Ledger;
 use std::thread;
 use std::thread::{Promise, PromisedHandle, Threads};
-
-/// How many events a worker takes at once, at most.
-const BATCH: usize = 256;
 
 /// What all workers of an exchange share.
 #[derive(Drop)]

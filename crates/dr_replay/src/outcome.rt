@@ -1,4 +1,4 @@
-//! How a replay's workers are numbered, and what comes of how they ended.
+//! The numbers of a replay's senders, and what comes of how its workers ended.
 
 ghost use Rattle.std.specs.Prelude.{◌≡◌, ◌++◌, IfOk, string_bytes};
 ghost use Rattle.dr_replay.specs.Calls.Workers.{audit_fault as audit_fault_of, lock_fault as lock_fault_of, replay_fault as fault_of};
@@ -8,15 +8,6 @@ use dr_files::FileFault;
 use dr_lock::AuditFault;
 use dr_workers::{Ended, WorkFault, WorkerFault};
 use std::alloc::AllocError;
-
-/// The number of the journal's worker.
-pub const JOURNAL: usize = 0;
-
-/// The number of the replica's worker.
-pub const REPLICA: usize = 1;
-
-/// The number of the business handler's worker.
-pub const BUSINESS: usize = 2;
 
 /// The number of the sender's worker, and of the first producer's.
 pub const PRODUCER: usize = 16;

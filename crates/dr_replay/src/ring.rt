@@ -22,8 +22,10 @@ ghost use Rattle.dr_replay.specs.Calls.Workers.{AreThrough, CameTogether, IsFirs
 
 use crate::event_file::read_events;
 use crate::fault::ReplayFault;
-use crate::outcome::{BUSINESS, JOURNAL, PRODUCER, REPLICA, joined, replay_fault};
-use dr_accounts::{Business, Journal, PartOf, Replica, Worked, graph, work};
+use crate::outcome::{PRODUCER, joined, replay_fault};
+use dr_accounts::{
+    BUSINESS, Business, JOURNAL, Journal, PartOf, REPLICA, Replica, Worked, graph, work,
+};
 use dr_files::{Counted, FileFault, write_text};
 use dr_meaning::MAX_LIMIT;
 use dr_ring::{Halter, Receiver, Sender, ring, settle};

@@ -6,13 +6,10 @@ ghost use Rattle.dr_threads.specs.Serving.{Serving};
 use crate::strategy::WaitStrategy;
 use dr_meaning::{Handler, Outlet};
 use dr_seq::Event;
-use dr_workers::{Bell, OpenGate, Ringing, WorkFault, consume_with};
+use dr_workers::{BATCH, Bell, OpenGate, Ringing, WorkFault, consume_with};
 use std::snapshot::Snapshot;
 use std::sync::Wait;
 use std::thread::Promise;
-
-/// How many events a worker takes at once, at most.
-const BATCH: usize = 256;
 
 /// What a worker gives back: its end, its handler, and its fault if it has one.
 #[derive(Drop)]

@@ -20,6 +20,10 @@ use crate::waiting::Waiting;
 use dr_meaning::{Handler, Outlet, Polled, Trouble, show};
 use std::sync::Wait;
 
+/// How many events there is room for in the buffer of a worker that has its own, so how many it takes at once, at
+/// most. [`consume`] and [`consume_with`] are given their buffer, of any length.
+pub const BATCH: usize = 256;
+
 // What a turn of a worker came to.
 enum Progress {
     /// A batch was shown and completed, or nothing came.

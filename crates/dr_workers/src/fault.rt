@@ -1,22 +1,20 @@
 //! Why a worker ends with a fault.
 
-ghost use Rattle.std.specs.Prelude.{◌≡◌};
+ghost use Rattle.std.specs.Prelude.{◌≡◌, Some};
 ghost use Rattle.dr_workers.specs.Calls.Fault.{name_of, number_of};
 
 use dr_meaning::Refusal;
-use thiserror::Error;
+use std::error::Error;
+use std::fmt;
 
 /// Why a worker did not do all of its work, or was told to do no more.
-#[derive(Clone, Copy, Debug, PartialEq, Eq, Error)]
+#[derive(Clone, Copy, Debug, PartialEq, Eq)]
 pub enum WorkFault {
     /// The exchange refused a call.
-    #[error("worker-refused")]
     Refused(Refusal),
     /// An allocation failed.
-    #[error("no-memory")]
     Memory,
     /// The gate answered `Stop`.
-    #[error("stopped")]
     Stopped,
 }
 
@@ -43,3 +41,13 @@ impl WorkFault {
         }
     }
 }
+
+impl fmt::Display for WorkFault {
+    ghost output = { λ fault. Some (name_of fault) };
+
+    fn fmt<W: fmt::Write>(&self, f: &mut fmt::Formatter<W>) -> fmt::Result {
+        f.write_str(self.name())
+    }
+}
+
+impl Error for WorkFault {}

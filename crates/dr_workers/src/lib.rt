@@ -20,7 +20,7 @@ mod ringing;
 mod waiting;
 
 pub use bell::{Bell, Rings};
-pub use consumer::{consume, consume_with};
+pub use consumer::{BATCH, consume, consume_with};
 pub use ended::{Ended, WorkerFault, first_fault};
 pub use fault::WorkFault;
 pub use gate::{Gate, GateAnswer, OpenGate};

@@ -5,15 +5,12 @@ use crate::fault::Fault;
 use crate::words::Order;
 use dr_meaning::{Handler, Outlet};
 use dr_seq::Event;
-use dr_workers::{Bell, OpenGate, Ringing, WorkFault, consume_with};
+use dr_workers::{BATCH, Bell, OpenGate, Ringing, WorkFault, consume_with};
 use std::alloc::Global;
 use std::rt::Clock;
 use std::sync::{Arc, Wait};
 use std::thread::{self, JoinHandle, Threads};
 use std::time::Instant;
-
-/// How many events a handler takes at once, at most.
-const BATCH: usize = 256;
 
 /// A handler's thread: how many nanoseconds each event took, if it notes that.
 pub type Handling = JoinHandle<Result<Vec<u64>, WorkFault>>;
