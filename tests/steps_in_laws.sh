@@ -1,8 +1,8 @@
 #!/usr/bin/env bash
-# Every load and store of a ring's words is a step of its module `laws`, one a function, and a
-# function that stores says so in its contract. A load that nobody remembers, and a store of what
-# a word has already, change nothing that a contract sees, so they are looked for here. What parts a ring's
-# seats as it opens, and what brings them together, loads too: no other file calls that.
+# Every load and store of a ring's words is a step of its module `laws`, one a function, and its contract says that
+# it is one. A load that nobody remembers, one that is remembered as several, and a store of what a word has already
+# change nothing that other contracts see, so they are looked for here. What parts a ring's seats as it opens, and what
+# brings them together, loads too: no other file calls that.
 set -u
 cd "$(dirname "$0")/.." || exit 1
 calls='[.:](load|store|peek|swap|exchange|compare_exchange|fetch_[a-z]+|load_new_seat|swap_new_seat)(_with)?[(:]'
@@ -19,10 +19,14 @@ others_in() {
         FNR == 1 || /(^| )fn / { steps = 0 }
         { steps += gsub(calls, "&") }
         steps > 1 { print FILENAME ":" FNR ":" $0; steps = 1 }' {} +
-    find "$src/laws" "$src/laws.rt" -name '*.rt' -exec awk -v stores="$stores" '
-        FNR == 1 || /(^| )fn / { told = 0 }
-        /HasStored/ { told = 1 }
-        $0 ~ stores && !told { print FILENAME ":" FNR ":" $0 }' {} +
+    find "$src/laws" "$src/laws.rt" -name '*.rt' -exec awk -v calls="$calls" -v stores="$stores" '
+        FNR == 1 || /(^| )fn / { stored = told = 0 }
+        /^ *\/\// { next }
+        /HasStored/ { stored = 1 }
+        /Has(Stored|Loaded)|TookAll/ { told = 1 }
+        $0 ~ stores && !stored || $0 ~ calls && !told && FILENAME !~ /settling/ { print FILENAME ":" FNR ":" $0 }' {} +
+    # What an end remembers of a step is a definition, which has one look in it: not a function written here.
+    grep -rnE '[.:]peek[(:]|then = [{] (Loads [(]λ|Stores .*[)] [(]λ)' "$src" --include='*.rt'
 }
 
 # (The tokens of plain memory are exchanged in slots that an end has in hand, which is no step.)
@@ -32,7 +36,7 @@ others=$(
     grep -rnE "$calls|$ends" crates/dr_lent/src --include='*.rt' | grep -v '[.]exchange('
 )
 if [ -n "$others" ]; then
-    printf 'a load or store that is no step of the laws, or a store that its contract does not tell:\n%s\n' "$others"
+    printf 'a load or store that is no step of the laws, or that its contract does not tell as one:\n%s\n' "$others"
     exit 1
 fi
 # That a look after a store sees what came before another's look after its own is so of these alone.

@@ -44,8 +44,10 @@ pub const UNTOUCHED: Moment = Moment {
     lying: [100, 101, 102, 103],
 };
 
-/// A whole round, by two senders.
+/// A whole round, by two senders: each other round from the first on, and those between.
 const ROUND: [Sent; 2] = [(1, 1, 0, 1), (3, 3, 0, 3)];
+
+const ROUND_BETWEEN: [Sent; 2] = [(3, 3, 0, 3), (1, 1, 0, 1)];
 
 // The last of so many sequences.
 fn last_of(lo: u64, count: u64) -> u64 {
@@ -179,8 +181,9 @@ fn go_round<E: AllEnds>(rt: &impl Abort, ends: &mut E, rounds: u64, name: &'stat
     ensures { E.are_all ends.old → E.are_all ends.new }
 {
     let mut lo = 0u64;
-    for _ in 0..rounds {
-        go(rt, ends, lo, &ROUND, &[(4, 4), (4, 4)], name);
+    for k in 0..rounds {
+        let sent = if k % 2 == 0 { &ROUND } else { &ROUND_BETWEEN };
+        go(rt, ends, lo, sent, &[(4, 4), (4, 4)], name);
         lo = lo.wrapping_add(4);
     }
     lo

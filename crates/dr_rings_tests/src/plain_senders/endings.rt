@@ -11,7 +11,7 @@ use std::alloc::Global;
 use std::process::Abort;
 use std::sync::Arc;
 
-const MOMENTS: [Moment; 10] = [
+const MOMENTS: [Moment; 12] = [
     UNTOUCHED,
     Moment {
         name: "two claims were half written at a halt",
@@ -71,6 +71,20 @@ const MOMENTS: [Moment; 10] = [
         sent: &[(2, 0, 0, 0), (1, 0, 1, 0)],
         halted: true,
         lying: [5, 6, 1007, 8],
+        ..UNTOUCHED
+    },
+    Moment {
+        name: "the first sender finds what another published last, each in its cell",
+        rounds: 1,
+        sent: &[(4, 0, 4, 0)],
+        lying: [1001, 1002, 1003, 1004],
+        ..UNTOUCHED
+    },
+    Moment {
+        name: "and so does the second",
+        rounds: 2,
+        sent: &[(0, 0, 0, 0), (4, 0, 4, 0)],
+        lying: [1005, 1006, 1007, 1008],
         ..UNTOUCHED
     },
     Moment {
