@@ -7,7 +7,8 @@ use Rattle.dr_files.specs.declared.fault.Cause.{Cause}
 use Rattle.dr_files.specs.declared.fault.Cause.TheVariants.{BadRecord}
 use Rattle.dr_records.specs.Records.{Field, Record, records_of}
 use Rattle.dr_drive.specs.Meaning.Commands.{command_of}
-use Rattle.dr_files.specs.Lines.{Line, line_of}
+use Rattle.dr_drive.specs.Meaning.Lines.{line_of}
+use Rattle.dr_files.specs.Lines.{Line}
 use Rattle.dr_files.specs.Outcome.{Fault, Said}
 use Rattle.dr_drive.specs.Meaning.Setup.{Stage, Empty, Prepared, Goes, Opens, missing, prepared}
 
