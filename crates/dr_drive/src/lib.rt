@@ -8,10 +8,12 @@
 
 mod commands;
 mod exchange;
+mod fault;
 mod lines;
 mod setup;
 mod tool;
 
-pub use dr_files::{Cause, Counted, FileFault};
+pub use dr_files::{Counted, FileFault};
+pub use fault::Cause;
 pub use lines::put_line;
 pub use tool::drive;

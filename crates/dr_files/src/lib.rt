@@ -12,6 +12,6 @@ mod numbers;
 mod streams;
 
 pub use counted::Counted;
-pub use fault::{Cause, FileFault, RecordFault};
+pub use fault::{FileFault, Named};
 pub use numbers::number_of;
 pub use streams::{ReadFault, WriteFault, read_all, write_text};
