@@ -14,7 +14,7 @@ use crate::progress::Progress;
 use crate::watched::{Input, Output};
 use dr_check::{CheckFault, check_drive, check_replay};
 use dr_command_line::{By, LineFault, Request, Tool, request};
-use dr_drive::drive;
+use dr_drive::{Cause, drive};
 use dr_replay::{Counted, FileFault, ReplayFault, replay_lock, replay_plain, replay_ring};
 use dr_seq::Size;
 use dr_workers::OpenGate;
@@ -31,12 +31,18 @@ use std::{env, fmt, io};
 enum Fault {
     /// The command line is refused.
     Line(LineFault),
-    /// A text, the help or how many records a file has, could not be printed.
-    Print,
     /// A file is not well, or could not be checked.
     Check(CheckFault),
-    /// A file, or a worker that took part in its run.
-    File(ReplayFault),
+    /// A run over a file of commands ended early.
+    Drive(FileFault<Cause>),
+    /// A run over a file of operations ended early.
+    Replay(ReplayFault),
+    /// There is no memory for the output's buffer, or for the name of the file beside it.
+    Memory,
+    /// A file could not be opened.
+    Read,
+    /// A text, or what a tool says, could not be written where it is asked for.
+    Write,
     /// The reader of standard output has gone. Nothing is printed of it.
     Gone,
 }
@@ -47,9 +53,12 @@ impl fmt::Display for Fault {
     fn fmt<W: fmt::Write>(&self, f: &mut fmt::Formatter<W>) -> fmt::Result {
         match self {
             Fault::Line(refused) => write!(f, "{refused}"),
-            Fault::Print => write!(f, "cannot write"),
             Fault::Check(fault) => write!(f, "{fault}"),
-            Fault::File(fault) => write!(f, "{fault}"),
+            Fault::Drive(fault) => write!(f, "{fault}"),
+            Fault::Replay(fault) => write!(f, "{fault}"),
+            Fault::Memory => write!(f, "no-memory"),
+            Fault::Read => write!(f, "cannot read"),
+            Fault::Write => write!(f, "cannot write"),
             Fault::Gone => Ok(()),
         }
     }
@@ -62,11 +71,24 @@ impl Fault {
     {
         match self {
             Fault::Line(fault) => fault.status(),
-            Fault::Print => 4,
             Fault::Check(fault) => fault.status(),
-            Fault::File(fault) => fault.status(),
+            Fault::Drive(fault) => fault.status(),
+            Fault::Replay(fault) => fault.status(),
+            Fault::Memory => 3,
+            Fault::Read => 4,
+            Fault::Write => 4,
             Fault::Gone => 4,
         }
+    }
+
+    // Whether it is a failed write, of a tool or of the program.
+    fn is_write(&self) -> bool {
+        matches!(
+            self,
+            Fault::Write
+                | Fault::Drive(FileFault::Write)
+                | Fault::Replay(ReplayFault::File(FileFault::Write))
+        )
     }
 }
 
@@ -98,26 +120,27 @@ fn run_over<R: Read + Drop, W: Write + Drop, T: Threads + Wait + Sync>(
     input: R,
     output: W,
     task: Task,
-) -> Result<(), ReplayFault> {
+) -> Result<(), Fault> {
     let Ok(output) = BufWriter::new(alloc, Counted::new(output)) else {
-        return Err(ReplayFault::File(FileFault::Memory));
+        return Err(Fault::Memory);
     };
     let mut reader = Counted::new(input);
     let mut writer = Counted::new(output);
     let ran = match task {
-        Task::Drive => drive(alloc, &mut reader, &mut writer).map_err(ReplayFault::File),
+        Task::Drive => drive(alloc, &mut reader, &mut writer).map_err(Fault::Drive),
         Task::Replay { size, by } => match by {
             By::Plain => {
                 replay_plain(alloc, &mut reader, &mut writer, size).map_err(ReplayFault::File)
             }
             By::Lock => replay_lock(workers, alloc, &mut reader, &mut writer, size, &OpenGate),
             By::Ring => replay_ring(workers, alloc, &mut reader, &mut writer, size, &OpenGate),
-        },
+        }
+        .map_err(Fault::Replay),
     };
     let flushed = writer.flush();
     ran?;
     if flushed.is_err() {
-        return Err(ReplayFault::File(FileFault::Write));
+        return Err(Fault::Write);
     }
     Ok(())
 }
@@ -130,7 +153,7 @@ fn run_watched<R: Read + Drop, W: Write + Drop, T: Threads + Wait + Sync>(
     output: W,
     is_terminal: bool,
     task: Task,
-) -> Result<(), ReplayFault> {
+) -> Result<(), Fault> {
     let progress = Progress::new(rt, matches!(task, Task::Replay { .. }));
     let input = Input::new(input, &progress);
     let output = Output::new(output, &progress, is_terminal);
@@ -149,9 +172,8 @@ fn print_run<R: Read + Drop, T: Threads + Wait + Sync>(
     let mut output = Printed::new(rt);
     let is_terminal = rt.stdout().is_terminal();
     match run_watched(rt, workers, input, &mut output, is_terminal, task) {
-        Ok(()) => Ok(()),
-        Err(ReplayFault::File(FileFault::Write)) if output.is_gone() => Err(Fault::Gone),
-        Err(fault) => Err(Fault::File(fault)),
+        Err(fault) if fault.is_write() && output.is_gone() => Err(Fault::Gone),
+        ended => ended,
     }
 }
 
@@ -163,16 +185,16 @@ fn write_run<R: Read + Drop, T: Threads + Wait + Sync>(
     input: R,
     path: &str,
     task: Task,
-) -> Result<(), ReplayFault> {
+) -> Result<(), Fault> {
     let Ok(part) = part_of(rt.alloc(), path) else {
-        return Err(ReplayFault::File(FileFault::Memory));
+        return Err(Fault::Memory);
     };
     let Ok(mut output) = File::create(rt, part.as_str()) else {
-        return Err(ReplayFault::File(FileFault::Write));
+        return Err(Fault::Write);
     };
     let mut ran = run_watched(rt, workers, input, &mut output, false, task);
     if ran.is_ok() && put_in_place(rt, &output, part.as_str(), path).is_err() {
-        ran = Err(ReplayFault::File(FileFault::Write));
+        ran = Err(Fault::Write);
     }
     if ran.is_err() {
         // Where even this fails, the file stays beside the named one, which is as it was.
@@ -191,7 +213,7 @@ fn run_input<R: Read + Drop, T: Threads + Wait + Sync>(
 ) -> Result<(), Fault> {
     match output {
         None => print_run(rt, workers, input, task),
-        Some(path) => write_run(rt, workers, input, path.as_str(), task).map_err(Fault::File),
+        Some(path) => write_run(rt, workers, input, path.as_str(), task),
     }
 }
 
@@ -208,7 +230,7 @@ fn run_file<T: Threads + Wait + Sync>(
     }
     match File::open(rt, file) {
         Ok(file) => run_input(rt, workers, file, output, task),
-        Err(_) => Err(Fault::File(ReplayFault::File(FileFault::Read))),
+        Err(_) => Err(Fault::Read),
     }
 }
 
@@ -217,7 +239,7 @@ fn print<D: fmt::Display + Drop>(rt: &HostRuntime, text: D) -> Result<(), Fault>
     match rt.print(text) {
         Ok(()) => Ok(()),
         Err(error) if is_gone(&error) => Err(Fault::Gone),
-        Err(_) => Err(Fault::Print),
+        Err(_) => Err(Fault::Write),
     }
 }
 

@@ -23,7 +23,8 @@ ended : (stopped : Bool) (refusal : Refusal) → fault_at_end stopped ≢ Some (
 ended true refusal is = absurd (cc)
 ended false refusal is = absurd (cc)
 
-no_refusal : {A : Type 0} (room : ℕ) (goes : Relation Event A) (start after : A) (may_stop must_stop : ℕ → Type 0) (given back : ReceiverEnd) (fault : Option WorkFault) → 0 < room
+no_refusal : {A : Type 0} (room : ℕ) (goes : Relation Event A) (start after : A) (may_stop must_stop : ℕ → Type 0) (given back : ReceiverEnd)
+    (fault : Option WorkFault) → 0 < room
     → SomeCalls receiver_does given back (Serves room goes start after (Some (received_of given.knows)) (Some (received_of back.knows)) may_stop must_stop fault)
     → given.knows.completed ≤ length given.knows.received → (refusal : Refusal) → fault ≢ Some (Refused refusal)
 no_refusal room goes start after may_stop must_stop given back fault some is begins refusal same =
@@ -31,12 +32,13 @@ no_refusal room goes start after may_stop must_stop given back fault some is beg
     (λ trouble. untroubled receiver_does (λ (e : ReceiverEnd). received_of e.knows) answers room some given back is.calls trouble.0 begins is.lead is.holds.order trouble.1)
     is.holds.gate.answers
 
-answered : {A : Type 0} (part : Result A WorkFault) (fault : Option WorkFault) (refusal : Refusal) → AnswersFor fault (error_of part) → part ≡ Err (Refused refusal) → fault ≡ Some (Refused refusal)
+answered : {A : Type 0} (part : Result A WorkFault) (fault : Option WorkFault) (refusal : Refusal)
+    → AnswersFor fault (error_of part) → part ≡ Err (Refused refusal) → fault ≡ Some (Refused refusal)
 answered part fault refusal (inl same) is = sym same ∙ ap error_of is
 answered part fault refusal (inr memory) is = absurd (let e = ap error_of is in cc)
 
-pub never_refused : {A P : Type 0} (room : ℕ) (goes : Relation Event A) (start after : A) (may_stop must_stop : ℕ → Type 0) (given back : ReceiverEnd) (fault : Option WorkFault)
-    (part : Result P WorkFault) → 0 < room → AnswersFor fault (error_of part)
+pub never_refused : {A P : Type 0} (room : ℕ) (goes : Relation Event A) (start after : A) (may_stop must_stop : ℕ → Type 0) (given back : ReceiverEnd)
+    (fault : Option WorkFault) (part : Result P WorkFault) → 0 < room → AnswersFor fault (error_of part)
     → SomeCalls receiver_does given back (Serves room goes start after (Some (received_of given.knows)) (Some (received_of back.knows)) may_stop must_stop fault)
     → given.knows.completed ≤ length given.knows.received → (refusal : Refusal) → part ≢ Err (Refused refusal)
 never_refused room goes start after may_stop must_stop given back fault part some answers is begins refusal same =

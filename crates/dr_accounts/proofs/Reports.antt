@@ -1,6 +1,6 @@
 -- What the handlers say is what the report says of the events that they were shown.
-use Rattle.std.proofs.Common.{◌≡◌, ◌≤◌, ◌<◌, ◌+◌, ◌^◌, ◌/◌, ◌%◌, ◌⊎◌, ℕ, zero, suc, ◌||◌, nat_lt, ⊎_elim, Bool, true, false, List, [], ◌∷◌, ◌++◌, length}
-use Rattle.std.proofs.Common.{Option, Some, None, refl, sym, ap, ◌∙◌, subst, arith, inl, inr, flat_map, if◌then◌else◌, string_bytes, add-one}
+use Rattle.std.proofs.Common.{◌≡◌, ◌≤◌, ◌<◌, ◌+◌, ◌^◌, ◌/◌, ◌%◌, ◌⊎◌, ℕ, zero, suc, ◌||◌, nat_lt, ⊎_elim, Bool, true, false}
+use Rattle.std.proofs.Common.{List, [], ◌∷◌, ◌++◌, length, Option, Some, None, refl, sym, ap, ◌∙◌, subst, arith, inl, inr, flat_map, if◌then◌else◌, string_bytes, add-one}
 use Rattle.std.specs.Prelude.{◌==◌, is_some, filter, codes}
 use Rattle.std.specs.List.{range_with_len, AllByRecursion}
 use Rattle.std.specs.List.Sorted.{IsStrictlySortedBy}
@@ -72,14 +72,18 @@ Rise low (e ∷ es) = (low ≤ e.0) × Rise (suc e.0) es
 
 rise_above : (low : ℕ) (es : List (ℕ × Account)) → Rise low es → AllAbove low es
 rise_above low [] h = tt
-rise_above low (e ∷ es) h = let here = h.0 in let next : low ≤ suc e.0 = omega arith in (h.0, above_less low (suc e.0) es next (rise_above (suc e.0) es h.1))
+rise_above low (e ∷ es) h =
+    let here = h.0 in
+    let next : low ≤ suc e.0 = omega arith in
+    (h.0, above_less low (suc e.0) es next (rise_above (suc e.0) es h.1))
 
 -- above a key, the entries after it are found
 after_key : (a : ℕ) (e : ℕ × Account) (es : List (ℕ × Account)) → e.0 < a → found (e ∷ es) a ≡ found es a
 after_key a e es less = let apart : a ≡ e.0 → ⊥ = λ same. absurd (omega arith) in rw (at_other a e.0 apart) refl
 
 -- lines of numbers from one on, which look no lower
-agree_from : (f k : ℕ → List ℕ) (low n : ℕ) → ((x : ℕ) → low ≤ x → f x ≡ k x) → flat_map f (range_with_len low n) ≡ flat_map k (range_with_len low n)
+agree_from : (f k : ℕ → List ℕ) (low n : ℕ) → ((x : ℕ) → low ≤ x → f x ≡ k x)
+    → flat_map f (range_with_len low n) ≡ flat_map k (range_with_len low n)
 agree_from f k low zero h = refl
 agree_from f k low (suc n) h =
     let same : low ≤ low = omega arith in
@@ -105,14 +109,16 @@ lines_of_range (e ∷ es) low (suc n) rise below = elim (cases_eq e.0 low) [
       let lines = account_line e.0 e.1.balance e.1.refused in
       let others = flat_map (λ a. line_at a (found (e ∷ es) a)) (range_with_len (low + 1) n) in
       let is : found (e ∷ es) low ≡ Some e.1 = rw (at_same low e.0 (sym first)) refl in
+      let later : (x : ℕ) → low + 1 ≤ x → line_at x (found es x) ≡ line_at x (found (e ∷ es) x) = λ x l. ap (line_at x) (sym (after_key x e es (omega arith))) in
       ap (λ l. lines ++ l)
       (lines_of_range es (low + 1) n rest within
-      ∙ agree_from (λ a. line_at a (found es a)) (λ a. line_at a (found (e ∷ es) a)) (low + 1) n (λ x l. ap (line_at x) (sym (after_key x e es (omega arith)))))
+      ∙ agree_from (λ a. line_at a (found es a)) (λ a. line_at a (found (e ∷ es) a)) (low + 1) n later)
       ∙ ap (λ k. account_line k e.1.balance e.1.refused ++ others) first ∙ ap (λ o. line_at low o ++ others) (sym is)
   | inr later ↦
       let above : low < e.0 = let low_key = rise.0 in omega arith in
       let next : low + 1 ≤ e.0 = omega arith in
-      let nothing : found (e ∷ es) low ≡ None = not_found low (low + 1) (e ∷ es) (omega arith) (next, above_less (low + 1) (suc e.0) es (omega arith) (rise_above (suc e.0) es rise.1)) in
+      let all : AllAbove (low + 1) es = above_less (low + 1) (suc e.0) es (omega arith) (rise_above (suc e.0) es rise.1) in
+      let nothing : found (e ∷ es) low ≡ None = not_found low (low + 1) (e ∷ es) (omega arith) (next, all) in
       lines_of_range (e ∷ es) (low + 1) n (next, rise.1) (λ a there. let b = below a there in omega arith)
       ∙ ap (λ o. line_at low o ++ flat_map (λ a. line_at a (found (e ∷ es) a)) (range_with_len (low + 1) n)) (sym nothing)
 ]
@@ -140,7 +146,9 @@ first_above key (e ∷ es) h = let l = less_is key e.0 h.0 in omega arith
 
 rises : (low : ℕ) (es : List (ℕ × Account)) → FirstAbove low es → IsStrictlySortedBy nat_cmp (keys_of es) → Rise low es
 rises low [] above sorted = tt
-rises low (e ∷ es) above sorted = (above, rises (suc e.0) es (first_above e.0 es (sorted_head nat_cmp e.0 (keys_of es) sorted)) (sorted_tail nat_cmp e.0 (keys_of es) sorted))
+rises low (e ∷ es) above sorted =
+    let head = sorted_head nat_cmp e.0 (keys_of es) sorted in
+    (above, rises (suc e.0) es (first_above e.0 es head) (sorted_tail nat_cmp e.0 (keys_of es) sorted))
 
 any_above : (es : List (ℕ × Account)) → FirstAbove 0 es
 any_above [] = tt
@@ -162,7 +170,10 @@ names_small e a h =
     elim (cases_Bool (code_of e == 2)) [
       | inl two ↦ same_small a (account_of e) (rw two at h) from
       | inr not_two ↦ elim (cases_Bool (code_of e == 3)) [
-        | inl three ↦ ⊎_elim (λ l. same_small a (account_of e) l from) (λ r. same_small a (e.second / 2 ^ 48 % 65536) r to) (either (a == account_of e) (a == e.second / 2 ^ 48 % 65536) (rw (not_two, three) at h))
+        | inl three ↦ ⊎_elim
+            (λ l. same_small a (account_of e) l from)
+            (λ r. same_small a (e.second / 2 ^ 48 % 65536) r to)
+            (either (a == account_of e) (a == e.second / 2 ^ 48 % 65536) (rw (not_two, three) at h))
         | inr not_three ↦ same_small a (account_of e) (rw (not_two, not_three) at h) from
       ]
     ]
@@ -175,7 +186,8 @@ within_bound : (a : ℕ) → a < 2 ^ 16 → a < 0 + account_bound
 unfolding account_bound
 within_bound a h = omega arith
 
-line_is : (a : ℕ) (o : Option Account) (balance refused : ℕ) (named : Bool) → balance_in o ≡ balance → refused_in o ≡ refused → is_some o ≡ named
+line_is : (a : ℕ) (o : Option Account) (balance refused : ℕ) (named : Bool)
+    → balance_in o ≡ balance → refused_in o ≡ refused → is_some o ≡ named
     → line_at a o ≡ (if named then account_line a balance refused else [])
 line_is a None balance refused named b r n = rw (← n) refl
 line_is a (Some account) balance refused named b r n = rw (← n, ← b, ← r) refl
@@ -185,16 +197,24 @@ pub business_says : (b : Business) (events : List Event) → HasBusiness b event
 business_says b events has sorted =
     let entries = b.accounts.entries in
     let rise = rises 0 entries (any_above entries) sorted in
-    let below : (a : ℕ) → is_some (found entries a) ≡ true → a < 0 + account_bound = λ a there. within_bound a (named_small events a (sym (has.named a) ∙ there)) in
-    let one = λ (a : ℕ). if is_account events a then account_line a (balance_of events a) (refusals_of events a) else [] in
-    let lines : account_lines entries ≡ flat_map (λ a. account_line a (balance_of events a) (refusals_of events a)) (filter (is_account events) accounts) =
+    let below : (a : ℕ) → is_some (found entries a) ≡ true → a < 0 + account_bound =
+    λ a there. within_bound a (named_small events a (sym (has.named a) ∙ there)) in
+    let line = λ (a : ℕ). account_line a (balance_of events a) (refusals_of events a) in
+    let one = λ (a : ℕ). if is_account events a then line a else [] in
+    let same : (a : ℕ) → line_at a (found entries a) ≡ one a =
+    λ a. line_is a (found entries a) (balance_of events a) (refusals_of events a) (is_account events a) (has.balances a) (has.refusals a) (has.named a) in
+    let lines : account_lines entries ≡ flat_map line (filter (is_account events) accounts) =
     lines_of_range entries 0 account_bound rise below
-    ∙ lines_agree (λ a. line_at a (found entries a)) one accounts (λ a. line_is a (found entries a) (balance_of events a) (refusals_of events a) (is_account events a) (has.balances a) (has.refusals a) (has.named a))
-    ∙ sym (flat_filter (λ a. account_line a (balance_of events a) (refusals_of events a)) (is_account events) accounts) in
+    ∙ lines_agree (λ a. line_at a (found entries a)) one accounts same
+    ∙ sym (flat_filter line (is_account events) accounts) in
     ap (λ n. heading (codes "business") n ++ account_lines entries) has.count ∙ ap (λ l. heading (codes "business") (length events) ++ l) lines
 
 pub journal_says : (j : Journal) (events : List Event) → HasJournal j events → journal_text j ≡ journal_part events
-journal_says j events has = ap (λ n. heading (codes "journal") n ++ string_bytes j.lines) has.count ∙ ap (λ l. heading (codes "journal") (length events) ++ l) has.lines
+journal_says j events has =
+    ap (λ n. heading (codes "journal") n ++ string_bytes j.lines) has.count
+    ∙ ap (λ l. heading (codes "journal") (length events) ++ l) has.lines
 
 pub replica_says : (r : Replica) (events : List Event) → HasReplica r events → replica_text r ≡ replica_part events
-replica_says r events has = ap (λ n. heading (codes "replica") n ++ string_bytes r.lines) has.count ∙ ap (λ l. heading (codes "replica") (length events) ++ l) has.lines
+replica_says r events has =
+    ap (λ n. heading (codes "replica") n ++ string_bytes r.lines) has.count
+    ∙ ap (λ l. heading (codes "replica") (length events) ++ l) has.lines

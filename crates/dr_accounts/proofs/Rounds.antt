@@ -29,18 +29,47 @@ taken_more events at sent less = let whole : at + (sent - at) ≡ sent = omega a
 
 module _ (size : ℕ) (events : List Event) (at sent : ℕ) (some : at < sent) (within : sent ≤ length events) (fits : sent ≤ at + size) (v : CoreView Event) where
   pub journal_can : Rests size events sent (each at) v → CanTurn replay_graph size events at sent 0 (each at) v
-  journal_can rests = record { holds = rests; handler = omega arith; counted = omega arith; taken = refl; offered = offered_first size events sent 0 (each at) (omega arith); some = some; fits = fits; within = within }
+  journal_can rests = record {
+    holds = rests;
+    handler = omega arith;
+    counted = omega arith;
+    taken = refl;
+    offered = offered_first size events sent 0 (each at) (omega arith);
+    some = some;
+    fits = fits;
+    within = within;
+  }
 
   pub replica_can : Rests size events sent (sent ∷ at ∷ at ∷ []) v → CanTurn replay_graph size events at sent 1 (sent ∷ at ∷ at ∷ []) v
-  replica_can rests = record { holds = rests; handler = omega arith; counted = omega arith; taken = refl; offered = offered_first size events sent 1 (sent ∷ at ∷ at ∷ []) (omega arith); some = some; fits = fits; within = within }
+  replica_can rests = record {
+    holds = rests;
+    handler = omega arith;
+    counted = omega arith;
+    taken = refl;
+    offered = offered_first size events sent 1 (sent ∷ at ∷ at ∷ []) (omega arith);
+    some = some;
+    fits = fits;
+    within = within;
+  }
 
   pub business_can : Rests size events sent (sent ∷ sent ∷ at ∷ []) v → CanTurn replay_graph size events at sent 2 (sent ∷ sent ∷ at ∷ []) v
-  business_can rests = record { holds = rests; handler = omega arith; counted = omega arith; taken = refl; offered = offered_last size events sent at; some = some; fits = fits; within = within }
+  business_can rests = record {
+    holds = rests;
+    handler = omega arith;
+    counted = omega arith;
+    taken = refl;
+    offered = offered_last size events sent at;
+    some = some;
+    fits = fits;
+    within = within;
+  }
 
 -- a handler that was shown the events before a turn was shown those that were sent, after it
 pub shown_more : {A : Type 0} (goes : Relation Event A) (Has : A → List Event → Type 0)
     → ((a b : A) (es : List Event) (e : Event) (s : ℕ) (end : Bool) → Has a es → goes a e s end b → Has b (es ++ e ∷ []))
-    → (size : ℕ) (events : List Event) (at sent h : ℕ) (counts : List ℕ) (new : CoreView Event) (before after : A) → at < sent → TookTurn goes replay_graph size events at sent h counts new before after
+    → (size : ℕ) (events : List Event) (at sent h : ℕ) (counts : List ℕ) (new : CoreView Event) (before after : A)
+    → at < sent → TookTurn goes replay_graph size events at sent h counts new before after
     → Has before (take at events) → Has after (take sent events)
 shown_more goes Has one size events at sent h counts new before after some took has =
-    subst (λ l. Has after l) (taken_more events at sent some) (along goes Has one before after (take at events) (take (sent - at) (drop at events)) at true has took.went)
+    let more : List Event = take (sent - at) (drop at events) in
+    subst (λ l. Has after l) (taken_more events at sent some) (along goes Has one before after (take at events) more at true has took.went)

@@ -25,7 +25,8 @@ pub along : {A : Type 0} (goes : Relation Event A) (Has : A → List Event → T
 along goes Has one a b es [] first end has is = rw append-nil (subst (λ x. Has x es) is has)
 along goes Has one a b es (e ∷ []) first end has is = subst (λ x. Has x (es ++ e ∷ [])) is.2 (one a is.0 es e first end has is.1)
 along goes Has one a b es (e ∷ f ∷ vs) first end has is =
-    subst (λ l. Has b l) (append_assoc es (e ∷ []) (f ∷ vs)) (along goes Has one is.0 b (es ++ e ∷ []) (f ∷ vs) (first + 1) end (one a is.0 es e first false has is.1) is.2)
+    let shown = one a is.0 es e first false has is.1 in
+    subst (λ l. Has b l) (append_assoc es (e ∷ []) (f ∷ vs)) (along goes Has one is.0 b (es ++ e ∷ []) (f ∷ vs) (first + 1) end shown is.2)
 
 -- one that has not failed after a call had not failed before it
 took : {T : Type 0} (failed : T → Bool) (Takes : T → T → Type 0) (old new : T) → Goes T failed Takes old new → failed new ≡ false
@@ -43,15 +44,18 @@ unfolding journal_from
 journal_from-push s [] e = rw (add-zero) (append-nil (journal_line s e))
 journal_from-push s (x ∷ es) e =
     let at : (s + 1) + length es ≡ s + suc (length es) = omega arith in
-    ap (λ l. journal_line s x ++ l) (journal_from-push (s + 1) es e ∙ ap (λ n. journal_from (s + 1) es ++ journal_line n e) at) ∙ sym (append_assoc (journal_line s x) (journal_from (s + 1) es) (journal_line (s + suc (length es)) e))
+    ap (λ l. journal_line s x ++ l) (journal_from-push (s + 1) es e ∙ ap (λ n. journal_from (s + 1) es ++ journal_line n e) at)
+    ∙ sym (append_assoc (journal_line s x) (journal_from (s + 1) es) (journal_line (s + suc (length es)) e))
 
-pub journal_goes : (a b : Journal) (es : List Event) (e : Event) (s : ℕ) (end : Bool) → IsJournalOf a es → Journals a e b → IsJournalOf b (es ++ e ∷ [])
+pub journal_goes : (a b : Journal) (es : List Event) (e : Event) (s : ℕ) (end : Bool)
+    → IsJournalOf a es → Journals a e b → IsJournalOf b (es ++ e ∷ [])
 journal_goes a b es e s end has goes = λ fine.
     let t = took (λ j. j.failed) _ a b goes fine in
     let h = has t.0 in
     let at : 0 + length es ≡ a.count = omega (arith, h.count) in
     record {
-      lines = t.1.lines ∙ ap (λ l. l ++ journal_line a.count e) h.lines ∙ ap (λ n. journal_from 0 es ++ journal_line n e) (sym at) ∙ sym (journal_from-push 0 es e);
+      lines = t.1.lines ∙ ap (λ l. l ++ journal_line a.count e) h.lines
+          ∙ ap (λ n. journal_from 0 es ++ journal_line n e) (sym at) ∙ sym (journal_from-push 0 es e);
       count = t.1.count ∙ ap (λ n. n + 1) h.count ∙ sym (one_longer es e);
     }
 
@@ -61,7 +65,8 @@ replica_goes a b es e s end has goes = λ fine.
     let h = has t.0 in
     let last : flat_map replica_line (e ∷ []) ≡ replica_line e = append-nil (replica_line e) in
     record {
-      lines = t.1.lines ∙ ap (λ l. l ++ replica_line e) h.lines ∙ ap (λ l. flat_map replica_line es ++ l) (sym last) ∙ sym (flat_map-append replica_line es (e ∷ []));
+      lines = t.1.lines ∙ ap (λ l. l ++ replica_line e) h.lines
+          ∙ ap (λ l. flat_map replica_line es ++ l) (sym last) ∙ sym (flat_map-append replica_line es (e ∷ []));
       count = t.1.count ∙ ap (λ n. n + 1) h.count ∙ sym (one_longer es e);
     }
 
@@ -117,7 +122,8 @@ or_none false = refl
 pub is_account-push : (es : List Event) (e : Event) (a : ℕ) → is_account (es ++ e ∷ []) a ≡ (is_account es a || names (movement_of e) a)
 is_account-push es e a = list_any-append (λ x. names (movement_of x) a) es (e ∷ []) ∙ ap (λ b. is_account es a || b) (or_none (names (movement_of e) a))
 
-pub business_goes : (a b : Business) (es : List Event) (e : Event) (s : ℕ) (end : Bool) → IsBusinessOf a es → Books a e b → IsBusinessOf b (es ++ e ∷ [])
+pub business_goes : (a b : Business) (es : List Event) (e : Event) (s : ℕ) (end : Bool)
+    → IsBusinessOf a es → Books a e b → IsBusinessOf b (es ++ e ∷ [])
 business_goes a b es e s end has goes = λ fine.
     let t = took (λ x. x.failed) _ a b goes fine in
     let h = has t.0 in

@@ -1,12 +1,32 @@
 //! What a check finds.
 
 ghost use Rattle.std.specs.Prelude.{◌≡◌, Some};
-ghost use Rattle.dr_check.specs.Verdict.{check_line, check_status};
+ghost use Rattle.dr_check.specs.Verdict.{cause_name, check_line, check_status};
 
-use dr_files::{Cause, ReadFault};
+use dr_files::{Named, ReadFault};
 use std::alloc::AllocError;
 use std::error::Error;
 use std::fmt;
+
+/// Why a record is at fault: a cause of the tool whose file it stands in.
+#[derive(Clone, Copy, Debug, PartialEq, Eq)]
+pub enum Cause {
+    /// In a file of commands.
+    Drive(dr_drive::Cause),
+    /// In a file of operations.
+    Replay(dr_replay::Cause),
+}
+
+impl Named for Cause {
+    ghost name_of = { cause_name };
+
+    fn name(&self) -> &'static str {
+        match self {
+            Cause::Drive(cause) => cause.name(),
+            Cause::Replay(cause) => cause.name(),
+        }
+    }
+}
 
 /// Why a file is not well, or could not be checked. Its text is what a program prints, without its
 /// end: for a record the line of the tool's own fault, and below it where the fault stands.

@@ -16,5 +16,5 @@ mod records_of_drive;
 mod told;
 mod verdict;
 
-pub use fault::CheckFault;
+pub use fault::{Cause, CheckFault};
 pub use verdict::{check_drive, check_replay};

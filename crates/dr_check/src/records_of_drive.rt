@@ -3,7 +3,7 @@
 use crate::place::{Place, end, is_number, number, other, word};
 use crate::records_before::{Before, text_of};
 use csv::ByteRecord;
-use dr_files::Cause;
+use dr_drive::Cause;
 use dr_graph::GraphFault;
 use dr_records::{count_of, field, is_named};
 use indexmap::IndexSet;

@@ -7,7 +7,7 @@ use crate::place::{Place, found};
 use crate::records_before::{Before, take_before};
 use crate::records_of_drive::drive_place;
 use csv::ByteRecord;
-use dr_files::Cause;
+use dr_drive::Cause;
 use dr_records::Rows;
 use indexmap::IndexSet;
 use std::alloc::{AllocError, Global};

@@ -7,9 +7,9 @@ ghost use Rattle.dr_records.specs.Records.{records_of};
 ghost use Rattle.dr_drive.specs.Meaning.DriveText.{drive_text};
 ghost use Rattle.dr_replay.specs.Calls.Replayed.{FileIs, replay_text};
 ghost use Rattle.dr_replay.specs.Meaning.EventFile.{events_of as events_in};
-ghost use Rattle.dr_check.specs.Verdict.{CheckCounts, Verdict};
+ghost use Rattle.dr_check.specs.Verdict.{CheckCounts, Verdict, drive_cause, replay_cause};
 
-use crate::fault::CheckFault;
+use crate::fault::{Cause, CheckFault};
 use crate::told::{drive_told, replay_told};
 use dr_drive::drive;
 use dr_files::{Counted, FileFault, read_all};
@@ -35,7 +35,7 @@ fn count_of_records(alloc: Global, text: &[u8]) -> Result<u64, AllocError>
 }
 
 // Runs `drive` over a text, whose lines go nowhere.
-fn driven(alloc: Global, text: &[u8]) -> Result<(), FileFault>
+fn driven(alloc: Global, text: &[u8]) -> Result<(), FileFault<dr_drive::Cause>>
     ensures { RunWrites result None None (drive_text text.now) }
 {
     let mut reader = Counted::new(text);
@@ -44,7 +44,7 @@ fn driven(alloc: Global, text: &[u8]) -> Result<(), FileFault>
 }
 
 // Reads the events of a text, as a replay does.
-fn events(alloc: Global, text: &[u8]) -> Result<Vec<Event>, FileFault>
+fn events(alloc: Global, text: &[u8]) -> Result<Vec<Event>, FileFault<dr_replay::Cause>>
     ensures { FileIs result (events_in text.now) }
 {
     let mut reader = Counted::new(text);
@@ -54,13 +54,14 @@ fn events(alloc: Global, text: &[u8]) -> Result<Vec<Event>, FileFault>
 // It answers no failed read, as it counts none.
 fn drive_verdict(alloc: Global, text: &[u8]) -> Result<u64, CheckFault>
     requires { length text.now < 2 ^ 63 }
-    ensures verdict { Verdict result (drive_text text.now) (records_of text.now) }
+    ensures verdict { Verdict drive_cause result (drive_text text.now) (records_of text.now) }
     ensures unread { (reads : ℕ) → CheckCounts result reads reads }
 {
     match driven(alloc, text) {
         Ok(()) => Ok(count_of_records(alloc, text)?),
         Err(FileFault::Input { k, cause }) => {
             let told = drive_told(alloc, text, k, cause)?;
+            let cause = Cause::Drive(cause);
             Err(CheckFault::Record { k, cause, told })
         }
         Err(_) => Err(CheckFault::Memory),
@@ -70,13 +71,14 @@ fn drive_verdict(alloc: Global, text: &[u8]) -> Result<u64, CheckFault>
 // It answers no failed read, as it counts none.
 fn replay_verdict(alloc: Global, text: &[u8]) -> Result<u64, CheckFault>
     requires { length text.now < 2 ^ 63 }
-    ensures verdict { Verdict result (replay_text text.now) (records_of text.now) }
+    ensures verdict { Verdict replay_cause result (replay_text text.now) (records_of text.now) }
     ensures unread { (reads : ℕ) → CheckCounts result reads reads }
 {
     match events(alloc, text) {
         Ok(_) => Ok(count_of_records(alloc, text)?),
         Err(FileFault::Input { k, cause }) => {
             let told = replay_told(alloc, text, k)?;
+            let cause = Cause::Replay(cause);
             Err(CheckFault::Record { k, cause, told })
         }
         Err(_) => Err(CheckFault::Memory),
@@ -88,7 +90,7 @@ fn replay_verdict(alloc: Global, text: &[u8]) -> Result<u64, CheckFault>
 pub fn check_drive<R: Read>(alloc: Global, reader: &mut Counted<R>) -> Result<u64, CheckFault>
     requires { faults_of reader.old < 2 ^ 64 - 1 }
     // Where the input's bytes are known, the fault is that of the drive text.
-    ensures verdict { IfSome (R.remaining (inner_of reader.old)) (λ input. Verdict result (drive_text input) (records_of input)) }
+    ensures verdict { IfSome (R.remaining (inner_of reader.old)) (λ input. Verdict drive_cause result (drive_text input) (records_of input)) }
     // A failed read is answered where one failed, and nowhere else.
     ensures counted { CheckCounts result (faults_of reader.old) (faults_of reader.new) }
 {
@@ -101,7 +103,7 @@ pub fn check_drive<R: Read>(alloc: Global, reader: &mut Counted<R>) -> Result<u6
 pub fn check_replay<R: Read>(alloc: Global, reader: &mut Counted<R>) -> Result<u64, CheckFault>
     requires { faults_of reader.old < 2 ^ 64 - 1 }
     // Where the input's bytes are known, the fault is that of the file's operations.
-    ensures verdict { IfSome (R.remaining (inner_of reader.old)) (λ input. Verdict result (replay_text input) (records_of input)) }
+    ensures verdict { IfSome (R.remaining (inner_of reader.old)) (λ input. Verdict replay_cause result (replay_text input) (records_of input)) }
     // A failed read is answered where one failed, and nowhere else.
     ensures counted { CheckCounts result (faults_of reader.old) (faults_of reader.new) }
 {

@@ -30,7 +30,8 @@ pub next_is : (events : List Event) (claimed written published : ℕ) (taken com
     → next (passed events claimed written published taken completed) ≡ claimed
 next_is events claimed written published taken completed = length-replicate claimed 0
 
-pub claims : (graph : List (List ℕ)) (events : List Event) (size at n : ℕ) (counts : List ℕ) → at ≤ least_completed (passed events at at at counts counts) (finals_without graph nobody) → 0 < n → n ≤ size → at + n ≤ 2 ^ 62
+pub claims : (graph : List (List ℕ)) (events : List Event) (size at n : ℕ) (counts : List ℕ)
+    → at ≤ least_completed (passed events at at at counts counts) (finals_without graph nobody) → 0 < n → n ≤ size → at + n ≤ 2 ^ 62
     → step (single_setup graph size) (passed events at at at counts counts) (Claim 0 n)
     ≡ record { reply = Claimed at (at + n - 1); values = []; state = passed events (at + n) at at counts counts }
 claims graph events size at n counts gated some fits limit =
@@ -58,7 +59,8 @@ written_more events w e is k = elim (cases_eq k w) [
   ]
 ]
 
-pub writes : (graph : List (List ℕ)) (events : List Event) (size claimed w at : ℕ) (taken completed : List ℕ) (e : Event) → at ≤ w → w < claimed → e ≡ slice_index_or events w no_event
+pub writes : (graph : List (List ℕ)) (events : List Event) (size claimed w at : ℕ) (taken completed : List ℕ) (e : Event)
+    → at ≤ w → w < claimed → e ≡ slice_index_or events w no_event
     → step (single_setup graph size) (passed events claimed w at taken completed) (Write 0 w e)
     ≡ record { reply = Written; values = []; state = passed events claimed (w + 1) at taken completed }
 writes graph events size claimed w at taken completed e low high is =
@@ -149,7 +151,8 @@ polls graph events size c at h room counts handler some taken_is offered less fi
     ∙ ap (λ values. outcome true values (at + (c - at))) (values_are events c at (c - at) inside within)
     ∙ ap (outcome true (take (c - at) (drop at events))) whole
 
-pub completes : (graph : List (List ℕ)) (events : List Event) (size c at h : ℕ) (counts : List ℕ) → h < length graph → h < length counts → slice_index counts h ≡ at → at < c
+pub completes : (graph : List (List ℕ)) (events : List Event) (size c at h : ℕ) (counts : List ℕ)
+    → h < length graph → h < length counts → slice_index counts h ≡ at → at < c
     → step (single_setup graph size) (passed events c c c (slice_set counts h c) counts) (Complete h c)
     ≡ record { reply = Completed; values = []; state = passed events c c c (slice_set counts h c) (slice_set counts h c) }
 completes graph events size c at h counts handler inside taken_is less =

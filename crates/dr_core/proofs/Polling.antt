@@ -60,7 +60,8 @@ known_value (ClaimedBy q) o b w y h = absurd (false≢true (sym h.1 ∙ y))
 known_value (WrittenBy q event) o b w y h = absurd (false≢true (sym h.1 ∙ y))
 known_value (PublishedWith event) o b w y h = (refl, sym h.1)
 
-map_same : {E : Type 0} (f : ℕ → Option E) (g : ℕ → E) (a n : ℕ) → ((k : ℕ) → a ≤ k → k < a + n → f k ≡ Some (g k)) → filter_map f (range_with_len a n) ≡ map g (range_with_len a n)
+map_same : {E : Type 0} (f : ℕ → Option E) (g : ℕ → E) (a n : ℕ) → ((k : ℕ) → a ≤ k → k < a + n → f k ≡ Some (g k))
+    → filter_map f (range_with_len a n) ≡ map g (range_with_len a n)
 map_same f g a zero h = refl
 map_same f g a (suc n) h = (let e : f a ≡ Some (g a) = h a (omega arith) (omega arith) in
     let r : filter_map f (range_with_len (a + 1) n) ≡ map g (range_with_len (a + 1) n) = map_same f g (a + 1) n (λ k x y. h k (omega arith) (omega arith)) in

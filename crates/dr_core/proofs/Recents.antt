@@ -29,7 +29,8 @@ known_there a s claimed near = known_at-recent (slot_known (kept_of a)) a.next a
 
 -- the tests of a publication, in their order
 pub publish_fault-known : {E : Type 0} (published written : Bool) (owner p : ℕ) (event : E)
-    → publish_fault (known_of published written owner event) p ≡ cond published (Some AlreadyPublished) (cond (owner == p) (cond written None (Some NotWritten)) (Some NotClaimed))
+    → publish_fault (known_of published written owner event) p ≡ cond published (Some AlreadyPublished)
+    (cond (owner == p) (cond written None (Some NotWritten)) (Some NotClaimed))
 publish_fault-known true written owner p event = refl
 publish_fault-known false true owner p event = elim (cases_Bool (owner == p)) [ inl y ↦ rw y | inr n ↦ rw n ]
 publish_fault-known false false owner p event = elim (cases_Bool (owner == p)) [ inl y ↦ rw y | inr n ↦ rw n ]
@@ -213,9 +214,11 @@ moves (Multi producers) published size front next lo hi front' len some order cl
       beyond = λ k beyond. marks_none_after published lo (hi + 1 - lo) k (omega arith) (omega arith) (none k beyond);
     }
 
-module _ {E : Type 0} (v : CoreView E) (a : KeptBySlot E) (kept : (s : ℕ) → s < v.next → v.next ≤ s + v.setup.size → known_at v s ≡ slot_known a s) (available : IsAvailable a v.setup.size v.next) (fronts : a.front ≤ v.next) (some : 0 < v.setup.size) where
+module _ {E : Type 0} (v : CoreView E) (a : KeptBySlot E) (kept : (s : ℕ) → s < v.next → v.next ≤ s + v.setup.size → known_at v s ≡ slot_known a s)
+    (available : IsAvailable a v.setup.size v.next) (fronts : a.front ≤ v.next) (some : 0 < v.setup.size) where
   -- a claim touches the owners alone
-  pub claims_known : (n p : ℕ) → n ≤ v.setup.size → (a.mode ≡ Single → p ≡ 0) → ClaimsKnown v p n (slot_known (record a { owners = owners_after a.mode a.owners v.next n p }))
+  pub claims_known : (n p : ℕ) → n ≤ v.setup.size → (a.mode ≡ Single → p ≡ 0)
+      → ClaimsKnown v p n (slot_known (record a { owners = owners_after a.mode a.owners v.next n p }))
   claims_known n p fits one = record {
     fresh = λ s low high. (let owner : owner_at a.mode (owners_after a.mode a.owners v.next n p) s ≡ p = owner-in a.mode a.owners v.setup.size v.next n p s available.owners some fits low high one in
         let open' : (nat_lt s a.front || is_ahead a.mode a.published s) ≡ false = or_from _ _ (le-ltb _ _ (omega arith)) (available.unpublished s low) in
@@ -238,7 +241,8 @@ module _ {E : Type 0} (v : CoreView E) (a : KeptBySlot E) (kept : (s : ℕ) → 
   }
 
   -- a write notes its sequence as written
-  module _ (p s : ℕ) (x : E) (filled' : ℕ) (written' : List ℕ) (claimed : s < v.next) (near : v.next ≤ s + v.setup.size) (noted : IsNoted a.filled a.written s filled' written') where
+  module _ (p s : ℕ) (x : E) (filled' : ℕ) (written' : List ℕ) (claimed : s < v.next) (near : v.next ≤ s + v.setup.size)
+      (noted : IsNoted a.filled a.written s filled' written') where
     abbrev after : KeptBySlot E
     after = record a { filled = filled'; written = written'; events = set a.events (s % length a.events) x }
 
@@ -269,7 +273,8 @@ module _ {E : Type 0} (v : CoreView E) (a : KeptBySlot E) (kept : (s : ℕ) → 
         }
 
   -- a publication leaves its stretch published, and moves the front
-  module _ (p lo hi front' : ℕ) (order : lo ≤ hi) (claimed : hi < v.next) (near : v.next ≤ lo + v.setup.size) (round : v.next ≤ v.front + v.setup.size) (same_front : a.front ≡ v.front) (fresh : v.front ≤ lo)
+  module _ (p lo hi front' : ℕ) (order : lo ≤ hi) (claimed : hi < v.next) (near : v.next ≤ lo + v.setup.size)
+      (round : v.next ≤ v.front + v.setup.size) (same_front : a.front ≡ v.front) (fresh : v.front ≤ lo)
       (in_order : is_single a.mode ≡ true → lo ≡ v.front)
       (found : IsNewFront a.mode (published_after a.mode a.published lo (hi + 1 - lo)) v.front v.next hi front') where
     abbrev marked : List ℕ
@@ -279,7 +284,8 @@ module _ {E : Type 0} (v : CoreView E) (a : KeptBySlot E) (kept : (s : ℕ) → 
     shown = record a { published = marked; front = front'; filled = max a.filled front' }
 
     pub publishes_moves : Moves a.mode a.published marked v.setup.size v.front v.next lo hi front'
-    publishes_moves = moves a.mode a.published v.setup.size v.front v.next lo hi front' available.published some order claimed near round fresh available.unpublished in_order found
+    publishes_moves = moves a.mode a.published v.setup.size v.front v.next lo hi front'
+        available.published some order claimed near round fresh available.unpublished in_order found
 
     same_mark : (k : ℕ) → k < v.next → v.next ≤ k + v.setup.size → (k < lo) ⊎ (hi < k) → is_published_at shown k ≡ is_published_at a k
     same_mark k l round out = rw same_front (publishes_moves.outside k l round out)
@@ -311,8 +317,10 @@ module _ {E : Type 0} (v : CoreView E) (a : KeptBySlot E) (kept : (s : ℕ) → 
     front_known = record {
       low = publishes_moves.low;
       high = publishes_moves.high;
-      below = λ s low high. is_shown-known (is_published_at shown s) (is_written_at shown s) (owner_at a.mode a.owners s) (event_at a.blank a.events s) ∙ or_left _ _ (lt-ltb s front' high);
-      here = λ l. is_shown-known (is_published_at shown front') (is_written_at shown front') (owner_at a.mode a.owners front') (event_at a.blank a.events front') ∙ or_from _ _ (le-ltb front' front' (omega arith)) (publishes_moves.here l);
+      below = λ s low high. is_shown-known (is_published_at shown s) (is_written_at shown s) (owner_at a.mode a.owners s) (event_at a.blank a.events s)
+          ∙ or_left _ _ (lt-ltb s front' high);
+      here = λ l. is_shown-known (is_published_at shown front') (is_written_at shown front') (owner_at a.mode a.owners front') (event_at a.blank a.events front')
+          ∙ or_from _ _ (le-ltb front' front' (omega arith)) (publishes_moves.here l);
     }
 
     pub publishes_available : IsAvailable shown v.setup.size v.next

@@ -87,7 +87,8 @@ pub record CanTurn (graph : List (List ℕ)) (size : ℕ) (events : List Event) 
   pub within : sent ≤ length events
 
 -- it is done with all that was sent, and was shown what it had not taken
-pub record TookTurn {A : Type 0} (goes : Relation Event A) (graph : List (List ℕ)) (size : ℕ) (events : List Event) (at sent h : ℕ) (counts : List ℕ) (new : CoreView Event) (before after : A) : Type 0 where
+pub record TookTurn {A : Type 0} (goes : Relation Event A) (graph : List (List ℕ)) (size : ℕ)
+    (events : List Event) (at sent h : ℕ) (counts : List ℕ) (new : CoreView Event) (before after : A) : Type 0 where
   pub holds : Holds graph size events sent sent sent (slice_set counts h sent) (slice_set counts h sent) new
   pub went : GoesThrough goes before (showings (take (sent - at) (drop at events)) at true) after
 
@@ -95,7 +96,11 @@ module _ {A : Type 0} (goes : Relation Event A) (graph : List (List ℕ)) (size 
     (can : CanTurn graph size events at sent h counts old) where
   -- the machine's answer
   answers : (reply : Reply) (values : List Event) (polled : CoreView Event) → IsStep old (Poll h old.setup.size) reply values polled
-      → Stepped (record { reply = Batch at (sent - at) true; values = take (sent - at) (drop at events); state = passed events sent sent sent (slice_set counts h sent) counts }) reply values (single_setup graph size) polled
+      → Stepped (record {
+        reply = Batch at (sent - at) true;
+        values = take (sent - at) (drop at events);
+        state = passed events sent sent sent (slice_set counts h sent) counts;
+      }) reply values (single_setup graph size) polled
   answers reply values polled is =
       let some = can.some in
       let fits = can.fits in
@@ -120,7 +125,9 @@ module _ {A : Type 0} (goes : Relation Event A) (graph : List (List ℕ)) (size 
       let done = stepped turn.0 new (Complete h sent) Completed [] (single_setup graph size) (passed events sent sent sent (slice_set counts h sent) counts) _ complete polled.setup polled.shows
       (completes graph events size sent at h counts can.handler can.counted can.taken can.some) in
       let shown : showings values first end ≡ showings (take (sent - at) (drop at events)) at true =
-      ap (λ v. showings v first end) (sym polled.hands_out) ∙ ap (λ f. showings (take (sent - at) (drop at events)) f end) first_is ∙ ap (λ b. showings (take (sent - at) (drop at events)) at b) end_is in
+      ap (λ v. showings v first end) (sym polled.hands_out)
+      ∙ ap (λ f. showings (take (sent - at) (drop at events)) f end) first_is
+      ∙ ap (λ b. showings (take (sent - at) (drop at events)) at b) end_is in
       record { holds = record { setup = done.setup; shows = done.shows }; went = subst (λ l. GoesThrough goes before l after) shown turn.3 }
 
   -- it is a batch

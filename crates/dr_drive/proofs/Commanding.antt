@@ -12,6 +12,7 @@ use Rattle.dr_files.specs.Outcome.{FaultWrites}
 use Rattle.dr_drive.specs.Inside.Shows.{ExchangeShows, IsObeyed}
 use Rattle.dr_drive.specs.Inside.Tells.{CommandFaultTells, ShowsPhase}
 use Rattle.dr_drive.specs.declared.exchange.Exchange.{Exchange}
+use Rattle.dr_drive.specs.declared.fault.Cause.{Cause}
 use Rattle.dr_files.specs.declared.fault.FileFault.{FileFault}
 use Rattle.dr_files.specs.declared.fault.FileFault.TheVariants as fault
 use Rattle.dr_drive.proofs.Runs.{Progress, progress-end, progress-fails, progress-memory, progress-step}
@@ -44,7 +45,7 @@ goes-on {k} {j} {all} {rest} {row} {old} {now} {new} come cut obeyed = record {
 }
 
 -- a command ended the run
-pub fails : {first exchange : Exchange} {k j : ℕ} {all left rest : List Record} {row : Record} {old now : Option (List ℕ)} (f : FileFault) (new : Option (List ℕ))
+pub fails : {first exchange : Exchange} {k j : ℕ} {all left rest : List Record} {row : Record} {old now : Option (List ℕ)} (f : FileFault Cause) (new : Option (List ℕ))
     → HasCome first k all exchange j left old now → left ≡ row ∷ rest → ((s : Phase) → ShowsPhase exchange s → CommandFaultTells f j (taken s row) now new)
     → (phase : Phase) → ShowsPhase first phase → FaultWrites f old new (text_from k phase all)
 fails {k} {j} {all} {rest} {row} {old} {now} f new come cut told phase shown =

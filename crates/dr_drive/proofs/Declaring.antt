@@ -9,9 +9,9 @@ use Rattle.dr_graph.specs.Meaning.Declaration.{grouping_fault, none_fault, stran
 use Rattle.dr_graph.specs.Meaning.Name.{Name, is_good_name, new_names}
 use Rattle.dr_graph.specs.declared.fault.GraphFault.{GraphFault}
 use Rattle.dr_graph.specs.declared.fault.GraphFault.TheVariants as refused
-use Rattle.dr_files.specs.declared.fault.Cause.{Cause}
-use Rattle.dr_files.specs.Faults.{refused_by}
-use Rattle.dr_files.specs.declared.fault.Cause.TheVariants.{Graph}
+use Rattle.dr_drive.specs.declared.fault.Cause.{Cause}
+use Rattle.dr_drive.specs.Inside.Faults.{refused_by}
+use Rattle.dr_drive.specs.declared.fault.Cause.TheVariants.{Graph}
 use Rattle.dr_drive.specs.Meaning.Setup.{Declared, after_names, then_names, done_unless, edge_between, with_names}
 use Rattle.dr_drive.specs.Inside.Shows.{AreNames, FaultAs, legible}
 use Rattle.dr_drive.proofs.Legible.{accepted_names, known_names, legible_names, more_names, neither, same_declaring, same_stranger}

@@ -10,13 +10,13 @@ use Rattle.dr_files.specs.Lines.{joined}
 use Rattle.dr_files.specs.Outcome.{AppendsFront, AreCut, FaultWrites, Said}
 use Rattle.dr_files.specs.declared.fault.FileFault.{FileFault}
 use Rattle.dr_files.specs.declared.fault.FileFault.TheVariants as fault
-use Rattle.dr_files.specs.declared.fault.Cause.{Cause}
+use Rattle.dr_drive.specs.declared.fault.Cause.{Cause}
 
-abbrev pub preceded : List (List ℕ) → Said → Said
+abbrev pub preceded : List (List ℕ) → Said Cause → Said Cause
 preceded done t = record { lines = done ++ t.lines; fault = t.fault }
 
 -- a file's text is the lines that were written and then what the rest says
-pub record Progress (whole : Said) (k : ℕ) (s : Phase) (rest : List Record) (old now : Option (List ℕ)) : Type 0 where
+pub record Progress (whole : Said Cause) (k : ℕ) (s : Phase) (rest : List Record) (old now : Option (List ℕ)) : Type 0 where
   pub done : List (List ℕ)
   pub is : whole ≡ preceded done (text_from k s rest)
   pub wrote : Appends old now (joined done)
@@ -44,7 +44,7 @@ pub says-end : (k : ℕ) (s : Phase) → text_from k s [] ≡ record { lines = [
 unfolding text_from
 says-end k s = refl
 
-pub progress-step : (whole : Said) (k : ℕ) (s : Phase) (did : Taken) (row : Record) (rest : List Record) (old now new : Option (List ℕ))
+pub progress-step : (whole : Said Cause) (k : ℕ) (s : Phase) (did : Taken) (row : Record) (rest : List Record) (old now new : Option (List ℕ))
     → Progress whole k s (row ∷ rest) old now → taken s row ≡ Ok did → Appends now new (joined (option_to_list did.line)) → Progress whole (k + 1) did.phase rest old new
 progress-step whole k s did row rest old now new p e w =
     let t = text_from (k + 1) did.phase rest in
@@ -55,7 +55,7 @@ progress-step whole k s did row rest old now new p e w =
       wrote = rw (joined-append p.done lines) (Appends-trans old now new (joined p.done) (joined lines) p.wrote w);
     }
 
-pub progress-input : (whole : Said) (k : ℕ) (s : Phase) (cause : Cause) (row : Record) (rest : List Record) (old now new : Option (List ℕ))
+pub progress-input : (whole : Said Cause) (k : ℕ) (s : Phase) (cause : Cause) (row : Record) (rest : List Record) (old now new : Option (List ℕ))
     → Progress whole k s (row ∷ rest) old now → taken s row ≡ Err cause → Keeps now new
     → (whole.fault ≡ Some (record { k = k; cause = cause })) × Appends old new (joined whole.lines)
 progress-input whole k s cause row rest old now new p e w =
@@ -63,13 +63,13 @@ progress-input whole k s cause row rest old now new p e w =
     let lines : whole.lines ≡ p.done = ap (λ t. t.lines) is ∙ append-nil p.done in
     (ap (λ t. t.fault) is, rw lines (Appends-kept old now new (joined p.done) p.wrote w))
 
-pub progress-memory : (whole : Said) (k : ℕ) (s : Phase) (rest : List Record) (old now new : Option (List ℕ))
+pub progress-memory : (whole : Said Cause) (k : ℕ) (s : Phase) (rest : List Record) (old now new : Option (List ℕ))
     → Progress whole k s rest old now → Keeps now new → (n : ℕ) × Appends old new (joined (take n whole.lines))
 progress-memory whole k s rest old now new p w =
     let front : take (length p.done) whole.lines ≡ p.done = ap (λ t. take (length p.done) t.lines) p.is ∙ take-front p.done (text_from k s rest).lines in
     (length p.done, rw front (Appends-kept old now new (joined p.done) p.wrote w))
 
-pub progress-write : (whole : Said) (k : ℕ) (s after : Phase) (line : List ℕ) (row : Record) (rest : List Record) (old now new : Option (List ℕ))
+pub progress-write : (whole : Said Cause) (k : ℕ) (s after : Phase) (line : List ℕ) (row : Record) (rest : List Record) (old now new : Option (List ℕ))
     → Progress whole k s (row ∷ rest) old now → taken s row ≡ Ok (record { phase = after; line = Some line }) → AppendsFront now new line → AreCut old new whole.lines
 progress-write whole k s after line row rest old now new p e (start, begins, w) = record {
   whole = p.done;
@@ -81,7 +81,7 @@ progress-write whole k s after line row rest old now new p e (start, begins, w) 
   wrote = Appends-trans old now new (joined p.done) start p.wrote w;
 }
 
-pub progress-end : (whole : Said) (k : ℕ) (s : Phase) (old now : Option (List ℕ)) → Progress whole k s [] old now
+pub progress-end : (whole : Said Cause) (k : ℕ) (s : Phase) (old now : Option (List ℕ)) → Progress whole k s [] old now
     → (whole.fault ≡ end_fault k s) × Appends old now (joined whole.lines)
 unfolding text_from
 progress-end whole k s old now p =
@@ -89,7 +89,7 @@ progress-end whole k s old now p =
     (ap (λ t. t.fault) p.is, rw lines p.wrote)
 
 -- why a command ended the run
-pub progress-fails : (f : FileFault) (whole : Said) (k : ℕ) (s : Phase) (row : Record) (rest : List Record) (old now new : Option (List ℕ))
+pub progress-fails : (f : FileFault Cause) (whole : Said Cause) (k : ℕ) (s : Phase) (row : Record) (rest : List Record) (old now new : Option (List ℕ))
     → Progress whole k s (row ∷ rest) old now → CommandFaultTells f k (taken s row) now new → FaultWrites f old new whole
 progress-fails (fault.Input j cause) whole k s row rest old now new p (same, err, keeps) =
     let (is, wrote) = progress-input whole k s cause row rest old now new p err keeps in (rw same is, wrote)

@@ -5,21 +5,22 @@ use Rattle.dr_records.specs.Records.{Field, Record}
 use Rattle.dr_drive.specs.Meaning.Setup.{Empty, Goes, Opens, Stage, missing, prepared}
 use Rattle.dr_drive.specs.Meaning.DriveText.{Preparing, Running, prepares, text_from}
 use Rattle.dr_drive.specs.Inside.Shows.{FaultAs}
-use Rattle.dr_files.specs.Faults.{fault_at}
+use Rattle.dr_drive.specs.Inside.Faults.{fault_at}
 use Rattle.dr_files.specs.Outcome.{Said}
 use Rattle.dr_drive.specs.Inside.Tells.{SetupFaultTells}
-use Rattle.dr_files.specs.declared.fault.RecordFault.{RecordFault}
-use Rattle.dr_files.specs.declared.fault.RecordFault.TheVariants as fault
+use Rattle.dr_drive.specs.declared.fault.Cause.{Cause}
+use Rattle.dr_drive.specs.declared.fault.RecordFault.{RecordFault}
+use Rattle.dr_drive.specs.declared.fault.RecordFault.TheVariants as fault
 use Rattle.dr_drive.proofs.Runs.{says-end, says-err, says-ok}
 
 -- the first of the records that are left goes on with the setup, opens an exchange, or is at fault
-pub setup-goes : (whole : Said) (k : ℕ) (s s2 : Stage) (left : List Record) (row : Record) (rest : List Record)
+pub setup-goes : (whole : Said Cause) (k : ℕ) (s s2 : Stage) (left : List Record) (row : Record) (rest : List Record)
     → whole ≡ text_from k (Preparing s) left → left ≡ row ∷ rest
     → prepared s row ≡ Ok (Goes s2) → whole ≡ text_from (k + 1) (Preparing s2) rest
 setup-goes whole k s s2 left row rest is cut e =
     is ∙ ap (text_from k (Preparing s)) cut ∙ says-ok k (Preparing s) (record { phase = Preparing s2; line = None }) row rest (ap prepares e)
 
-pub setup-opens : (whole : Said) (k : ℕ) (s : Stage) (names : List Field) (c : Setup) (left : List Record) (row : Record) (rest : List Record)
+pub setup-opens : (whole : Said Cause) (k : ℕ) (s : Stage) (names : List Field) (c : Setup) (left : List Record) (row : Record) (rest : List Record)
     → whole ≡ text_from k (Preparing s) left → left ≡ row ∷ rest → prepared s row ≡ Ok (Opens names c) → whole ≡ text_from (k + 1) (Running names c (opening c)) rest
 setup-opens whole k s names c left row rest is cut e =
     is ∙ ap (text_from k (Preparing s)) cut ∙ says-ok k (Preparing s) (record { phase = Running names c (opening c); line = None }) row rest (ap prepares e)
@@ -29,6 +30,6 @@ pub setup-fails : (f : RecordFault) (rows : List Record) (k : ℕ) (s : Stage) (
 setup-fails (fault.Cause cause) rows k s left row rest is cut e = is ∙ ap (text_from k (Preparing s)) cut ∙ says-err k (Preparing s) cause row rest (ap prepares e)
 setup-fails fault.Memory rows k s left row rest is cut e = tt
 
-pub setup-ends : (whole : Said) (k : ℕ) (s : Stage) (left : List Record) → whole ≡ text_from k (Preparing s) left → left ≡ []
+pub setup-ends : (whole : Said Cause) (k : ℕ) (s : Stage) (left : List Record) → whole ≡ text_from k (Preparing s) left → left ≡ []
     → whole ≡ record { lines = []; fault = Some (record { k = k; cause = missing s }) }
 setup-ends whole k s left is none = is ∙ ap (text_from k (Preparing s)) none ∙ says-end k (Preparing s)

@@ -9,8 +9,8 @@ use Rattle.dr_graph.specs.Meaning.Order.{HasCycle}
 use Rattle.dr_graph.specs.Meaning.Placing.{FindsGraph, graph_of}
 use Rattle.dr_graph.specs.declared.fault.GraphFault.{GraphFault}
 use Rattle.dr_graph.specs.declared.fault.GraphFault.TheVariants.{Cycle, NoHandlers, NoMemory}
-use Rattle.dr_files.specs.Faults.{refused_by}
-use Rattle.dr_files.specs.declared.fault.Cause.TheVariants.{Graph}
+use Rattle.dr_drive.specs.Inside.Faults.{refused_by}
+use Rattle.dr_drive.specs.declared.fault.Cause.TheVariants.{Graph}
 use Rattle.dr_drive.specs.declared.setup.ring_records.Ring.{Ring}
 use Rattle.dr_drive.specs.Meaning.Setup.{Opens, opened, started}
 use Rattle.dr_drive.specs.Inside.Shows.{FaultAs, ring_setup}

@@ -7,6 +7,7 @@ use Rattle.dr_drive.specs.Meaning.DriveText.{Phase, Preparing, drive_text, text_
 use Rattle.dr_files.specs.Outcome.{FaultWrites, Said, RunWrites}
 use Rattle.dr_drive.specs.Inside.Tells.{IsSetUp, SetupFaultTells, ShowsPhase}
 use Rattle.dr_drive.specs.declared.tool.Opened.{Opened}
+use Rattle.dr_drive.specs.declared.fault.Cause.{Cause}
 use Rattle.dr_files.specs.declared.fault.FileFault.{FileFault}
 use Rattle.dr_files.specs.declared.fault.FileFault.TheVariants as fault
 
@@ -15,14 +16,14 @@ pub at_input : (o : Option (List ℕ)) (text : List ℕ) (P : List ℕ → Type 
 at_input None text P is p = tt
 at_input (Some input) text P is p = subst P is p
 
-pub after_setup : {A : Type 0} (r : Result A FileFault) (o : Opened) (all left : List Record) (text : List ℕ) (old new : Option (List ℕ))
+pub after_setup : {A : Type 0} (r : Result A (FileFault Cause)) (o : Opened) (all left : List Record) (text : List ℕ) (old new : Option (List ℕ))
     → all ≡ records_of text → IsSetUp o all left
     → ((phase : Phase) → ShowsPhase o.exchange phase → RunWrites r old new (text_from o.k phase left)) → RunWrites r old new (drive_text text)
 after_setup r o all left text old new are s ran =
-    let P : Said → Type 0 = λ t. RunWrites r old new t in
+    let P : Said Cause → Type 0 = λ t. RunWrites r old new t in
     subst P (sym s.says ∙ ap (text_from 1 (Preparing Empty)) are) (ran s.phase s.shows)
 
-pub failed_setup : (f : FileFault) (all : List Record) (text : List ℕ) (known : Option (List ℕ)) → all ≡ records_of text → SetupFaultTells f all
+pub failed_setup : (f : FileFault Cause) (all : List Record) (text : List ℕ) (known : Option (List ℕ)) → all ≡ records_of text → SetupFaultTells f all
     → FaultWrites f known known (drive_text text)
 failed_setup (fault.Input k cause) all text known are is =
     let says = ap (text_from 1 (Preparing Empty)) (sym are) ∙ is in

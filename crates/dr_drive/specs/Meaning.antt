@@ -1,4 +1,6 @@
 -- What a file of commands says: the first to read.
+pub mod Causes
 pub mod Setup
 pub mod Commands
+pub mod Lines
 pub mod DriveText

@@ -4,10 +4,11 @@ ghost use Rattle.std.specs.Prelude.{◌≤◌, length, IfOk};
 ghost use Rattle.dr_seq.specs.declared.event.Event.{Event};
 
 use crate::commands::command_of;
+use crate::fault::{Cause, RecordFault};
+use crate::lines::put_line;
 use crate::setup::ring_records::Ring;
 use csv::ByteRecord;
 use dr_core::Core;
-use dr_files::{Cause, RecordFault, put_line};
 use dr_graph::Graph;
 use dr_seq::Event;
 use std::alloc::{AllocError, Global};

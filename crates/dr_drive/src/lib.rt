@@ -2,14 +2,18 @@
 //!
 //! Begin with the room `specs/Meaning`. `DriveText` says what a file of commands means, line by line,
 //! by the setup (`Setup`), the commands (`Commands`), the machine's own step, and the reply lines
-//! (`dr_files/specs/Lines`). [`drive`] reads such a file and writes its text. What a run leaves
-//! written, and when it fails, is one definition for all tools: `dr_files/specs/Outcome`.
+//! (`Lines`). [`drive`] reads such a file and writes its text. What a run leaves written, and when
+//! it fails, is one definition for all tools: `dr_files/specs/Outcome`.
 #![tactic(auto)]
 
 mod commands;
 mod exchange;
+mod fault;
+mod lines;
 mod setup;
 mod tool;
 
-pub use dr_files::{Cause, Counted, FileFault};
+pub use dr_files::{Counted, FileFault};
+pub use fault::Cause;
+pub use lines::put_line;
 pub use tool::drive;

@@ -9,10 +9,10 @@ ghost use Rattle.dr_drive.specs.Meaning.Setup.{goes_on_by, missing as missing_in
 ghost use Rattle.dr_drive.specs.Inside.Shows.{AreNames, IsPreparation, IsRing, PreparesAs, declared_of, stage_of};
 
 use crate::exchange::Exchange;
+use crate::fault::{Cause, RecordFault};
 use crate::setup::handler_records::{Declaring, declare};
 use crate::setup::ring_records::{Ring, limit_of, ring_of};
 use csv::ByteRecord;
-use dr_files::{Cause, RecordFault};
 use dr_graph::laws::placed_graph;
 use dr_records::{is_named, is_record};
 use std::alloc::Global;

@@ -1,50 +1,31 @@
 -- How a run over a file ends early: the line of each fault, without its end, and the status.
 use Rattle.std.specs.Prelude.{ℕ, List, ◌++◌, codes, decimal}
-use Rattle.dr_graph.specs.Calls.Fault.{fault_name}
-use Rattle.dr_files.specs.declared.fault.Cause.{Cause}
-use Rattle.dr_files.specs.declared.fault.Cause.TheVariants.{NoRing, BadRecord, BadSize, BadProducers, BadLimit, NoGroup, Graph, NoStart}
 use Rattle.dr_files.specs.declared.fault.FileFault.{FileFault}
 use Rattle.dr_files.specs.declared.fault.FileFault.TheVariants as fault
-use Rattle.dr_graph.specs.declared.fault.GraphFault.{GraphFault}
-use Rattle.dr_graph.specs.declared.fault.GraphFault.TheVariants as refused
-use Rattle.dr_files.specs.declared.fault.RecordFault.{RecordFault}
-use Rattle.dr_files.specs.declared.fault.RecordFault.TheVariants as taken
 use Rattle.dr_files.specs.declared.streams.ReadFault.{ReadFault}
 use Rattle.dr_files.specs.declared.streams.ReadFault.TheVariants as read
 
-abbrev pub cause_name : Cause → List ℕ
-cause_name NoRing = codes "no ring"
-cause_name BadRecord = codes "bad record"
-cause_name BadSize = codes "bad-size"
-cause_name BadProducers = codes "bad-producers"
-cause_name BadLimit = codes "bad-limit"
-cause_name NoGroup = codes "no group"
-cause_name (Graph fault) = fault_name fault
-cause_name NoStart = codes "no start"
+abbrev pub read_line : ReadFault → List ℕ
+read_line read.Memory = codes "no-memory"
+read_line read.Read = codes "cannot read"
 
-abbrev pub fault_line : FileFault → List ℕ
-fault_line (fault.Input k cause) = codes "record " ++ decimal k ++ codes ": " ++ cause_name cause
-fault_line fault.Memory = codes "no-memory"
-fault_line fault.Read = codes "cannot read"
-fault_line fault.Write = codes "cannot write"
+abbrev pub write_line : List ℕ
+write_line = codes "cannot write"
+
+-- a record's fault names its cause
+abbrev pub fault_line : {C : Type 0} → (C → List ℕ) → FileFault C → List ℕ
+fault_line name_of (fault.Input k cause) = codes "record " ++ decimal k ++ codes ": " ++ name_of cause
+fault_line name_of fault.Memory = read_line read.Memory
+fault_line name_of fault.Read = read_line read.Read
+fault_line name_of fault.Write = write_line
 
 -- 2 where the input is at fault, 3 where there is no memory, 4 where reading or writing failed
-abbrev pub fault_status : FileFault → ℕ
+abbrev pub fault_status : {C : Type 0} → FileFault C → ℕ
 fault_status (fault.Input k cause) = 2
 fault_status fault.Memory = 3
 fault_status fault.Read = 4
 fault_status fault.Write = 4
 
--- a record's fault ends the run at that record
-abbrev pub fault_at : ℕ → RecordFault → FileFault
-fault_at k (taken.Cause cause) = fault.Input k cause
-fault_at k taken.Memory = fault.Memory
-
--- what a builder of graphs refuses is the record's fault, unless memory ran out
-abbrev pub refused_by : GraphFault → RecordFault
-refused_by refused.NoMemory = taken.Memory
-refused_by other = taken.Cause (Graph other)
-
-abbrev pub read_fault : ReadFault → FileFault
+abbrev pub read_fault : {C : Type 0} → ReadFault → FileFault C
 read_fault read.Memory = fault.Memory
 read_fault read.Read = fault.Read

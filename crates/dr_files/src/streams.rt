@@ -1,9 +1,8 @@
 //! Whole texts, read and written by loops over single calls. No call follows one that failed.
 
 ghost use Rattle.std.specs.Prelude.{◌≡◌, ◌<◌, ◌-◌, ◌^◌, IfErr, IfOk, IfSome, OnOk, Some};
-ghost use Rattle.dr_files.specs.declared.fault.FileFault.TheVariants as fault;
 ghost use Rattle.dr_files.specs.Counting.{faults_of, inner_of};
-ghost use Rattle.dr_files.specs.Faults.{fault_line, read_fault};
+ghost use Rattle.dr_files.specs.Faults.{read_line, write_line};
 ghost use Rattle.dr_files.specs.Outcome.{ReadFaultTells, WriteTells};
 
 use crate::counted::Counted;
@@ -22,7 +21,7 @@ pub enum ReadFault {
 }
 
 impl fmt::Display for ReadFault {
-    ghost output = { λ fault. Some (fault_line (read_fault fault)) };
+    ghost output = { λ fault. Some (read_line fault) };
 
     fn fmt<W: fmt::Write>(&self, f: &mut fmt::Formatter<W>) -> fmt::Result {
         match self {
@@ -39,7 +38,7 @@ impl Error for ReadFault {}
 pub struct WriteFault;
 
 impl fmt::Display for WriteFault {
-    ghost output = { λ _. Some (fault_line fault.Write) };
+    ghost output = { λ _. Some write_line };
 
     fn fmt<W: fmt::Write>(&self, f: &mut fmt::Formatter<W>) -> fmt::Result {
         write!(f, "cannot write")

@@ -17,6 +17,7 @@ use Rattle.dr_workers.specs.declared.fault.WorkFault.{WorkFault}
 use Rattle.dr_workers.specs.declared.fault.WorkFault.TheVariants as work
 use Rattle.dr_files.specs.declared.fault.FileFault.{FileFault}
 use Rattle.dr_files.specs.declared.fault.FileFault.TheVariants as file
+use Rattle.dr_replay.specs.declared.fault.Cause.{Cause}
 use Rattle.dr_replay.specs.declared.fault.ReplayFault.{ReplayFault}
 use Rattle.dr_replay.specs.declared.fault.ReplayFault.TheVariants as fault
 use Rattle.dr_replay.specs.declared.ring.Ran.{Ran}
@@ -47,7 +48,7 @@ no_other endings e not is = ⊎_elim
     is
 
 -- of the faults of a file it can only be a lack of memory
-only_memory : (endings : List Ended) (f : FileFault) → IsFirstOf endings (fault.File f) → IsMemory f
+only_memory : (endings : List Ended) (f : FileFault Cause) → IsFirstOf endings (fault.File f) → IsMemory f
 only_memory endings file.Memory is = tt
 only_memory endings (file.Input k cause) is = no_other endings (fault.File (file.Input k cause)) refl is
 only_memory endings file.Read is = no_other endings (fault.File file.Read) refl is

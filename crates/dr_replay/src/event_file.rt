@@ -9,9 +9,10 @@ ghost use Rattle.dr_accounts.specs.Operations.{IsOperation};
 ghost use Rattle.dr_replay.specs.Calls.Replayed.{FileIs, ReadsAs};
 ghost use Rattle.dr_records.specs.Rows.{rows_left};
 
+use crate::fault::Cause;
 use csv::ByteRecord;
 use dr_accounts::{Movement, Operation};
-use dr_files::{Cause, Counted, FileFault, read_all};
+use dr_files::{Counted, FileFault, read_all};
 use dr_records::{Rows, count_of, field, number_at};
 use dr_seq::Event;
 use std::alloc::Global;
@@ -97,7 +98,7 @@ fn operation_of(row: &ByteRecord) -> Option<Operation>
 
 // The events of the operations in a file's records, in order. The fault is at the first record that
 // is no operation, or that memory ran out before it.
-fn events_of(alloc: Global, rows: &mut Rows<'_>) -> Result<Vec<Event>, FileFault>
+fn events_of(alloc: Global, rows: &mut Rows<'_>) -> Result<Vec<Event>, FileFault<Cause>>
     ensures { ReadsAs result (rows_left rows.old) }
 {
     let mut events = Vec::new(alloc);
@@ -113,7 +114,10 @@ fn events_of(alloc: Global, rows: &mut Rows<'_>) -> Result<Vec<Event>, FileFault
 }
 
 /// Reads a file of operations to its end, and makes an event of each, in file order.
-pub fn read_events<R: Read>(alloc: Global, reader: &mut Counted<R>) -> Result<Vec<Event>, FileFault>
+pub fn read_events<R: Read>(
+    alloc: Global,
+    reader: &mut Counted<R>,
+) -> Result<Vec<Event>, FileFault<Cause>>
     requires { faults_of reader.old < 2 ^ 64 - 1 }
     ensures file { IfSome (R.remaining (inner_of reader.old)) (λ input. FileIs result (events_in input)) }
     ensures counted { CountsFaults result (faults_of reader.old) (faults_of reader.new) 0 0 }

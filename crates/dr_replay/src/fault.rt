@@ -1,20 +1,37 @@
-//! Why a replay by workers ends early.
+//! Why a replay ends early.
 
 ghost use Rattle.std.specs.Prelude.{◌≡◌, Some};
-ghost use Rattle.dr_replay.specs.Calls.ReplayFaults.{replay_line, replay_status};
+ghost use Rattle.dr_replay.specs.Calls.ReplayFaults.{cause_name, replay_line, replay_status};
 
-use dr_files::{FileFault, WriteFault};
+use dr_files::{FileFault, Named, WriteFault};
 use dr_lock::AuditFault;
 use dr_workers::WorkFault;
 use std::alloc::{AllocError, AllocFailed};
 use std::error::Error;
 use std::fmt;
 
+/// Why a record of an event file is at fault.
+#[derive(Clone, Copy, Debug, PartialEq, Eq)]
+pub enum Cause {
+    /// The record is no operation.
+    BadRecord,
+}
+
+impl Named for Cause {
+    ghost name_of = { cause_name };
+
+    fn name(&self) -> &'static str {
+        match self {
+            Cause::BadRecord => "bad record",
+        }
+    }
+}
+
 /// Why a replay by workers ended early. Its text is the line that a program prints.
 #[derive(Debug, Drop)]
 pub enum ReplayFault {
     /// The file is at fault, or what reads and writes it.
-    File(FileFault),
+    File(FileFault<Cause>),
     /// A worker was stopped at its gate; none is refused a call. Workers are numbered as for gates.
     Worker { who: usize, fault: WorkFault },
     /// A history is not what the producers were to send, or a handler did not take all of it.
@@ -51,13 +68,13 @@ impl fmt::Display for ReplayFault {
 
 impl Error for ReplayFault {}
 
-impl From<FileFault> for ReplayFault {
+impl From<FileFault<Cause>> for ReplayFault {
     ghost use Rattle.std.specs.Prelude.{◌≡◌};
     ghost use Rattle.dr_replay.specs.declared.fault.ReplayFault.TheVariants as fault;
 
     ghost from_gives = { λ file e. e ≡ fault.File file };
 
-    fn from(file: FileFault) -> ReplayFault {
+    fn from(file: FileFault<Cause>) -> ReplayFault {
         ReplayFault::File(file)
     }
 }

@@ -18,9 +18,9 @@ mod part;
 mod ring;
 mod scripts;
 
-pub use dr_files::{Cause, Counted, FileFault};
+pub use dr_files::{Counted, FileFault};
 pub use event_file::read_events;
-pub use fault::ReplayFault;
+pub use fault::{Cause, ReplayFault};
 pub use lock::replay_lock;
 pub use one_thread::replay_plain;
 pub use ring::replay_ring;

@@ -8,6 +8,7 @@ ghost use Rattle.dr_replay.specs.Calls.Replayed.{replay_text};
 ghost use Rattle.dr_replay.specs.Meaning.EventFile.{events_of as events_in};
 
 use crate::event_file::read_events;
+use crate::fault::Cause;
 use dr_accounts::report_by_core;
 use dr_files::{Counted, FileFault, write_text};
 use dr_seq::Size;
@@ -22,7 +23,7 @@ pub fn replay_plain<R: Read, W: Write>(
     reader: &mut Counted<R>,
     writer: &mut Counted<W>,
     size: Size,
-) -> Result<(), FileFault>
+) -> Result<(), FileFault<Cause>>
     requires reads { faults_of reader.old < 2 ^ 64 - 1 }
     requires writes { faults_of writer.old < 2 ^ 64 - 1 }
     // Where the input's bytes are known, what is written is the report of its events, and the fault of the file is its first bad record.

@@ -1,7 +1,7 @@
 //! Replays with threads, over the ring and behind the lock: workers that run at the same time, and workers
 //! that are stopped.
 
-use crate::ways::{Way, replay_text};
+use crate::ways::{Failed, Way, replay_text};
 use dr_replay::ReplayFault;
 use dr_seq::Size;
 use dr_workers::{Gate, GateAnswer, OpenGate, WorkFault};
@@ -114,9 +114,9 @@ fn stops_at(who: usize, turn: u64) -> StopsAt {
     }
 }
 
-fn is_stopped(output: &[u8], ended: &Result<(), ReplayFault>, at: usize) -> bool {
+fn is_stopped(output: &[u8], ended: &Result<(), Failed>, at: usize) -> bool {
     let is_answered =
-        matches!(ended, Err(ReplayFault::Worker { who, fault: WorkFault::Stopped }) if *who == at);
+        matches!(ended, Err(Failed::Replay(ReplayFault::Worker { who, fault: WorkFault::Stopped })) if *who == at);
     is_answered && output.is_empty()
 }
 

@@ -4,9 +4,8 @@ use crate::checks::check_at;
 use crate::streams::{
     Slow, ends_as, failing_at, is_left, is_left_whole, is_read, slow_at, whole_at,
 };
-use crate::ways::{Streamed, Way, run_streams};
+use crate::ways::{Failed, Streamed, Way, run_streams};
 use dr_files::Counted;
-use dr_replay::ReplayFault;
 use dr_seq::Size;
 use dr_workers::OpenGate;
 use std::alloc::Global;
@@ -116,7 +115,7 @@ fn run_into(
     alloc: Global,
     run: &Run,
     writer: Slow,
-) -> (Counted<Slow>, Result<(), ReplayFault>) {
+) -> (Counted<Slow>, Result<(), Failed>) {
     let input = run.input.as_bytes();
     let Streamed { writer, result, .. } = run_streams(
         rt,

@@ -1,7 +1,8 @@
 //! What no clause says: that the calls over memory succeed.
 
 use crate::checks::check;
-use dr_files::{Counted, number_of, put_line, read_all, write_text};
+use dr_drive::put_line;
+use dr_files::{Counted, number_of, read_all, write_text};
 use dr_meaning::Reply;
 use dr_seq::Event;
 use std::test::Fail;

@@ -1,5 +1,6 @@
 //! A reader and a writer that fail at their k-th call, and count their calls.
 
+use crate::ways::Failed;
 use dr_files::{Counted, FileFault};
 use dr_replay::ReplayFault;
 use std::alloc::Global;
@@ -102,13 +103,19 @@ pub fn call_on(mut writer: Counted<Slow>) -> Option<Slow> {
 }
 
 /// Whether a run met its reader's failure.
-pub fn is_read(ended: &Result<(), ReplayFault>) -> bool {
-    matches!(ended, Err(ReplayFault::File(FileFault::Read)))
+pub fn is_read(ended: &Result<(), Failed>) -> bool {
+    matches!(
+        ended,
+        Err(Failed::Drive(FileFault::Read) | Failed::Replay(ReplayFault::File(FileFault::Read)))
+    )
 }
 
 /// Whether a run met its writer's failure.
-fn is_write(ended: &Result<(), ReplayFault>) -> bool {
-    matches!(ended, Err(ReplayFault::File(FileFault::Write)))
+fn is_write(ended: &Result<(), Failed>) -> bool {
+    matches!(
+        ended,
+        Err(Failed::Drive(FileFault::Write) | Failed::Replay(ReplayFault::File(FileFault::Write)))
+    )
 }
 
 // Whether a writer that failed took all bytes before its failure, and was called no more.
@@ -121,7 +128,7 @@ fn stopped_there(slow: &Slow, whole: &[u8]) -> bool {
 
 /// Whether a run that writes this text ended as it is to. If it met the writer's failure, the writer took all bytes before
 /// that, and was called no more; if not, all.
-pub fn ends_as(ended: &Result<(), ReplayFault>, writer: Counted<Slow>, whole: &[u8]) -> bool {
+pub fn ends_as(ended: &Result<(), Failed>, writer: Counted<Slow>, whole: &[u8]) -> bool {
     if writer.faults() == 0 {
         let slow = writer.into_inner();
         return ended.is_ok()
@@ -137,7 +144,7 @@ pub fn ends_as(ended: &Result<(), ReplayFault>, writer: Counted<Slow>, whole: &[
 /// Whether a writer that takes whole pieces, and fails at its k-th call, took these bytes and was called so often. A run that
 /// `is_whole` ended well, and meets the failure when it is flushed once more.
 pub fn is_left_whole(
-    ended: &Result<(), ReplayFault>,
+    ended: &Result<(), Failed>,
     mut writer: Counted<Slow>,
     taken: &[u8],
     is_whole: bool,

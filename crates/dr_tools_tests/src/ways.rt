@@ -1,7 +1,7 @@
 //! The tools over streams: `drive`, and a replay by each of its ways.
 
-use dr_drive::drive;
-use dr_files::Counted;
+use dr_drive::{Cause, drive};
+use dr_files::{Counted, FileFault};
 use dr_replay::{ReplayFault, replay_lock, replay_plain, replay_ring};
 use dr_seq::Size;
 use dr_workers::Gate;
@@ -19,12 +19,19 @@ pub enum Way {
     Ring,
 }
 
+// Why a run ended early.
+#[derive(Drop)]
+pub enum Failed {
+    Drive(FileFault<Cause>),
+    Replay(ReplayFault),
+}
+
 // What a run left of its reader and its writer, and how it ended.
 #[derive(Drop)]
 pub struct Streamed<I, O> {
     pub reader: Counted<I>,
     pub writer: Counted<O>,
-    pub result: Result<(), ReplayFault>,
+    pub result: Result<(), Failed>,
 }
 
 // Runs from a reader to a writer. On one thread there is no gate to pass, and `drive` has a size of its own.
@@ -40,12 +47,16 @@ pub fn run_streams<R: Threads + Wait + Sync, I: Read + Drop, O: Write + Drop, G:
     let mut reader = Counted::new(input);
     let mut writer = Counted::new(output);
     let result = match by {
-        Way::Drive => drive(alloc, &mut reader, &mut writer).map_err(ReplayFault::File),
-        Way::Plain => {
-            replay_plain(alloc, &mut reader, &mut writer, size).map_err(ReplayFault::File)
-        }
-        Way::Lock => replay_lock(rt, alloc, &mut reader, &mut writer, size, gate),
-        Way::Ring => replay_ring(rt, alloc, &mut reader, &mut writer, size, gate),
+        Way::Drive => drive(alloc, &mut reader, &mut writer).map_err(Failed::Drive),
+        Way::Plain => replay_plain(alloc, &mut reader, &mut writer, size).map_err(
+            |fault| Failed::Replay(ReplayFault::File(fault)),
+        ),
+        Way::Lock => replay_lock(rt, alloc, &mut reader, &mut writer, size, gate).map_err(
+            Failed::Replay,
+        ),
+        Way::Ring => replay_ring(rt, alloc, &mut reader, &mut writer, size, gate).map_err(
+            Failed::Replay,
+        ),
     };
     Streamed {
         reader,
@@ -62,7 +73,7 @@ pub fn replay_text<R: Threads + Wait + Sync, G: Gate + Sync>(
     input: &str,
     size: Size,
     gate: &G,
-) -> (Vec<u8>, Result<(), ReplayFault>) {
+) -> (Vec<u8>, Result<(), Failed>) {
     let output = Vec::new(alloc);
     let Streamed { writer, result, .. } = run_streams(
         rt,

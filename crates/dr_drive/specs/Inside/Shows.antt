@@ -15,9 +15,9 @@ use Rattle.dr_drive.specs.declared.setup.Preparation.TheVariants as at
 use Rattle.dr_drive.specs.declared.setup.Prepared.{Prepared as Step}
 use Rattle.dr_drive.specs.declared.setup.Prepared.TheVariants as does
 use Rattle.dr_drive.specs.declared.exchange.Exchange.{Exchange}
-use Rattle.dr_files.specs.declared.fault.Cause.{Cause}
-use Rattle.dr_files.specs.declared.fault.RecordFault.{RecordFault}
-use Rattle.dr_files.specs.declared.fault.RecordFault.TheVariants as fault
+use Rattle.dr_drive.specs.declared.fault.Cause.{Cause}
+use Rattle.dr_drive.specs.declared.fault.RecordFault.{RecordFault}
+use Rattle.dr_drive.specs.declared.fault.RecordFault.TheVariants as fault
 use Rattle.dr_records.specs.Records.{Field}
 use Rattle.dr_drive.specs.Meaning.Setup.{Declared, Stage, Empty, Ringed, Declaring, Prepared, Goes, Opens}
 use Rattle.dr_drive.specs.Meaning.DriveText.{Running, Taken}

@@ -3,7 +3,7 @@ use Rattle.std.specs.Prelude.{◌≡◌, ◌+◌, ℕ, Result, Ok, Err, List, []
 use Rattle.std.specs.Io.KnownBytes.{Appends, Keeps}
 use Rattle.dr_drive.specs.declared.tool.Opened.{Opened}
 use Rattle.dr_drive.specs.declared.exchange.Exchange.{Exchange}
-use Rattle.dr_files.specs.declared.fault.Cause.{Cause}
+use Rattle.dr_drive.specs.declared.fault.Cause.{Cause}
 use Rattle.dr_files.specs.declared.fault.FileFault.{FileFault}
 use Rattle.dr_files.specs.declared.fault.FileFault.TheVariants as fault
 use Rattle.dr_records.specs.Records.{Record}
@@ -26,25 +26,25 @@ pub record IsSetUp (o : Opened) (rs left : List Record) : Type 0 where
   pub shows : ShowsPhase o.exchange phase
 
 -- a setup that fails is at fault at a record, with nothing written, or memory ran out
-abbrev pub SetupFaultTells : FileFault → List Record → Type 0
+abbrev pub SetupFaultTells : FileFault Cause → List Record → Type 0
 SetupFaultTells (fault.Input k cause) rs = text_from 1 (Preparing Empty) rs ≡ record { lines = []; fault = Some (record { k = k; cause = cause }) }
 SetupFaultTells fault.Memory rs = Unit {0}
 SetupFaultTells fault.Read rs = ⊥
 SetupFaultTells fault.Write rs = ⊥
 
 -- a setup of all these records, and those that it leaves
-abbrev pub SetsUpAs : Result Opened FileFault → List Record → List Record → Type 0
+abbrev pub SetsUpAs : Result Opened (FileFault Cause) → List Record → List Record → Type 0
 SetsUpAs (Ok o) rs left = IsSetUp o rs left
 SetsUpAs (Err e) rs left = SetupFaultTells e rs
 
 -- a command, the one of record k, fails by its record, since memory ran out, or by the write of its line
-abbrev pub CommandFaultTells : FileFault → ℕ → Result Taken Cause → Option (List ℕ) → Option (List ℕ) → Type 0
+abbrev pub CommandFaultTells : FileFault Cause → ℕ → Result Taken Cause → Option (List ℕ) → Option (List ℕ) → Type 0
 CommandFaultTells (fault.Input j cause) k t old new = (j ≡ k) × (t ≡ Err cause) × Keeps old new
 CommandFaultTells fault.Memory k t old new = Keeps old new
 CommandFaultTells fault.Read k t old new = ⊥
 CommandFaultTells fault.Write k t old new = (after : Phase) × (line : List ℕ) × (t ≡ Ok (record { phase = after; line = Some line })) × AppendsFront old new line
 
 -- a command, the one of record k, writes its line
-abbrev pub CommandTells : {A : Type 0} → Result A FileFault → Exchange → ℕ → Result Taken Cause → Option (List ℕ) → Option (List ℕ) → Type 0
+abbrev pub CommandTells : {A : Type 0} → Result A (FileFault Cause) → Exchange → ℕ → Result Taken Cause → Option (List ℕ) → Option (List ℕ) → Type 0
 CommandTells (Ok done) e k t old new = (did : Taken) × (t ≡ Ok did) × ShowsPhase e did.phase × Appends old new (joined (option_to_list did.line))
 CommandTells (Err f) e k t old new = CommandFaultTells f k t old new

@@ -3,11 +3,12 @@ use Rattle.std.specs.Prelude.{ℕ, ◌+◌, List, [], ◌∷◌, ◌++◌, Optio
 use Rattle.dr_seq.specs.declared.event.Event.{Event}
 use Rattle.dr_meaning.specs.declared.command.Command.{Command}
 use Rattle.dr_meaning.specs.Meaning.Machine.{Setup, State, Outcome, opening, step}
-use Rattle.dr_files.specs.declared.fault.Cause.{Cause}
-use Rattle.dr_files.specs.declared.fault.Cause.TheVariants.{BadRecord}
+use Rattle.dr_drive.specs.declared.fault.Cause.{Cause}
+use Rattle.dr_drive.specs.declared.fault.Cause.TheVariants.{BadRecord}
 use Rattle.dr_records.specs.Records.{Field, Record, records_of}
 use Rattle.dr_drive.specs.Meaning.Commands.{command_of}
-use Rattle.dr_files.specs.Lines.{Line, line_of}
+use Rattle.dr_drive.specs.Meaning.Lines.{line_of}
+use Rattle.dr_files.specs.Lines.{Line}
 use Rattle.dr_files.specs.Outcome.{Fault, Said}
 use Rattle.dr_drive.specs.Meaning.Setup.{Stage, Empty, Prepared, Goes, Opens, missing, prepared}
 
@@ -41,20 +42,20 @@ taken (Preparing stage) r = prepares (prepared stage r)
 taken (Running names c m) r = obeys names c m (command_of names r)
 
 -- a file that ends in its setup is at fault at the record that is missing; a file that ends later is complete
-abbrev pub end_fault : ℕ → Phase → Option Fault
+abbrev pub end_fault : ℕ → Phase → Option (Fault Cause)
 end_fault k (Preparing stage) = Some (record { k = k; cause = missing stage })
 end_fault k (Running names c m) = None
 
 -- a file whose first record did this, or was at fault
-abbrev pub text_after : ℕ → Result Taken Cause → (Phase → Said) → Said
+abbrev pub text_after : ℕ → Result Taken Cause → (Phase → Said Cause) → Said Cause
 text_after k (Ok t) rest = record { lines = option_to_list t.line ++ (rest t.phase).lines; fault = (rest t.phase).fault }
 text_after k (Err cause) rest = record { lines = []; fault = Some (record { k = k; cause = cause }) }
 
 -- what records say from a phase on, the first of them being record k
-unfoldable pub text_from : ℕ → Phase → List Record → Said
+unfoldable pub text_from : ℕ → Phase → List Record → Said Cause
 text_from k phase [] = record { lines = []; fault = end_fault k phase }
 text_from k phase (r ∷ rs) = text_after k (taken phase r) (λ after. text_from (k + 1) after rs)
 
 -- what a text of bytes says: its records, from the setup on
-abbrev pub drive_text : List ℕ → Said
+abbrev pub drive_text : List ℕ → Said Cause
 drive_text input = text_from 1 (Preparing Empty) (records_of input)

@@ -12,8 +12,8 @@ use Rattle.dr_graph.specs.Meaning.Placing.{graph_of}
 use Rattle.dr_graph.specs.declared.fault.GraphFault.{GraphFault}
 use Rattle.dr_graph.specs.declared.fault.GraphFault.TheVariants.{Cycle, NoHandlers}
 use Rattle.dr_drive.specs.declared.setup.ring_records.Ring.{Ring}
-use Rattle.dr_files.specs.declared.fault.Cause.{Cause}
-use Rattle.dr_files.specs.declared.fault.Cause.TheVariants.{NoRing, BadRecord, BadSize, BadProducers, BadLimit, NoGroup, Graph, NoStart}
+use Rattle.dr_drive.specs.declared.fault.Cause.{Cause}
+use Rattle.dr_drive.specs.declared.fault.Cause.TheVariants.{NoRing, BadRecord, BadSize, BadProducers, BadLimit, NoGroup, Graph, NoStart}
 use Rattle.dr_records.specs.Records.{Record, field, is_list, begins_with, is_record, number_at}
 
 -- what is declared so far, and the current group, which `then` follows

@@ -6,8 +6,8 @@ ghost use Rattle.dr_graph.specs.Meaning.Name.{Name, given};
 ghost use Rattle.dr_drive.specs.Meaning.Setup.{after_names, declared_by, names_after, no_handlers, then_names, edge_between, with_names};
 ghost use Rattle.dr_drive.specs.Inside.Shows.{AreNames, DeclaresAs, declared_of, legible};
 
+use crate::fault::{Cause, RecordFault};
 use csv::ByteRecord;
-use dr_files::{Cause, RecordFault};
 use dr_graph::{GraphBuilder, Group};
 use dr_records::{count_of, field, is_list, is_record};
 use std::alloc::{AllocError, Global};

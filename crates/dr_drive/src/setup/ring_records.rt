@@ -5,8 +5,8 @@ ghost use Rattle.csv.specs.Records.{fields_of};
 ghost use Rattle.dr_drive.specs.Meaning.Setup.{is_size, limit_of as limit_in, mode_of as mode_in, ring_of as ring_in};
 ghost use Rattle.dr_drive.specs.Inside.Shows.{IsRing};
 
+use crate::fault::Cause;
 use csv::ByteRecord;
-use dr_files::Cause;
 use dr_meaning::{MAX_LIMIT, Mode, is_valid_limit};
 use dr_records::{count_of, field, is_named, number_at};
 use dr_seq::Size;

@@ -24,6 +24,7 @@ use Rattle.dr_files.specs.declared.fault.FileFault.{FileFault}
 use Rattle.dr_files.specs.declared.fault.FileFault.TheVariants as file
 use Rattle.dr_replay.specs.Meaning.Exchange.{IsOfReplay}
 use Rattle.dr_replay.specs.Meaning.Scripts.{producers_in, script_in, scripts_in}
+use Rattle.dr_replay.specs.declared.fault.Cause.{Cause}
 use Rattle.dr_replay.specs.declared.fault.ReplayFault.{ReplayFault}
 use Rattle.dr_replay.specs.declared.fault.ReplayFault.TheVariants as fault
 use Rattle.dr_accounts.specs.Keeping.{Keeps, error_of}
@@ -110,7 +111,7 @@ abbrev pub IsFirstOf : List Ended → ReplayFault → Type 0
 IsFirstOf endings e = (e ≡ fault.File file.Memory) ⊎ ((first : WorkerFault) × (first_fault endings ≡ Some first) × (e ≡ replay_fault first.who first.fault))
 
 -- of the faults of a file, a lack of memory alone
-abbrev pub IsMemory : FileFault → Type 0
+abbrev pub IsMemory : FileFault Cause → Type 0
 IsMemory file.Memory = Unit {0}
 IsMemory other = ⊥
 

@@ -31,10 +31,16 @@ loop-command-preserved g c =
     let valued = c.in_ok-extend_from_slice.ensures.items in
     let len : length c.execute-reply.new.out ≡ c.loop-command.buffer.len = c.execute-reply.auto.out ∙ c.deref_mut.ensures.len in
     let more : take c.count.result c.deref.result.now ≡ take (count_in c.execute-reply.result) c.execute-reply.new.out = added c.loop-command.buffer c.execute-reply.new.out _ _ _ len c.deref.ensures.value c.count.ensures in
-    let many : length (take (count_in c.execute-reply.result) c.execute-reply.new.out) ≡ count_in c.execute-reply.result = length-take-le _ _ (let n : length c.execute-reply.new.out ≡ c.args.core.now.setup.size = len ∙ c.loop-command.buffer.ok.0 ∙ c.loop-command.invariant.room in let size : c.loop-command.core.setup.size ≡ c.args.core.now.setup.size = ap (λ s. s.size) c.loop-command.invariant.same in let o : offers c.command-item.result c.loop-command.core.setup.size ≤ c.loop-command.core.setup.size = offers-le _ c.loop-command.core.setup.size in let f : count_in c.execute-reply.result ≤ offers c.command-item.result c.loop-command.core.setup.size = c.execute-reply.ensures.fits in omega arith) in
+    let many : length (take (count_in c.execute-reply.result) c.execute-reply.new.out) ≡ count_in c.execute-reply.result = length-take-le _ _
+    (let n : length c.execute-reply.new.out ≡ c.args.core.now.setup.size = len ∙ c.loop-command.buffer.ok.0 ∙ c.loop-command.invariant.room in
+    let size : c.loop-command.core.setup.size ≡ c.args.core.now.setup.size = ap (λ s. s.size) c.loop-command.invariant.same in
+    let o : offers c.command-item.result c.loop-command.core.setup.size ≤ c.loop-command.core.setup.size = offers-le _ c.loop-command.core.setup.size in
+    let f : count_in c.execute-reply.result ≤ offers c.command-item.result c.loop-command.core.setup.size = c.execute-reply.ensures.fits in
+    omega arith) in
     let fits : count_in c.execute-reply.result ≤ offers (get_or c.args.commands.now c.loop-command.command-index c.command-item.result) c.loop-command.core.setup.size =
     subst (λ x. count_in c.execute-reply.result ≤ offers x c.loop-command.core.setup.size) c.command-item.is c.execute-reply.ensures.fits in
-    let step : IsStep c.loop-command.core (get_or c.args.commands.now c.loop-command.command-index c.command-item.result) c.execute-reply.result (take (count_in c.execute-reply.result) c.execute-reply.new.out) c.execute-reply.new.self =
+    let step : IsStep c.loop-command.core (get_or c.args.commands.now c.loop-command.command-index c.command-item.result)
+    c.execute-reply.result (take (count_in c.execute-reply.result) c.execute-reply.new.out) c.execute-reply.new.self =
     subst (λ x. IsStep c.loop-command.core x c.execute-reply.result (take (count_in c.execute-reply.result) c.execute-reply.new.out) c.execute-reply.new.self) c.command-item.is c.execute-reply.ensures.step in
     let told : length c.loop-command.replies.items ≡ c.loop-command.command-index = c.loop-command.invariant.told in
     let counted : length c.loop-command.values.items ≡ counts_of c.loop-command.replies.items = c.loop-command.invariant.counted in
@@ -45,6 +51,15 @@ loop-command-preserved g c =
       told = rw (replied, length_push) (ap (λ n. n + 1) told);
       counted = rw (valued, replied, more, length-append, counts-push, many) (ap (λ n. n + count_in c.execute-reply.result) counted);
       reply_room = (let cap = c.in_ok-push.ensures.capacity in let old = c.loop-command.invariant.reply_room in omega arith);
-      value_room = rw (valued, more) (room-more c.loop-command.values.items (take (count_in c.execute-reply.result) c.execute-reply.new.out) c.args.commands.now c.loop-command.command-index c.command-item.result c.loop-command.core.setup.size c.args.core.now.setup.size (vec_capacity c.loop-command.values) (vec_capacity c.extend_from_slice.new.self) (count_in c.execute-reply.result) c.loop-command-test.true c.loop-command.invariant.value_room c.in_ok-extend_from_slice.ensures.capacity many fits (ap (λ s. s.size) c.loop-command.invariant.same));
-      runs = λ t m leads shows. rw (replied, valued, more) (run_step _ c.loop-command.core c.execute-reply.new.self t c.args.commands.now c.loop-command.command-index c.command-item.result c.loop-command.replies.items c.loop-command.values.items c.execute-reply.result (take (count_in c.execute-reply.result) c.execute-reply.new.out) c.loop-command-test.true told counted many c.loop-command.invariant.same step (c.loop-command.invariant.runs t m leads shows));
+      value_room = rw (valued, more) (room-more c.loop-command.values.items (take (count_in c.execute-reply.result) c.execute-reply.new.out)
+          c.args.commands.now c.loop-command.command-index c.command-item.result
+          c.loop-command.core.setup.size c.args.core.now.setup.size
+          (vec_capacity c.loop-command.values) (vec_capacity c.extend_from_slice.new.self) (count_in c.execute-reply.result)
+          c.loop-command-test.true c.loop-command.invariant.value_room c.in_ok-extend_from_slice.ensures.capacity many fits (ap (λ s. s.size) c.loop-command.invariant.same));
+      runs = λ t m leads shows. rw (replied, valued, more)
+          (run_step _ c.loop-command.core c.execute-reply.new.self t
+          c.args.commands.now c.loop-command.command-index c.command-item.result c.loop-command.replies.items
+          c.loop-command.values.items c.execute-reply.result (take (count_in c.execute-reply.result) c.execute-reply.new.out)
+          c.loop-command-test.true told counted many c.loop-command.invariant.same
+          step (c.loop-command.invariant.runs t m leads shows));
     }

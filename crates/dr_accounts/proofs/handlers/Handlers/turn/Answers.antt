@@ -27,26 +27,34 @@ module _ (size : ℕ) (events : List Event) (at sent : ℕ) where
   journal_needs : (c : After-turn_in_place) → AreOffered size events at sent c.args.core.now → CanTurn replay_graph size events at sent 0 (each at) c.args.core.now
   journal_needs c is = journal_can size events at sent is.some is.within is.fits _ is.rests
 
-  replica_needs : (c : After-turn_in_place-2) → AreOffered size events at sent c.args.core.now → Rests size events sent (sent ∷ at ∷ at ∷ []) c.turn_in_place.new.self
+  replica_needs : (c : After-turn_in_place-2) → AreOffered size events at sent c.args.core.now
+      → Rests size events sent (sent ∷ at ∷ at ∷ []) c.turn_in_place.new.self
       → CanTurn replay_graph size events at sent 1 (sent ∷ at ∷ at ∷ []) c.turn_in_place.new.self
   replica_needs c is rests = replica_can size events at sent is.some is.within is.fits _ rests
 
-  business_needs : (c : After-turn_in_place-3) → AreOffered size events at sent c.args.core.now → Rests size events sent (sent ∷ sent ∷ at ∷ []) c.turn_in_place-2.new.self
+  business_needs : (c : After-turn_in_place-3) → AreOffered size events at sent c.args.core.now
+      → Rests size events sent (sent ∷ sent ∷ at ∷ []) c.turn_in_place-2.new.self
       → CanTurn replay_graph size events at sent 2 (sent ∷ sent ∷ at ∷ []) c.turn_in_place-2.new.self
   business_needs c is rests = business_can size events at sent is.some is.within is.fits _ rests
 
   -- what each turn did
   journal_took : (c : In_ok-turn_in_place) → CanTurn replay_graph size events at sent 0 (each at) c.args.core.now
       → TookTurn journals replay_graph size events at sent 0 (each at) c.turn_in_place.new.self c.args.self.now.journal c.turn_in_place.new.handler
-  journal_took c can = took_turn journals replay_graph size events at sent 0 (each at) _ _ _ _ can c.turn_in_place.result c.turn_in_place.ensures.turn.0 c.turn_in_place.ensures.turn.1
+  journal_took c can =
+      let turn = c.turn_in_place in
+      took_turn journals replay_graph size events at sent 0 (each at) _ _ _ _ can turn.result turn.ensures.turn.0 turn.ensures.turn.1
 
   replica_took : (c : In_ok-turn_in_place-2) → CanTurn replay_graph size events at sent 1 (sent ∷ at ∷ at ∷ []) c.turn_in_place.new.self
       → TookTurn copies replay_graph size events at sent 1 (sent ∷ at ∷ at ∷ []) c.turn_in_place-2.new.self c.args.self.now.replica c.turn_in_place-2.new.handler
-  replica_took c can = took_turn copies replay_graph size events at sent 1 (sent ∷ at ∷ at ∷ []) _ _ _ _ can c.turn_in_place-2.result c.turn_in_place-2.ensures.turn.0 c.turn_in_place-2.ensures.turn.1
+  replica_took c can =
+      let turn = c.turn_in_place-2 in
+      took_turn copies replay_graph size events at sent 1 (sent ∷ at ∷ at ∷ []) _ _ _ _ can turn.result turn.ensures.turn.0 turn.ensures.turn.1
 
   business_took : (c : In_ok-turn_in_place-3) → CanTurn replay_graph size events at sent 2 (sent ∷ sent ∷ at ∷ []) c.turn_in_place-2.new.self
       → TookTurn books replay_graph size events at sent 2 (sent ∷ sent ∷ at ∷ []) c.turn_in_place-3.new.self c.args.self.now.business c.turn_in_place-3.new.handler
-  business_took c can = took_turn books replay_graph size events at sent 2 (sent ∷ sent ∷ at ∷ []) _ _ _ _ can c.turn_in_place-3.result c.turn_in_place-3.ensures.turn.0 c.turn_in_place-3.ensures.turn.1
+  business_took c can =
+      let turn = c.turn_in_place-3 in
+      took_turn books replay_graph size events at sent 2 (sent ∷ sent ∷ at ∷ []) _ _ _ _ can turn.result turn.ensures.turn.0 turn.ensures.turn.1
 
 pub returns-in_err-turn_in_place : goal.returns-in_err-turn_in_place
 returns-in_err-turn_in_place c = λ size events at sent offered shown.
@@ -59,7 +67,8 @@ returns-in_err-turn_in_place-2 c = λ size events at sent offered shown.
     let at_turn = goal.at.returns-in_err-turn_in_place-2 c in
     let took = journal_took size events at sent at_turn.In_ok-turn_in_place (journal_needs size events at sent at_turn.After-turn_in_place offered) in
     let can = replica_needs size events at sent at_turn.After-turn_in_place-2 offered took.holds in
-    absurd (no_refusal copies replay_graph size events at sent 1 (sent ∷ at ∷ at ∷ []) _ _ _ _ can c.in_err-turn_in_place-2.field-0.0 [] c.in_err-turn_in_place-2.ensures.turn.1)
+    let failed = c.in_err-turn_in_place-2 in
+    absurd (no_refusal copies replay_graph size events at sent 1 (sent ∷ at ∷ at ∷ []) _ _ _ _ can failed.field-0.0 [] failed.ensures.turn.1)
 
 pub returns-in_err-turn_in_place-3 : goal.returns-in_err-turn_in_place-3
 returns-in_err-turn_in_place-3 c = λ size events at sent offered shown.
@@ -67,7 +76,8 @@ returns-in_err-turn_in_place-3 c = λ size events at sent offered shown.
     let took = journal_took size events at sent at_turn.In_ok-turn_in_place (journal_needs size events at sent at_turn.After-turn_in_place offered) in
     let took2 = replica_took size events at sent at_turn.In_ok-turn_in_place-2 (replica_needs size events at sent at_turn.After-turn_in_place-2 offered took.holds) in
     let can = business_needs size events at sent at_turn.After-turn_in_place-3 offered took2.holds in
-    absurd (no_refusal books replay_graph size events at sent 2 (sent ∷ sent ∷ at ∷ []) _ _ _ _ can c.in_err-turn_in_place-3.field-0.0 [] c.in_err-turn_in_place-3.ensures.turn.1)
+    let failed = c.in_err-turn_in_place-3 in
+    absurd (no_refusal books replay_graph size events at sent 2 (sent ∷ sent ∷ at ∷ []) _ _ _ _ can failed.field-0.0 [] failed.ensures.turn.1)
 
 pub returns : goal.returns
 returns c = λ size events at sent offered shown.

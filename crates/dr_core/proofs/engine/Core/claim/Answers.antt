@@ -47,7 +47,8 @@ owners_are (Multi producers) owners lent new from n p a b =
     let e : new ≡ owners_after (Multi producers) owners.items from n p = b ∙ ap (λ l. owners_after (Multi producers) l from n p) a in
     with_items_is owners new (ap length e ∙ length-stamped (λ s. p) owners.items from n ∙ sym owners.ok.0) ∙ e
 
-owned : (g : Over) (c : After-own g) → (with_items c.self-2.inside.owners c.own.new.owners).items ≡ owners_after c.self-2.inside.mode c.self-2.inside.owners.items c.self-2.inside.next c.args.n c.args.p
+owned : (g : Over) (c : After-own g) → (with_items c.self-2.inside.owners c.own.new.owners).items
+    ≡ owners_after c.self-2.inside.mode c.self-2.inside.owners.items c.self-2.inside.next c.args.n c.args.p
 owned g c = owners_are c.self-2.inside.mode c.self-2.inside.owners _ _ _ _ _ c.deref_mut.ensures.value c.own.ensures
 
 -- the look for what refuses it changes nothing
@@ -55,11 +56,14 @@ unchanged : (g : Over) (c : After-own g) → view_of c.self-2.inside ≡ view_of
 unchanged g c = c.self-2.view_is ∙ c.claim_fault.ensures.same ∙ sym c.self.view_is
 
 -- and nothing does
-free : (g : Over) (c : After-own g) → ((view_of c.self-2.inside).halted ≡ false) × (c.self-2.inside.next + c.args.n ≤ c.self-2.inside.limit) × (c.self-2.inside.next + c.args.n ≤ c.self-2.inside.size + gate_of (view_of c.self-2.inside))
+free : (g : Over) (c : After-own g)
+    → ((view_of c.self-2.inside).halted ≡ false)
+    × (c.self-2.inside.next + c.args.n ≤ c.self-2.inside.limit) × (c.self-2.inside.next + c.args.n ≤ c.self-2.inside.size + gate_of (view_of c.self-2.inside))
 free g c = claim_accepted (view_of c.self-2.inside) c.args.n (ap (λ w. claim_fault w c.args.n) (unchanged g c ∙ c.self.view_is) ∙ sym c.claim_fault.ensures.fault ∙ c.in_default.is)
 
 -- the claim is the machine's
-claimed : (g : Over) (c : After-own g) → IsStep (view_of c.self-2.inside) (Claim c.args.p c.args.n) (Claimed c.self-2.inside.next (c.self-2.inside.next + c.args.n - 1)) []
+claimed : (g : Over) (c : After-own g)
+    → IsStep (view_of c.self-2.inside) (Claim c.args.p c.args.n) (Claimed c.self-2.inside.next (c.self-2.inside.next + c.args.n - 1)) []
     (view_of (record c.self-2.inside { owners = with_items c.self-2.inside.owners c.own.new.owners; next = c.self-2.inside.next + c.args.n }))
 claimed g c =
     let v : CoreView g.row.E.Denot = view_of c.self-2.inside in
@@ -68,7 +72,9 @@ claimed g c =
     let fits : c.args.n ≤ v.setup.size = rw (ap (λ w. w.setup.size) same) (rw c.get.ensures.value at c.if-n-get.false) in
     rw (owned g c)
     (claim_step v c.args.p c.args.n _
-    (claims_known v (kept_of c.self-2.inside) (known_there c.self-2.inside) c.self-2.invariant.available c.self-2.invariant.whole.front (size_positive v.setup.size c.self-2.invariant.whole.size) c.args.n c.args.p fits (one_producer c.self-2.inside.mode c.args.p producer))
+    (claims_known v (kept_of c.self-2.inside) (known_there c.self-2.inside) c.self-2.invariant.available c.self-2.invariant.whole.front
+    (size_positive v.setup.size c.self-2.invariant.whole.size) c.args.n c.args.p
+    fits (one_producer c.self-2.inside.mode c.args.p producer))
     producer c.if-n-eq0.false fits (free g c).0 (free g c).1 (free g c).2)
 
 pub invariant_of-self : goal.invariant_of-self
@@ -77,7 +83,9 @@ invariant_of-self g c =
     let at : After-own g = (goal.at.invariant_of-self g c).After-own in
     record {
       whole = step_whole (claimed g at) refl c.self-2.invariant.whole;
-      available = rw (owned g at) (claims_available v (kept_of c.self-2.inside) (known_there c.self-2.inside) c.self-2.invariant.available c.self-2.invariant.whole.front (size_positive v.setup.size c.self-2.invariant.whole.size) c.args.n c.args.p);
+      available = rw (owned g at)
+          (claims_available v (kept_of c.self-2.inside) (known_there c.self-2.inside) c.self-2.invariant.available c.self-2.invariant.whole.front
+          (size_positive v.setup.size c.self-2.invariant.whole.size) c.args.n c.args.p);
       gating = c.self-2.invariant.gating;
       claimable = record {
         going = λ e. (let old : c.self-2.inside.claimable ≤ c.self-2.inside.next = c.self-2.invariant.claimable.going e in omega arith);

@@ -22,21 +22,26 @@ use Rattle.dr_core.proofs.engine.Core.publish.Goals.{else-is_single-via-else-is_
 pub returns-then-lo-self-clause-step : goal.returns-then-lo-self-clause-step
 returns-then-lo-self-clause-step g c =
     rw (← c.self.view_is)
-    (publish_front (view_of c.self.inside) c.args.p c.args.lo c.args.hi c.self.invariant.whole (rw c.producers.ensures at c.if-p-producers.false) c.if-lo-hi.false c.if-hi-self.false c.if-lo-self.true)
+    (publish_front (view_of c.self.inside) c.args.p c.args.lo c.args.hi c.self.invariant.whole (rw c.producers.ensures at c.if-p-producers.false)
+    c.if-lo-hi.false c.if-hi-self.false c.if-lo-self.true)
 
 pub returns-in-Some-clause-step : goal.returns-in-Some-clause-step
 returns-in-Some-clause-step g c =
     let v : CoreView g.row.E.Denot = view_of c.self.inside in
     let found = rw (← c.self.view_is) at c.in-Some.ensures in
     rw (← c.self.view_is)
-    (publish_refused v c.args.p c.args.lo c.args.hi c.self.invariant.whole (rw c.producers.ensures at c.if-p-producers.false) c.if-lo-hi.false c.if-hi-self.false c.if-lo-self.false c.in-Some.refusal found.0 found.1 found.2 found.3)
+    (publish_refused v c.args.p c.args.lo c.args.hi c.self.invariant.whole (rw c.producers.ensures at c.if-p-producers.false)
+    c.if-lo-hi.false c.if-hi-self.false c.if-lo-self.false
+    c.in-Some.refusal found.0 found.1 found.2 found.3)
 
 pub returns-then-lo-self-2-clause-step : goal.returns-then-lo-self-2-clause-step
 returns-then-lo-self-2-clause-step g c =
     let v : CoreView g.row.E.Denot = view_of c.self.inside in
     let found = rw (← c.self.view_is) at c.in_default.ensures in
     rw (← c.self.view_is)
-    (publish_order v c.args.p c.args.lo c.args.hi c.self.invariant.whole (rw c.producers.ensures at c.if-p-producers.false) c.if-lo-hi.false c.if-hi-self.false c.if-lo-self.false found (sym c.is_single.ensures ∙ c.if-is_single.true) c.if-lo-self-2.true)
+    (publish_order v c.args.p c.args.lo c.args.hi c.self.invariant.whole (rw c.producers.ensures at c.if-p-producers.false)
+    c.if-lo-hi.false c.if-hi-self.false c.if-lo-self.false
+    found (sym c.is_single.ensures ∙ c.if-is_single.true) c.if-lo-self-2.true)
 
 pub first_fault-requires-clause-recent : goal.first_fault-requires-clause-recent
 first_fault-requires-clause-recent g c = rw (← c.self.view_is) (near (view_of c.self.inside) c.self.invariant.whole c.args.lo c.if-lo-self.false)
@@ -56,12 +61,15 @@ begins g c single = elim c.else-is_single.branch [
 ]
 
 -- the front that the new marks have
-found : (g : Over) (c : After-show-self-inside g) → IsNewFront c.self.inside.mode (published_after c.self.inside.mode c.self.inside.published c.args.lo (c.args.hi + 1 - c.args.lo)) c.self.inside.front c.self.inside.next c.args.hi c.show-self-inside.result
+found : (g : Over) (c : After-show-self-inside g)
+    → IsNewFront c.self.inside.mode (published_after c.self.inside.mode c.self.inside.published c.args.lo (c.args.hi + 1 - c.args.lo))
+    c.self.inside.front c.self.inside.next c.args.hi c.show-self-inside.result
 found g c = rw c.show-self-inside.ensures.marks at c.show-self-inside.ensures.front
 
 -- the publication is the machine's
 published : (g : Over) (c : After-show-self-inside g)
-    → IsStep (view_of c.self.inside) (Publish c.args.p c.args.lo c.args.hi) Published [] (view_of (record c.self.inside { published = c.show-self-inside.new.published; front = c.show-self-inside.result; filled = max c.self.inside.filled c.show-self-inside.result }))
+    → IsStep (view_of c.self.inside) (Publish c.args.p c.args.lo c.args.hi) Published []
+    (view_of (record c.self.inside { published = c.show-self-inside.new.published; front = c.show-self-inside.result; filled = max c.self.inside.filled c.show-self-inside.result }))
 published g c =
     let v : CoreView g.row.E.Denot = view_of c.self.inside in
     let recent : v.next ≤ c.args.lo + v.setup.size = near v c.self.invariant.whole c.args.lo c.if-lo-self.false in
@@ -74,9 +82,13 @@ published g c =
     ] in
     rw c.show-self-inside.ensures.marks
     (publish_step v c.args.p c.args.lo c.args.hi c.show-self-inside.result _
-    (publishes_known v (kept_of c.self.inside) (known_there c.self.inside) c.self.invariant.available c.self.invariant.whole.front some c.args.p c.args.lo c.args.hi c.show-self-inside.result c.if-lo-hi.false c.if-hi-self.false recent round refl c.if-lo-self.false (begins g c) (found g c) none)
+    (publishes_known v (kept_of c.self.inside) (known_there c.self.inside) c.self.invariant.available c.self.invariant.whole.front some
+    c.args.p c.args.lo c.args.hi c.show-self-inside.result c.if-lo-hi.false c.if-hi-self.false
+    recent round refl c.if-lo-self.false (begins g c) (found g c) none)
     c.self.invariant.whole (rw c.producers.ensures at c.if-p-producers.false) c.if-lo-hi.false c.if-hi-self.false c.if-lo-self.false none
-    (front_known v (kept_of c.self.inside) (known_there c.self.inside) c.self.invariant.available c.self.invariant.whole.front some c.args.p c.args.lo c.args.hi c.show-self-inside.result c.if-lo-hi.false c.if-hi-self.false recent round refl c.if-lo-self.false (begins g c) (found g c))
+    (front_known v (kept_of c.self.inside) (known_there c.self.inside) c.self.invariant.available c.self.invariant.whole.front some
+    c.args.p c.args.lo c.args.hi c.show-self-inside.result c.if-lo-hi.false c.if-hi-self.false
+    recent round refl c.if-lo-self.false (begins g c) (found g c))
     order)
 
 pub invariant_of-self-2 : goal.invariant_of-self-2
@@ -88,7 +100,10 @@ invariant_of-self-2 g c =
     let some : 0 < v.setup.size = size_positive v.setup.size c.self.invariant.whole.size in
     record {
       whole = rw c.max-self-inside.ensures (step_whole (published g at) refl c.self.invariant.whole);
-      available = rw (c.max-self-inside.ensures, c.show-self-inside.ensures.marks) (publishes_available v (kept_of c.self.inside) (known_there c.self.inside) c.self.invariant.available c.self.invariant.whole.front some c.args.p c.args.lo c.args.hi c.show-self-inside.result c.if-lo-hi.false c.if-hi-self.false recent round refl c.if-lo-self.false (begins g at) (found g at));
+      available = rw (c.max-self-inside.ensures, c.show-self-inside.ensures.marks)
+          (publishes_available v (kept_of c.self.inside) (known_there c.self.inside) c.self.invariant.available c.self.invariant.whole.front some
+          c.args.p c.args.lo c.args.hi c.show-self-inside.result c.if-lo-hi.false c.if-hi-self.false
+          recent round refl c.if-lo-self.false (begins g at) (found g at));
       gating = c.self.invariant.gating;
       claimable = c.self.invariant.claimable;
     }

@@ -36,13 +36,15 @@ unpublished g c = or_from _ _ (le-ltb _ _ c.if-s-self-2.false) (sym c.is_ahead.e
 unpublished_fault : (g : Over) (c : After-owner_of g) (mine : Bool) → (owner_at c.self.inside.mode c.self.inside.owners.items c.args.s == c.args.p) ≡ mine
     → write_fault (known_at (view_of c.self.inside) c.args.s) c.args.p ≡ cond mine None (Some NotClaimed)
 unpublished_fault g c mine owned =
-    write_fault_is c.self.inside c.args.s c.args.p false mine c.if-s-self.false (near (view_of c.self.inside) c.self.invariant.whole c.args.s c.if-s-self-2.false) (unpublished g c) owned
+    write_fault_is c.self.inside c.args.s c.args.p false mine c.if-s-self.false
+    (near (view_of c.self.inside) c.self.invariant.whole c.args.s c.if-s-self-2.false) (unpublished g c) owned
 
 pub returns-then-owner_of-p-clause-step : goal.returns-then-owner_of-p-clause-step
 returns-then-owner_of-p-clause-step g c =
     let owner = rw c.deref.ensures.value at c.owner_of.ensures in
     rw (← c.self.view_is)
-    (write_refused (view_of c.self.inside) c.args.p c.args.s c.args.event c.self.invariant.whole (rw c.producers.ensures at c.if-p-producers.false) c.if-s-self.false c.if-s-self-2.false _
+    (write_refused (view_of c.self.inside) c.args.p c.args.s c.args.event c.self.invariant.whole (rw c.producers.ensures at c.if-p-producers.false)
+    c.if-s-self.false c.if-s-self-2.false _
     (unpublished_fault g (goal.at.returns-then-owner_of-p-clause-step g c).After-owner_of false (ne_eqb _ _ (λ e. c.if-owner_of-p.true (owner ∙ e)))))
 
 -- past the test of its owner the sequence may be written
@@ -50,14 +52,19 @@ mine : (g : Over) (c : After-put g) → owner_at c.self.inside.mode c.self.insid
 mine g c = sym (rw c.deref.ensures.value at c.owner_of.ensures) ∙ c.if-owner_of-p.false
 
 -- the write is the machine's
-written : (g : Over) (c : After-put g) → is_published_at (kept_of c.self.inside) c.args.s ≡ false → write_fault (known_at (view_of c.self.inside) c.args.s) c.args.p ≡ None
-    → IsStep (view_of c.self.inside) (Write c.args.p c.args.s c.args.event) Written [] (view_of (record c.self.inside { filled = c.note-self-inside.result; written = c.note-self-inside.new.written; events = c.put.new.self }))
+written : (g : Over) (c : After-put g)
+    → is_published_at (kept_of c.self.inside) c.args.s ≡ false
+    → write_fault (known_at (view_of c.self.inside) c.args.s) c.args.p ≡ None
+    → IsStep (view_of c.self.inside) (Write c.args.p c.args.s c.args.event) Written []
+    (view_of (record c.self.inside { filled = c.note-self-inside.result; written = c.note-self-inside.new.written; events = c.put.new.self }))
 written g c unshown free =
     let v : CoreView g.row.E.Denot = view_of c.self.inside in
     let recent : v.next ≤ c.args.s + v.setup.size = near v c.self.invariant.whole c.args.s c.if-s-self-2.false in
     rw c.put.ensures
     (write_step v c.args.p c.args.s c.args.event c.self.invariant.whole (rw c.producers.ensures at c.if-p-producers.false) c.if-s-self.false c.if-s-self-2.false _
-    (writes_known v (kept_of c.self.inside) (known_there c.self.inside) c.self.invariant.available c.self.invariant.whole.front (size_positive v.setup.size c.self.invariant.whole.size) c.args.p c.args.s c.args.event c.note-self-inside.result _ c.if-s-self.false recent c.note-self-inside.ensures unshown (mine g c)) free)
+    (writes_known v (kept_of c.self.inside) (known_there c.self.inside) c.self.invariant.available c.self.invariant.whole.front (size_positive v.setup.size c.self.invariant.whole.size)
+    c.args.p c.args.s c.args.event c.note-self-inside.result _ c.if-s-self.false
+    recent c.note-self-inside.ensures unshown (mine g c)) free)
 
 pub invariant_of-self : goal.invariant_of-self
 invariant_of-self g c =
@@ -67,7 +74,9 @@ invariant_of-self g c =
     let recent : v.next ≤ c.args.s + v.setup.size = near v c.self.invariant.whole c.args.s c.if-s-self-2.false in
     record {
       whole = step_whole (written g put (unpublished g at) (unpublished_fault g at true (eq-eqb _ _ (mine g put)))) refl c.self.invariant.whole;
-      available = rw c.put.ensures (writes_available v (kept_of c.self.inside) (known_there c.self.inside) c.self.invariant.available c.self.invariant.whole.front (size_positive v.setup.size c.self.invariant.whole.size) c.args.p c.args.s c.args.event c.note-self-inside.result _ c.if-s-self.false recent c.note-self-inside.ensures);
+      available = rw c.put.ensures
+          (writes_available v (kept_of c.self.inside) (known_there c.self.inside) c.self.invariant.available c.self.invariant.whole.front (size_positive v.setup.size c.self.invariant.whole.size)
+          c.args.p c.args.s c.args.event c.note-self-inside.result _ c.if-s-self.false recent c.note-self-inside.ensures);
       gating = c.self.invariant.gating;
       claimable = c.self.invariant.claimable;
     }

@@ -2,7 +2,7 @@
 
 ghost use Rattle.std.specs.Prelude.{◌≡◌, ◌++◌, OnOk, codes, decimal, flat_map, string_bytes};
 ghost use Rattle.dr_meaning.specs.Calls.Refusal.{name_of, number_of};
-ghost use Rattle.dr_files.specs.Lines.{end_text as end_in, event_text as event_in, line_of as line_in};
+ghost use Rattle.dr_drive.specs.Meaning.Lines.{end_text as end_in, event_text as event_in, line_of as line_in};
 
 use dr_meaning::{Refusal, Reply};
 use dr_seq::Event;
