@@ -16,7 +16,7 @@ sys.path.insert(0, os.path.dirname(os.path.abspath(__file__)))
 import wrong_bodies  # noqa: E402
 from edits import Edit, companies, seconds_of, shared_out  # noqa: E402
 from lanes import Lanes  # noqa: E402
-from openings import lemmas_open, without_bodies  # noqa: E402
+from openings import functions_apart, lemmas_open, without_bodies  # noqa: E402
 from wrong_bodies import together, verdicts  # noqa: E402
 
 SOURCE = """#![tactic(auto)]
@@ -150,6 +150,13 @@ LEFT_OUT = {
 """: "        unreachable!()\n",
     "    rows[rows.len() - 1]\n": "    unreachable!()\n",
 }
+# A method of a trait, which a function may call that does not name it.
+OF_A_TRAIT = """impl Drop for Rows {
+    fn drop(self) {
+        let Rows { rows: _ } = self;
+    }
+}
+"""
 # Each edit by its name: the file, the old text, the new one, and what its line has to say.
 EDITS = {
     "adds_one": ("src/lib.rt", "    n + n", "    n + n + 1", "refused by twice, goal"),
@@ -278,7 +285,7 @@ def over_answers(top):
 
 
 def left_in():
-    """Returns how many files a check would read otherwise than with their lemmas left open, and their bodies left out."""
+    """Returns how much of what a check leaves open or out is otherwise than it is to be: lemmas, bodies, functions that none calls."""
     failed = 0
     for text, changes, found in (
         (LEMMAS_OF_A_MODULE, LEFT_OPEN, lemmas_open(LEMMAS_OF_A_MODULE, {"half"})),
@@ -289,6 +296,10 @@ def left_in():
         if found != text:
             failed += 1
             print(f"FAILED: what a check leaves open: {found}")
+    called = functions_apart({"src/lib.rt": SOURCE, "src/rows.rt": OF_A_TRAIT}, {"proofs/four_times"})[1]
+    if called != {"proofs/four_times", "proofs/twice", "proofs/rows/Rows/drop"}:
+        failed += 1
+        print(f"FAILED: which functions `four_times` may call: {called}")
     return failed
 
 
