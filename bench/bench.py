@@ -4,13 +4,14 @@
     bench/bench.py                    all rows
     bench/bench.py drive              10 thousand and a million commands at sizes 64 and 65,536
     bench/bench.py replay             a million events of all kinds at sizes 1, 1024 and 65,536
+    bench/bench.py files              both of these
     bench/bench.py lengths            both tools on files of a thousand to a million records, at size 1024
 
 `--program PATH` names another program than ./disruptor, and `--runs N` another number of runs than
 five. Both programs run in turns. Seconds are processor time, of user and system, since other work on
 the machine then counts for little: the median of the runs. Memory is the greatest peak. Before it is
-timed, a row's output is compared. `--record FILE` also writes the seconds to a file, as those of
-bench/measured, which bench/plots.py draws.
+timed, a row's output is compared. `--record FILE` also writes seconds and peaks to a file, as those of
+bench/measured, which bench/plots.py and bench/tables.py show.
 """
 
 import argparse
@@ -122,8 +123,8 @@ class Bench:
             f" | {seconds / plain_seconds:.2f} | {peak / plain_peak:.2f} |",
             flush=True,
         )
-        self.records.add(tool, size, count, "ours", f"{seconds:.4f}")
-        self.records.add(tool, size, count, "plain", f"{plain_seconds:.4f}")
+        self.records.add(tool, size, count, "ours", f"{seconds:.4f}", peak)
+        self.records.add(tool, size, count, "plain", f"{plain_seconds:.4f}", plain_peak)
 
 
 def drive_rows(bench):
@@ -138,13 +139,18 @@ def replay_rows(bench):
         bench.row("replay", size, 1_000_000, path)
 
 
+def file_rows(bench):
+    drive_rows(bench)
+    replay_rows(bench)
+
+
 def length_rows(bench):
     for count in (1_000, 10_000, 100_000, 1_000_000):
         bench.row("drive", 1024, count, write_file(bench.folder, "commands.csv", commands(1024, count)))
         bench.row("replay", 1024, count, write_file(bench.folder, "events.csv", events(count)))
 
 
-ROWS = {"drive": drive_rows, "replay": replay_rows, "lengths": length_rows}
+ROWS = {"drive": drive_rows, "replay": replay_rows, "files": file_rows, "lengths": length_rows}
 
 
 def main():
@@ -157,7 +163,7 @@ def main():
     print(f"{HEAD}\n|{'---|' * (HEAD.count('|') - 1)}", flush=True)
     with tempfile.TemporaryDirectory() as folder:
         bench = Bench(given, folder)
-        for name in [given.rows] if given.rows else ROWS:
+        for name in [given.rows] if given.rows else ("files", "lengths"):
             ROWS[name](bench)
         bench.records.save()
 

@@ -4,6 +4,7 @@ event takes until both had it, and how many go through them where the sender nev
 
     chrt -r 10 bench/idle.py      four idle seconds and two thousand lone events by each strategy, before other work
     bench/idle.py --seconds 10    as many idle seconds
+    bench/idle.py --record FILE   also writes the figures to a file, as those of bench/measured
 
 Build the program first, by `rt run -- --check` in `crates/disruptor_waits`. Its lone events are sent each after
 a pause of up to 255 microseconds. The rates are medians of five runs, by claims of one, ten and a hundred events.
@@ -11,9 +12,13 @@ a pause of up to 255 microseconds. The rates are medians of five runs, by claims
 
 import argparse
 import os
+import re
 import resource
 import statistics
 import subprocess
+
+from records import WAITS as COLUMNS
+from records import Records
 
 TOP = os.path.dirname(os.path.dirname(os.path.abspath(__file__)))
 WAITS = os.path.join(TOP, "crates", "disruptor_waits", "out", "disruptor_waits")
@@ -46,15 +51,21 @@ def main():
     parser = argparse.ArgumentParser(description=__doc__, formatter_class=argparse.RawDescriptionHelpFormatter)
     parser.add_argument("--seconds", type=int, default=4)
     parser.add_argument("--events", type=int, default=2000)
+    parser.add_argument("--record", metavar="FILE")
     given = parser.parse_args()
+    manner = f"{given.seconds} idle seconds, {given.events} lone events, rates the median of {RUNS} runs"
+    records = Records(given.record, COLUMNS, manner)
     for strategy in STRATEGIES:
         _, idle = run("idle", strategy, given.seconds)
         share = 100 * idle / (given.seconds * HANDLERS)
         print(f"{strategy}: {idle:.2f} s of a processor in {given.seconds} s, {share:.1f} per cent a handler", flush=True)
         told, _ = run("lone", strategy, given.events)
         print(f"{strategy}: {told}", flush=True)
-        rates = (statistics.median(rate(strategy, claim) for _ in range(RUNS)) for claim in CLAIMS)
-        print(f"{strategy}: {', '.join(f'{it:.0f}' for it in rates)} million a second by claims of {CLAIMS}", flush=True)
+        rates = [f"{statistics.median(rate(strategy, claim) for _ in range(RUNS)):.0f}" for claim in CLAIMS]
+        print(f"{strategy}: {', '.join(rates)} million a second by claims of {CLAIMS}", flush=True)
+        mean, most = re.search(r"(\d+) microseconds each, (\d+) at most", told).groups()
+        records.add(strategy, f"{share:.1f}", mean, most, *rates)
+    records.save()
 
 
 if __name__ == "__main__":

@@ -10,7 +10,8 @@ import os
 import platform
 
 RATES = ("topology", "size", "program", "million_events_a_second")
-SECONDS = ("tool", "size", "records", "program", "seconds")
+SECONDS = ("tool", "size", "records", "program", "seconds", "peak_kilobytes")
+WAITS = ("strategy", "handler_per_cent", "event_micros", "most_micros", "rate_1", "rate_10", "rate_100")
 LATENCIES = ("program", "gap_micros", "least", "mean", "50%", "99%", "99.9%", "99.99%", "most")
 
 

@@ -6,6 +6,7 @@
 
 import argparse
 import os
+from itertools import chain
 
 from exchanges import TOP
 from records import read
@@ -16,6 +17,7 @@ The tables of what was measured, from the records in `bench/measured`, as `make 
 [BENCHMARKS.md](../docs/BENCHMARKS.md) says how each was measured, what the programs are, and what the figures show.
 """
 RATES = "Millions of events a second."
+SECONDS = "Processor seconds, and megabytes at the peak."
 
 # Of each file of records: its title, and what its figures are.
 FILES = {
@@ -30,7 +32,10 @@ FILES = {
     "languages": ("From C, 1024 slots", RATES),
     "few": ("With two processors for all threads", RATES),
     "latency": ("How long an event takes through a pipeline of three threads", "Nanoseconds."),
-    "lengths": ("The tools, by the records of a file", "Processor seconds."),
+    "waiting": ("What waiting costs, by each strategy", "Of a processor per cent, microseconds, and millions of events a second by claims of 1, 10 and 100."),
+    "files": ("The tools, beside plain Rust", SECONDS),
+    "lengths": ("The tools, by the records of a file", SECONDS),
+    "replays": ("The replays", "Seconds by the clock, and megabytes at the peak."),
 }
 
 
@@ -38,24 +43,28 @@ def kind(record):
     """A table of its own for one thread, for threads, for each gap between events, and for each tool."""
     if "tool" in record:
         return record["tool"]
+    if "strategy" in record:
+        return "strategy"
     if "gap_micros" in record:
         return f"an event each {record['gap_micros']} µs"
     return "one thread" if record["topology"].startswith("core") else "a thread for each end"
 
 
-def row_of(record):
-    """What a line is called, the program, and the figure."""
+def figures_of(record):
+    """What a line is called, and each figure with the column in which it stands."""
     if "tool" in record:
         name = (f"{int(record['records']):,}", f"{int(record['size']):,}")
-        return name, record["program"], record["seconds"]
-    name = (f"`{record['topology']}`", f"{int(record['size']):,}")
-    return name, record["program"], record["million_events_a_second"]
+        yield name, record["program"], record["seconds"]
+        if record.get("peak_kilobytes"):
+            yield name, f"{record['program']}, MB", f"{int(record['peak_kilobytes']) / 1000:.1f}"
+    else:
+        yield (f"`{record['topology']}`", f"{int(record['size']):,}"), record["program"], record["million_events_a_second"]
 
 
 def table(records, first):
     """A line a topology or length and size, a column a program, in the order in which they were measured."""
     rows, programs = {}, {}
-    for name, program, figure in map(row_of, records):
+    for name, program, figure in chain.from_iterable(map(figures_of, records)):
         rows.setdefault(name, {})[program] = figure
         programs[program] = None
     yield f"| {first} | slots | {' | '.join(programs)} |"
@@ -64,13 +73,14 @@ def table(records, first):
         yield f"| {' | '.join(name)} | {' | '.join(figures.get(program, '') for program in programs)} |"
 
 
-def latencies(records, first):
-    """A line a program, a column for each of its figures."""
-    columns = [column for column in records[0] if column not in ("program", "gap_micros")]
-    yield f"| {first} | {' | '.join(columns)} |"
+def lines(records, first):
+    """A line a program or strategy, a column for each of its figures."""
+    columns = [column for column in records[0] if column not in ("program", "strategy", "gap_micros")]
+    yield f"| {first} | {' | '.join(it.replace('_', ' ') for it in columns)} |"
     yield f"|---|{'---:|' * len(columns)}"
     for record in records:
-        yield f"| {record['program']} | {' | '.join(f'{int(record[column]):,}' for column in columns)} |"
+        figures = (f"{int(record[it]):,}" if record[it].isdigit() else record[it] for it in columns)
+        yield f"| {record.get('program') or record['strategy']} | {' | '.join(figures)} |"
 
 
 def section(title, unit, head, records):
@@ -82,8 +92,8 @@ def section(title, unit, head, records):
         kinds.setdefault(kind(record), []).append(record)
     for name, those in kinds.items():
         yield ""
-        if "gap_micros" in those[0]:
-            yield from latencies(those, name)
+        if "gap_micros" in those[0] or "strategy" in those[0]:
+            yield from lines(those, name)
         else:
             yield from table(those, f"{name}: records" if "tool" in those[0] else name)
     yield ""
@@ -94,13 +104,13 @@ def main():
     parser.add_argument("--measured", default=os.path.join(TOP, "bench", "measured"))
     parser.add_argument("--figures", default=os.path.join(TOP, "bench", "FIGURES.md"))
     given = parser.parse_args()
-    lines = [HEAD]
+    written = [HEAD]
     for name, (title, unit) in FILES.items():
         path = os.path.join(given.measured, f"{name}.csv")
         if os.path.exists(path):
-            lines += section(title, unit, *read(path))
+            written += section(title, unit, *read(path))
     with open(given.figures, "w") as file:
-        file.write("\n".join(lines).rstrip() + "\n")
+        file.write("\n".join(written).rstrip() + "\n")
     print(os.path.relpath(given.figures))
 
 
