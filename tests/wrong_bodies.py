@@ -215,10 +215,10 @@ class Trial:
             crate.sizes = self.libraries.sizes(name)
 
     def follow(self, file):
-        """Takes each library that `rt ci` has proved, by its words in the file, and begins the edits of its crate."""
+        """Takes each library that `rt ci` has proved, by its words in the file, begins the edits of its crate, and gives way to its end."""
         try:
             words = ""
-            while not ENDED.search(words) and not self.proved.issuperset(self.all):
+            while not ENDED.search(words):
                 time.sleep(2)
                 words = open(file, encoding="utf-8", errors="replace").read()
                 for name in [it for it in self.all if it in PROVED.findall(words) and it not in self.proved]:
