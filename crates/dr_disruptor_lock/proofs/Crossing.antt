@@ -52,5 +52,5 @@ outlet_send a L R b g ledger workers = search calls depth 60 fits 20000
 -- what they give back
 pub ruleset gives = (sendable, std.crosses, event_send, end_send)
 
--- a handler too, whose type may be sent
-pub ruleset hands = (sendable, std.crosses, event_send, end_send, around_sync, bell_sync, strategy_sync, outlet_send)
+-- an end over it, and a handler, whose type may be sent
+pub ruleset hands = (sendable, std.crosses, event_send, end_send, bell_sync, outlet_send)
