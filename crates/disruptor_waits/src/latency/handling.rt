@@ -5,7 +5,7 @@ use crate::fault::Fault;
 use crate::words::Order;
 use dr_meaning::{Handler, Outlet};
 use dr_seq::Event;
-use dr_workers::{BATCH, Bell, OpenGate, Ringing, WorkFault, consume_with};
+use dr_workers::{BATCH, Bell, OpenGate, WorkFault, serve};
 use std::alloc::Global;
 use std::rt::Clock;
 use std::sync::{Arc, Wait};
@@ -51,18 +51,9 @@ fn handle<R: Clock + Wait, O: Outlet<Event> + Drop>(
         begun,
         took,
     };
-    let mut buffer = [Event::NONE; BATCH];
-    let mut outlet = Ringing::new(outlet, bell);
     let mut waits = order.strategy.begin(rt, bell, BATCH as u64);
-    match consume_with(
-        rt,
-        &mut outlet,
-        &OpenGate,
-        who,
-        &mut noting,
-        &mut buffer,
-        &mut waits,
-    ) {
+    let (_outlet, fault) = serve(rt, outlet, &OpenGate, who, &mut noting, bell, &mut waits);
+    match fault {
         None => Ok(noting.took),
         Some(fault) => Err(fault),
     }
