@@ -7,6 +7,8 @@ from collections import Counter
 from dataclasses import dataclass, field, replace
 
 FUNCTION = re.compile(r'^([ \t]*)(?:pub(?:\([\w: ]+\))? )?(?:(?:const|unsafe|extern "C") )*fn (\w+)', re.M)
+# The attributes of a function, in the lines above it.
+ATTRIBUTES = re.compile(r"(?:^[ \t]*#\[.*\]\n)+\Z", re.M)
 OWNER = re.compile(r"^(?:pub )?(?:unsafe )?(?:impl|trait)\b[^\n{]*", re.M)
 TRAIT = re.compile(r"(?:pub )?(?:unsafe )?trait\b")
 CONSTANT = re.compile(r"\bconst\b")
@@ -110,12 +112,14 @@ def changed(text, file, edit):
 
 
 def with_a_copy(text, edit):
-    """Returns the text of a file with a copy of the edit's function, which the edit changes, below that."""
+    """Returns the text of a file with a copy of the edit's function, which the edit changes, below that. It has the same attributes, which
+    may name what its proof needs."""
     [file, _, name] = edit.copied
     function = next(it for it in FUNCTION.finditer(text) if function_of(file, text, it) == edit.copied)
-    end = body_of(text, function)[1]
+    attributes, end = ATTRIBUTES.search(text, 0, function.start()), body_of(text, function)[1]
+    begin = attributes.start() if attributes else function.start()
     head = re.compile(rf"\bfn {name}\b")
-    return f"{text[:end]}\n\n{head.sub(f'fn {edit.functions[0][2]}', changed(text[function.start() : end], file, edit), 1)}{text[end:]}"
+    return f"{text[:end]}\n\n{head.sub(f'fn {edit.functions[0][2]}', changed(text[begin:end], file, edit), 1)}{text[end:]}"
 
 
 def copy_proof(proof, other, folder):

@@ -15,7 +15,7 @@ import time
 sys.dont_write_bytecode = True
 sys.path.insert(0, os.path.dirname(os.path.abspath(__file__)))
 import wrong_bodies  # noqa: E402
-from edits import Edit, companies, seconds_of, shared_out  # noqa: E402
+from edits import Edit, companies, seconds_of, shared_out, with_a_copy  # noqa: E402
 from lanes import Lanes  # noqa: E402
 from openings import functions_apart, lemmas_open, without_bodies  # noqa: E402
 from wrong_bodies import together, verdicts  # noqa: E402
@@ -103,6 +103,21 @@ module _ (n : ℕ) where
       refl
 """
 LEFT_OPEN = {"by_half = refl\n": "by_half = ?\n", "  is_itself zero = refl\n  is_itself (suc k) =\n      refl\n": "  is_itself = ?\n\n"}
+# A function with attributes, and a copy of it with an edit.
+WITH_ATTRIBUTES = """/// Nothing.
+#[inline]
+#[tactic(auto, using(crate::proofs::Sums::thrice))]
+fn none(n: u64) -> u64 {
+    n - n
+}
+"""
+A_COPY = """
+#[inline]
+#[tactic(auto, using(crate::proofs::Sums::thrice))]
+fn none_2(n: u64) -> u64 {
+    n
+}
+"""
 # Functions by their forms, and what is left of them where the body of `kept` stays: no constant's, no trait's own, none of one line.
 FORMS = """impl<T: Copy> Rows<T> {
     pub const fn size(self) -> usize {
@@ -313,6 +328,12 @@ def left_in():
     return failed
 
 
+def is_copied():
+    """Whether a copy of a function has its attributes."""
+    edit = Edit("toy", "copied", [("src/lib.rt", "n - n", "n")], functions=[("src/lib.rt", "", "none_2")], copied=("src/lib.rt", "", "none"))
+    return with_a_copy(WITH_ATTRIBUTES, edit) == WITH_ATTRIBUTES + A_COPY
+
+
 def lists_apart():
     """Returns how many lists of edits are otherwise than they were to be: those of one function are apart if that can have no copy, and
     no list takes too long."""
@@ -397,6 +418,9 @@ def main():
     if not gives_way():
         failed += 1
         print("FAILED: what a command does where others want its processor")
+    if not is_copied():
+        failed += 1
+        print("FAILED: what a copy of a function has")
     failed += lists_apart() + left_in()
     for tries in (over_answers, over_a_library):
         with together.folder("toy-") as top:

@@ -10,6 +10,7 @@ pub mod Recents
 pub mod Copying
 pub mod Gating
 pub mod InOrder
+pub mod Ready
 pub mod Retiring
 pub mod Going
 pub mod Turns

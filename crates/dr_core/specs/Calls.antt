@@ -2,6 +2,7 @@
 pub mod CoreView
 pub mod Shows
 pub mod Reached
+pub mod Ready
 pub mod Going
 pub mod Turning
 pub mod Passing

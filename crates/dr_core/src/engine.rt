@@ -1,13 +1,13 @@
 //! The core: the exchange on one thread.
 
-ghost use Rattle.std.specs.Prelude.{◌≡◌, ◌↔◌, ◌<◌, Err, IfOk, ◌≤◌, true, false, not, slice_index};
-ghost use Rattle.dr_core.specs.Calls.CoreView.{opened, retired_in};
+ghost use Rattle.std.specs.Prelude.{◌≡◌, ◌<◌, IfOk, ◌≤◌, false, slice_index};
+ghost use Rattle.dr_graph.specs.Calls.Answer.{Answers};
+ghost use Rattle.dr_core.specs.Calls.CoreView.{retired_in};
 ghost use Rattle.dr_core.specs.Calls.Going.{IsNeverStuck};
 ghost use Rattle.dr_core.specs.Calls.Shows.{IsOpened};
-ghost use Rattle.dr_meaning.specs.Meaning.Machine.{opening, handlers, producers as producers_of, setup_of};
-ghost use Rattle.dr_meaning.specs.Calls.OpenFault.{has_bad_producers, is_bad_limit};
+ghost use Rattle.dr_meaning.specs.Meaning.Machine.{handlers, producers as producers_of, setup_of};
+ghost use Rattle.dr_meaning.specs.Calls.OpenFault.{has_bad_producers, is_bad_limit, open_fault};
 ghost use Rattle.dr_core.specs.Calls.Reached.{IsReached};
-ghost use Rattle.dr_core.specs.Calls.Shows.{Shows};
 
 use crate::engine::opening::{gating_at_first, none_counted, none_marked, owners_for};
 use dr_graph::Graph;
@@ -66,6 +66,7 @@ impl<E: Copy> Core<E> {
     /// Opens a core over a graph of handlers, with nothing claimed. It spends the graph, at a
     /// fault too. The limit is how many sequences there will ever be. Until they are written to,
     /// the slots hold `blank`, of which no call tells: a new core is seen the same whatever it is.
+    #[tactic(auto, using(dr_graph::proofs::Answering::answering))]
     pub fn open(
         alloc: Global,
         graph: Graph,
@@ -74,12 +75,8 @@ impl<E: Copy> Core<E> {
         limit: u64,
         blank: E,
     ) -> Result<Core<E>, OpenFault>
-        ensures setup { IfOk result (λ core. core.setup ≡ setup_of graph.upstreams size mode limit) }
-        ensures names { IfOk result (λ core. core.names ≡ graph.names) }
-        ensures opening { IfOk result (λ core. Shows core (opening (setup_of graph.upstreams size mode limit))) }
-        ensures seen { IfOk result (λ core. core ≡ opened (setup_of graph.upstreams size mode limit) graph.names) }
-        ensures bad_producers { (result ≡ Err OpenFault.BadProducers) ↔ (has_bad_producers mode ≡ true) }
-        ensures bad_limit { (result ≡ Err OpenFault.BadLimit) ↔ (has_bad_producers mode ≡ false) × (is_bad_limit limit ≡ true) }
+        ensures opened { IfOk result (λ core. IsOpened core (setup_of graph.upstreams size mode limit) graph.names) }
+        ensures answer { Answers OpenFault.NoMemory (open_fault mode limit) result }
     {
         if !mode.is_valid() {
             return Err(OpenFault::BadProducers);

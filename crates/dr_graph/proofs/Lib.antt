@@ -13,4 +13,5 @@ pub mod Declaring
 pub mod Gating
 pub mod Building
 pub mod Unique
+pub mod Answering
 pub mod Placed

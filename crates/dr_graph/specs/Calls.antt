@@ -1,2 +1,3 @@
--- What public contracts cite besides: the faults, by number and name.
+-- What public contracts cite besides: what a call answers, and the faults by number and name.
+pub mod Answer
 pub mod Fault

@@ -1,6 +1,7 @@
 //! Declaring handlers by name, in groups, with the edges between them.
 
-ghost use Rattle.std.specs.Prelude.{◌≡◌, ◌⊎◌, ◌↔◌, ◌++◌, false, None, Some, [], ◌∷◌, IfOk, IfErr, IfSome, OnErr, OnOk, IsOk, IsErrOf};
+ghost use Rattle.std.specs.Prelude.{◌≡◌, ◌⊎◌, ◌↔◌, ◌++◌, false, [], ◌∷◌, IfOk, IfErr, OnErr, OnOk, IsOk, IsErrOf};
+ghost use Rattle.dr_graph.specs.Calls.Answer.{Answers};
 ghost use Rattle.dr_graph.specs.Meaning.Name.{given, index_of, new_names};
 ghost use Rattle.dr_graph.specs.Meaning.Order.{HasCycle, is_upstream as is_upstream_of};
 ghost use Rattle.dr_graph.specs.Meaning.Declaration.{declaring_fault, stranger_fault, following_fault, grouping_fault, followed_by, connected, IsDeclaration};
@@ -52,14 +53,11 @@ impl GraphBuilder {
     }
 
     /// Declares handlers without upstreams: each of them receives every published event.
+    #[tactic(auto, using(crate::proofs::Answering::answering))]
     pub fn handle_with(&mut self, names: &[&str]) -> Result<Group, GraphFault>
         ensures group { IfOk result (λ group. group ≡ given names.now) }
         ensures declared { OnOk result (self.new ≡ record self.old { names = self.old.names ++ given names.now }) }
-
-        // A fault of the names is always answered; only a lack of memory is not foreseen.
-        ensures accepted { IsOk result → declaring_fault self.old.names (given names.now) ≡ None }
-        ensures refused { IfSome (declaring_fault self.old.names (given names.now)) (λ fault. result ≡ Err fault) }
-        ensures cause { IfErr result (λ fault. (fault ≡ GraphFault.NoMemory) ⊎ (declaring_fault self.old.names (given names.now) ≡ Some fault)) }
+        ensures answer { Answers GraphFault.NoMemory (declaring_fault self.old.names (given names.now)) result }
         ensures unchanged { OnErr result (self.new ≡ self.old) }
     {
         check_new(self.alloc, &self.names, names)?;
@@ -70,14 +68,11 @@ impl GraphBuilder {
 
     /// Declares handlers that follow a whole group: each receives an event once every handler of the group has completed
     /// it.
+    #[tactic(auto, using(crate::proofs::Answering::answering))]
     pub fn then(&mut self, group: &Group, names: &[&str]) -> Result<Group, GraphFault>
         ensures group { IfOk result (λ followers. followers ≡ given names.now) }
         ensures declared { OnOk result (self.new ≡ followed_by self.old group.now (given names.now)) }
-
-        // A fault of the group or the names is always answered; only a lack of memory is not foreseen.
-        ensures accepted { IsOk result → following_fault self.old.names group.now (given names.now) ≡ None }
-        ensures refused { IfSome (following_fault self.old.names group.now (given names.now)) (λ fault. result ≡ Err fault) }
-        ensures cause { IfErr result (λ fault. (fault ≡ GraphFault.NoMemory) ⊎ (following_fault self.old.names group.now (given names.now) ≡ Some fault)) }
+        ensures answer { Answers GraphFault.NoMemory (following_fault self.old.names group.now (given names.now)) result }
         ensures unchanged { OnErr result (self.new ≡ self.old) }
     {
         check_group(&self.names, group.names())?;
@@ -92,11 +87,10 @@ impl GraphBuilder {
     }
 
     /// The group of some declared handlers. A name that stands twice counts once.
+    #[tactic(auto, using(crate::proofs::Answering::answering, std::proofs::lemmas::Grind::common_steps))]
     pub fn after(&self, names: &[&str]) -> Result<Group, GraphFault>
         ensures group { IfOk result (λ group. group ≡ new_names [] (given names.now)) }
-        ensures accepted { IsOk result → grouping_fault self.now.names (given names.now) ≡ None }
-        ensures refused { IfSome (grouping_fault self.now.names (given names.now)) (λ fault. result ≡ Err fault) }
-        ensures cause { IfErr result (λ fault. (fault ≡ GraphFault.NoMemory) ⊎ (grouping_fault self.now.names (given names.now) ≡ Some fault)) }
+        ensures answer { Answers GraphFault.NoMemory (grouping_fault self.now.names (given names.now)) result }
     {
         if names.is_empty() {
             return Err(GraphFault::EmptyGroup);
@@ -106,11 +100,10 @@ impl GraphBuilder {
     }
 
     /// Both groups as one: the first's names, then those of the second that the first lacks.
+    #[tactic(auto, using(crate::proofs::Answering::answering, std::proofs::lemmas::Grind::common_steps))]
     pub fn and(&self, first: &Group, second: &Group) -> Result<Group, GraphFault>
         ensures group { IfOk result (λ group. group ≡ first.now ++ new_names first.now second.now) }
-        ensures accepted { IsOk result → stranger_fault self.now.names (first.now ++ second.now) ≡ None }
-        ensures refused { IfSome (stranger_fault self.now.names (first.now ++ second.now)) (λ fault. result ≡ Err fault) }
-        ensures cause { IfErr result (λ fault. (fault ≡ GraphFault.NoMemory) ⊎ (stranger_fault self.now.names (first.now ++ second.now) ≡ Some fault)) }
+        ensures answer { Answers GraphFault.NoMemory (stranger_fault self.now.names (first.now ++ second.now)) result }
     {
         check_group(&self.names, first.names())?;
         check_group(&self.names, second.names())?;
@@ -119,11 +112,10 @@ impl GraphBuilder {
 
     /// Puts one declared handler before another. An edge from a handler to itself is accepted, and is a cycle. An edge
     /// that is there never lacks memory.
+    #[tactic(auto, using(crate::proofs::Answering::answering))]
     pub fn edge(&mut self, up: &str, down: &str) -> Result<(), GraphFault>
         ensures connected { OnOk result (self.new ≡ connected self.old up.now down.now) }
-        ensures accepted { IsOk result → stranger_fault self.old.names (up.now ∷ down.now ∷ []) ≡ None }
-        ensures refused { IfSome (stranger_fault self.old.names (up.now ∷ down.now ∷ [])) (λ fault. result ≡ Err fault) }
-        ensures cause { IfErr result (λ fault. (fault ≡ GraphFault.NoMemory) ⊎ (stranger_fault self.old.names (up.now ∷ down.now ∷ []) ≡ Some fault)) }
+        ensures answer { Answers GraphFault.NoMemory (stranger_fault self.old.names (up.now ∷ down.now ∷ [])) result }
         ensures memory { IsErrOf result GraphFault.NoMemory → is_upstream_of self.old.edges (index_of self.old.names up.now) (index_of self.old.names down.now) ≡ false }
         ensures unchanged { OnErr result (self.new ≡ self.old) }
     {

@@ -1,12 +1,13 @@
 //! A core with the history of the calls that it kept.
 
-ghost use Rattle.std.specs.Prelude.{◌≡◌, ◌+◌, ◌<◌, ◌≤◌, ◌↔◌, ◌^◌, ◌⊎◌, ◌++◌, [], Err, Ok, true, false, drop, length, take, IfOk, OnErr, slice_index};
-ghost use Rattle.dr_core.specs.Calls.CoreView.{opened, retired_in};
-ghost use Rattle.dr_meaning.specs.Meaning.Machine.{State, handlers, opening, producers as producers_of, setup_of, step};
-ghost use Rattle.dr_meaning.specs.Calls.OpenFault.{has_bad_producers, is_bad_limit};
+ghost use Rattle.std.specs.Prelude.{◌≡◌, ◌+◌, ◌<◌, ◌≤◌, ◌^◌, ◌⊎◌, ◌++◌, [], Ok, drop, length, take, IfOk, OnErr, slice_index};
+ghost use Rattle.dr_graph.specs.Calls.Answer.{Answers};
+ghost use Rattle.dr_core.specs.Calls.CoreView.{retired_in};
+ghost use Rattle.dr_meaning.specs.Meaning.Machine.{State, handlers, producers as producers_of, setup_of, step};
+ghost use Rattle.dr_meaning.specs.Calls.OpenFault.{open_fault};
 ghost use Rattle.dr_meaning.specs.Meaning.Progress.{NobodyIsStuck};
 ghost use Rattle.dr_meaning.specs.Meaning.Runs.{count_in};
-ghost use Rattle.dr_core.specs.Calls.Shows.{Shows, IsStep};
+ghost use Rattle.dr_core.specs.Calls.Shows.{IsOpened, Shows, IsStep};
 ghost use Rattle.dr_lock.specs.Meaning.History.{IsRecorded, asked, entries_after};
 ghost use Rattle.dr_lock.specs.Calls.Lock.{IsAnswer};
 
@@ -54,14 +55,10 @@ impl<E: Copy> Recorded<E> {
         entries: usize,
         events: usize,
     ) -> Result<Recorded<E>, OpenFault>
-        ensures setup { IfOk result (λ recorded. recorded.history.core.setup ≡ setup_of graph.upstreams size mode limit) }
-        ensures names { IfOk result (λ recorded. recorded.history.core.names ≡ graph.names) }
-        ensures opening { IfOk result (λ recorded. Shows recorded.history.core (opening (setup_of graph.upstreams size mode limit))) }
-        ensures seen { IfOk result (λ recorded. recorded.history.core ≡ opened (setup_of graph.upstreams size mode limit) graph.names) }
+        ensures opened { IfOk result (λ recorded. IsOpened recorded.history.core (setup_of graph.upstreams size mode limit) graph.names) }
         ensures empty { IfOk result (λ recorded. (recorded.history.entries ≡ []) × (recorded.history.values ≡ [])) }
         ensures room { IfOk result (λ recorded. (recorded.entry_room ≡ entries) × (recorded.value_room ≡ events)) }
-        ensures bad_producers { (result ≡ Err OpenFault.BadProducers) ↔ (has_bad_producers mode ≡ true) }
-        ensures bad_limit { (result ≡ Err OpenFault.BadLimit) ↔ (has_bad_producers mode ≡ false) × (is_bad_limit limit ≡ true) }
+        ensures answer { Answers OpenFault.NoMemory (open_fault mode limit) result }
     {
         every_transcript_is_lawful::<E>();
         let core = Core::open(alloc, graph, size, mode, limit, blank)?;

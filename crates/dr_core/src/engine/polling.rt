@@ -1,13 +1,13 @@
 //! The handlers' calls: events are taken as their barriers let them through, and completed.
 
-ghost use Rattle.std.specs.Prelude.{◌≡◌, ◌-◌, ◌↔◌, ◌⊎◌, ℕ, Bool, List, Ok, min, true, Err, ◌<◌, ◌≤◌, ◌^◌, ◌+◌, ◌++◌, [], length, map, drop, OnErr, IfOk, IfErr, IsOk, slice_index, if◌then◌else◌};
+ghost use Rattle.std.specs.Prelude.{◌≡◌, ℕ, Bool, List, Ok, min, true, ◌<◌, ◌≤◌, ◌^◌, ◌+◌, ◌++◌, [], length, map, drop, OnErr, IfOk, IsOk, if◌then◌else◌};
 ghost use Rattle.std.specs.List.{range_with_len};
 ghost use Rattle.dr_seq.specs.Slots.{event_at};
 ghost use Rattle.dr_graph.specs.Meaning.Graph.{upstreams_of};
-ghost use Rattle.dr_core.specs.Calls.CoreView.{retired_in};
-ghost use Rattle.dr_meaning.specs.Meaning.Machine.{State, available as available_of, handlers, is_single, step};
+ghost use Rattle.dr_meaning.specs.Meaning.Machine.{State, handlers, is_single, step};
 ghost use Rattle.dr_meaning.specs.Meaning.Runs.{count_in};
 ghost use Rattle.dr_core.specs.Inside.Fields.{IsNothing};
+ghost use Rattle.dr_core.specs.Calls.Ready.{ready_for};
 ghost use Rattle.dr_core.specs.Calls.Turning.{TakesTurn};
 ghost use Rattle.dr_core.specs.Calls.Shows.{Shows, IsStep, TakesIfBatch, CanComplete, offered_to};
 ghost use Rattle.dr_meaning.specs.Calls.Replies.{unit_reply, poll_reply, polled};
@@ -46,11 +46,8 @@ impl<E: Copy> Core<E> {
 
     /// How many events a poll could give a handler now.
     pub fn ready(&self, h: usize) -> Result<u64, Refusal>
-        ensures stranger { result ≡ Err Refusal.NoHandler ↔ (handlers self.now.setup ≤ h) }
-        ensures count { IfOk result (λ n. (m : State E) → Shows self.now m → n ≡ available_of self.now.setup m h - slice_index m.taken h) }
+        ensures answer { result ≡ ready_for self.now h }
         ensures gives { IfOk result (λ n. (m : State E) (max : ℕ) → Shows self.now m → length (step self.now.setup m (Command.Poll h max)).values ≡ min n max) }
-        ensures retired { result ≡ Err Refusal.Retired ↔ (h < handlers self.now.setup) × (retired_in self.now h ≡ true) }
-        ensures refused { IfErr result (λ refusal. (refusal ≡ Refusal.NoHandler) ⊎ (refusal ≡ Refusal.Retired)) }
     {
         if h >= self.graph.len() {
             return Err(Refusal::NoHandler);

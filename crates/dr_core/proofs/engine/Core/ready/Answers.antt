@@ -7,17 +7,6 @@ use Rattle.dr_core.proofs.Polling.{ready_is, poll_counts}
 use Rattle.dr_core.proofs.Retiring.{told}
 use Rattle.dr_core.proofs.engine.Core.ready.Goals as goal
 
-pub returns-clause-count : goal.returns-clause-count
-returns-clause-count g c =
-    let v : CoreView g.row.E.Denot = view_of c.self.inside in
-    let inside : c.args.h < handlers v.setup = omega (arith, c.len.ensures.handlers) in
-    let taken : length v.taken ≡ handlers v.setup = c.self.invariant.whole.taken_len in
-    let first : c.index-taken.result.now ≡ slice_index v.taken c.args.h =
-    get_or_read v.taken c.args.h c.index-taken.result.now (omega arith) c.index-taken.ensures 0 in
-    rw (← c.self.view_is)
-    (ready_is v c.args.h c.saturating_sub.result c.available-available.result c.index-taken.result.now c.saturating_sub.ensures
-    (rw (← c.self.view_is) at c.available-available.ensures) first)
-
 pub returns-clause-gives : goal.returns-clause-gives
 returns-clause-gives g c =
     let v : CoreView g.row.E.Denot = view_of c.self.inside in
