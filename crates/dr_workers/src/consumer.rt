@@ -11,13 +11,16 @@ ghost use Rattle.dr_workers.specs.Calls.Waits.{Attends};
 ghost use Rattle.dr_workers.specs.Inside.Retries.{TakesBatch};
 ghost use Rattle.dr_workers.specs.Meaning.Work.{IsDone};
 
+use crate::bell::Bell;
 use crate::fault::WorkFault;
 use crate::gate::Gate;
 use crate::passages::Passages;
 use crate::patience::Patience;
 use crate::retries::complete;
+use crate::ringing::Ringing;
 use crate::waiting::Waiting;
 use dr_meaning::{Handler, Outlet, Polled, Trouble, show};
+use dr_seq::Event;
 use std::sync::Wait;
 
 /// How many events there is room for in the buffer of a worker that has its own, so how many it takes at once, at
@@ -127,4 +130,30 @@ pub fn consume<E: Copy, R: Wait, O: Outlet<E>, G: Gate, H: Handler<E>>(
 {
     let mut waiting = Waiting::new(buf.len() as u64);
     consume_with(rt, outlet, gate, who, handler, buf, &mut waiting)
+}
+
+/// As [`consume_with`] over an end of two-word events that is the worker's own: it takes up to [`BATCH`] of them at
+/// once, and rings the bell with each completion. The end comes back, with the fault if there is one.
+pub fn serve<R: Wait, O: Outlet<Event>, G: Gate, H: Handler<Event>, P: Patience>(
+    rt: &R,
+    outlet: O,
+    gate: &G,
+    who: usize,
+    handler: &mut H,
+    bell: &Bell,
+    patience: &mut P,
+) -> (O, Option<WorkFault>)
+    ensures kept { O.kept result.0 ≡ O.kept outlet }
+    // Each poll had room for 256 events.
+    ensures serves { SomeCalls O.does outlet result.0 (Serves 256 H.goes handler.old handler.new (O.received outlet) (O.received result.0) (G.may_stop gate.now who) (G.must_stop gate.now who) result.1) }
+    ensures bides { SomeCalls (Attends O.does P.waits P.finds) (record { end = outlet; patience = patience.old }) (record { end = result.0; patience = patience.new }) (Serves 256 H.goes handler.old handler.new (O.received outlet) (O.received result.0) (G.may_stop gate.now who) (G.must_stop gate.now who) result.1) }
+    ensures done { IfNone result.1 (WhereShown IsDone (O.received outlet) (O.received result.0)) }
+    ensures drained { IfNone result.1 (O.told result.0 ≡ true) }
+    ensures waits { result.1 ≢ Some Memory }
+    ensures stopped { result.1 ≡ Some Stopped → MayStop G.may_stop gate.now who }
+{
+    let mut buffer = [Event::NONE; BATCH];
+    let mut ringing = Ringing::new(outlet, bell);
+    let fault = consume_with(rt, &mut ringing, gate, who, handler, &mut buffer, patience);
+    (ringing.into_end(), fault)
 }

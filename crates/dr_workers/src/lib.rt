@@ -2,8 +2,8 @@
 //!
 //! [`produce`] sends a script through a producer's end, and [`consume`] takes a handler through all that its end
 //! hands out. Both wait for the other workers by a [`Patience`], and pass a [`Gate`]. [`Ringing`] makes an end
-//! wake those who sleep. Begin with `specs/Meaning/Work`: it says what workers do to an end that shows what it
-//! sent or received.
+//! wake those who sleep, and [`serve`] is the whole of a handler's worker over one. Begin with `specs/Meaning/Work`:
+//! it says what workers do to an end that shows what it sent or received.
 #![tactic(auto)]
 
 mod bell;
@@ -20,7 +20,7 @@ mod ringing;
 mod waiting;
 
 pub use bell::{Bell, Rings};
-pub use consumer::{BATCH, consume, consume_with};
+pub use consumer::{BATCH, consume, consume_with, serve};
 pub use ended::{Ended, WorkerFault, first_fault};
 pub use fault::WorkFault;
 pub use gate::{Gate, GateAnswer, OpenGate};

@@ -28,6 +28,19 @@ pub struct Produced {
     pub fault: Option<WorkFault>,
 }
 
+impl Produced {
+    // Of a worker that published so many events.
+    fn of(sent: usize, fault: Option<WorkFault>) -> Produced
+        ensures sent { result.sent ≡ sent }
+        ensures fault { result.fault ≡ fault }
+    {
+        Produced {
+            sent: sent as u64,
+            fault,
+        }
+    }
+}
+
 // Claims, passes the gate, writes and publishes some events.
 fn send<E: Copy, R: Wait, I: Inlet<E>, G: Gate, P: Patience>(
     rt: &R,
@@ -86,19 +99,10 @@ pub fn produce_with<E: Copy, R: Wait, I: Inlet<E>, G: Gate, P: Patience>(
         let part = &script[sent..sent + n];
         match send(rt, inlet, gate, &mut passages, part, patience, &mut room) {
             Ok(()) => sent += n,
-            Err(trouble) => {
-                let fault = Some(passages.in_trouble(trouble));
-                return Produced {
-                    sent: sent as u64,
-                    fault,
-                };
-            }
+            Err(trouble) => return Produced::of(sent, Some(passages.in_trouble(trouble))),
         }
     }
-    Produced {
-        sent: sent as u64,
-        fault: passages.at_end(),
-    }
+    Produced::of(sent, passages.at_end())
 }
 
 /// As [`produce_with`], waiting as [`Waiting`] does.

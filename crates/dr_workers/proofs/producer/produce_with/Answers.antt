@@ -68,7 +68,7 @@ returns-in-Err-clause-bides g c =
       c.send.new.room,
       sends_in_trouble (Provides g.I.Inlet.does g.P.Patience.waits g.P.Patience.finds) _ _ _ c.args.cut script (g.G.Gate.may_stop c.args.gate.now)
           (g.G.Gate.must_stop c.args.gate.now) c.args.who sent n _ _ c.send.result c.in-Err.trouble _ c.loop-sent-test.true c.min-n.ensures (omega arith)
-          c.in-Err.is refl (ap Some c.in_trouble.ensures) c.loop-sent.invariant.6 next,
+          c.in-Err.is c.of.ensures.sent (c.of.ensures.fault ∙ ap Some c.in_trouble.ensures) c.loop-sent.invariant.6 next,
     )
 
 pub returns-in-Err-clause-sends : goal.returns-in-Err-clause-sends
@@ -81,7 +81,7 @@ pub returns-clause-bides : goal.returns-clause-bides
 returns-clause-bides g c = (
   c.loop-sent.room,
   sends_all (Provides g.I.Inlet.does g.P.Patience.waits g.P.Patience.finds) _ _ c.args.cut c.args.script.now (g.G.Gate.may_stop c.args.gate.now)
-      (g.G.Gate.must_stop c.args.gate.now) c.args.who c.loop-sent.sent _ _ (omega arith) refl c.at_end.ensures c.loop-sent.invariant.6,
+      (g.G.Gate.must_stop c.args.gate.now) c.args.who c.loop-sent.sent _ _ (let sent = c.of-2.ensures.sent in omega arith) c.of-2.ensures.sent (c.of-2.ensures.fault ∙ c.at_end.ensures) c.loop-sent.invariant.6,
 )
 
 pub returns-clause-sends : goal.returns-clause-sends
