@@ -6,7 +6,7 @@ ghost use Rattle.dr_threads.specs.Serving.{Serving};
 use crate::strategy::WaitStrategy;
 use dr_meaning::{Handler, Outlet};
 use dr_seq::Event;
-use dr_workers::{BATCH, Bell, OpenGate, Ringing, WorkFault, consume_with};
+use dr_workers::{BATCH, Bell, OpenGate, WorkFault};
 use std::snapshot::Snapshot;
 use std::sync::Wait;
 use std::thread::Promise;
@@ -59,20 +59,18 @@ pub fn serve<R: Wait, O: Outlet<Event>, H: Handler<Event>>(
 ) -> Served<O, H>
     ensures { Serving O.kept O.does O.received O.told H.goes handler outlet result }
 {
-    let mut buffer = [Event::NONE; BATCH];
-    let mut ringing = Ringing::new(outlet, bell);
     let mut waits = strategy.begin(rt, bell, BATCH as u64);
-    let fault = consume_with(
+    let (outlet, fault) = dr_workers::serve(
         rt,
-        &mut ringing,
+        outlet,
         &OpenGate,
         who,
         &mut handler,
-        &mut buffer,
+        bell,
         &mut waits,
     );
     Served {
-        outlet: ringing.into_end(),
+        outlet,
         handler,
         fault,
     }
