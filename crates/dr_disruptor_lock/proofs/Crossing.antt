@@ -13,6 +13,7 @@ use Rattle.dr_threads.specs.contracts.strategy.WaitStrategy as WaitStrategy
 use Rattle.dr_lock.proofs.Sent.{end_send, shared_sync}
 use Rattle.dr_disruptor_lock.specs.contracts.around.Around as Around
 use Rattle.dr_disruptor_lock.specs.contracts.jobs.Task as Task
+use Rattle.dr_lock.specs.contracts.locked.LockedOutlet as Outlet
 
 pub size_sync : IsSync Size.the_row
 size_sync = search sendable depth 30
@@ -41,8 +42,15 @@ task_send L g = search sends depth 60 fits 20000
 
 pub ruleset crosses = (sendable, end_send, task_send, around_sync)
 
+pub ruleset calls = (sendable, std.crosses, event_send, end_send, shared_sync)
+
+-- an end over what all share
+pub outlet_send : (a : NamedLft) (L R : RattleType) (b : Begun L.Denot Event.the_row.Denot) (g : Ghosts L.Denot) → IsSync L → IsSync R
+    → IsSend (Outlet.the_row a Event.the_row L R b g)
+outlet_send a L R b g ledger workers = search calls depth 60 fits 20000
+
 -- what they give back
 pub ruleset gives = (sendable, std.crosses, event_send, end_send)
 
 -- a handler too, whose type may be sent
-pub ruleset hands = (sendable, std.crosses, event_send, end_send, around_sync)
+pub ruleset hands = (sendable, std.crosses, event_send, end_send, around_sync, bell_sync, strategy_sync, outlet_send)
