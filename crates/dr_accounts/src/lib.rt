@@ -9,6 +9,7 @@
 
 mod business;
 mod handlers;
+mod heading;
 mod journal;
 mod operation;
 mod replica;

@@ -97,7 +97,7 @@ pub fn work<R: Wait, G: Gate, P: Reporter>(
         &mut buf,
         &mut parking,
     );
-    let part = match (part(&handler, alloc), fault) {
+    let part = match (part(handler, alloc), fault) {
         (Err(_), _) => Err(WorkFault::Memory),
         (Ok(_), Some(fault)) => Err(fault),
         (Ok(text), None) => Ok(text),

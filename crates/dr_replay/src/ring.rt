@@ -1,6 +1,6 @@
 //! The replay over the ring, a thread a handler.
 
-ghost use Rattle.std.specs.Prelude.{◌≡◌, ◌++◌, ◌-◌, ◌/◌, ◌^◌, ◌∷◌, ◌<◌, [], IfErr, IfOk, IfSome, List, None, Some, false, length, max, string_bytes, take, true};
+ghost use Rattle.std.specs.Prelude.{◌≡◌, ◌++◌, ◌-◌, ◌/◌, ◌^◌, ◌∷◌, ◌<◌, [], IfErr, IfOk, IfSome, List, None, Some, false, length, max, take, true};
 ghost use Rattle.dr_seq.specs.declared.event.Event.{Event};
 ghost use Rattle.dr_ring.specs.Calls.Ends.{sender_place};
 ghost use Rattle.dr_ring.specs.Calls.Sending.{ClosesOnceDone};
@@ -10,6 +10,7 @@ ghost use Rattle.dr_ring.specs.Calls.Telling.{sender_does};
 ghost use Rattle.dr_meaning.specs.Calls.Calling.{SomeCalls};
 ghost use Rattle.dr_files.specs.Counting.{faults_of, inner_of};
 ghost use Rattle.dr_replay.specs.Calls.Replayed.{ReplayCounts, ReplayFaultKeeps, ReplayWrites, replay_text};
+ghost use Rattle.dr_accounts.specs.Parts.{text_of};
 ghost use Rattle.dr_accounts.specs.Report.{report_of};
 ghost use Rattle.dr_workers.specs.Calls.Serving.{Sends};
 ghost use Rattle.dr_workers.specs.Calls.Stops.{MayStop};
@@ -22,11 +23,11 @@ ghost use Rattle.dr_replay.specs.Calls.Workers.{AreThrough, CameTogether, IsFirs
 
 use crate::event_file::read_events;
 use crate::fault::ReplayFault;
-use crate::outcome::{PRODUCER, joined, replay_fault};
+use crate::outcome::{PRODUCER, replay_fault, write_report};
 use dr_accounts::{
-    BUSINESS, Business, JOURNAL, Journal, PartOf, REPLICA, Replica, Worked, graph, work,
+    BUSINESS, Business, JOURNAL, Journal, PartOf, REPLICA, Replica, Report, Worked, graph, work,
 };
-use dr_files::{Counted, FileFault, write_text};
+use dr_files::{Counted, FileFault};
 use dr_meaning::MAX_LIMIT;
 use dr_ring::{Halter, Receiver, Sender, ring, settle};
 use dr_seq::{Event, Size};
@@ -241,12 +242,12 @@ fn listed(
 }
 
 // Brings the ends together, and then the parts of the report.
-fn finish(alloc: Global, ran: Ran, halter: Halter) -> Result<String, ReplayFault>
+fn finish(alloc: Global, ran: Ran, halter: Halter) -> Result<Report, ReplayFault>
     requires ends { AreAllEnds ran.sender (ends_of ran) halter }
     requires unhalted { halter.knows.halted ≡ false }
-    ensures text { (events : List Event) → Says events ran → IfOk result (λ text. string_bytes text ≡ report_of events) }
-    ensures received { (events : List Event) → Says events ran → IfOk result (λ text. AreThrough events ran) }
-    ensures fine { IfOk result (λ text. first_of (endings_of ran) ≡ None) }
+    ensures text { (events : List Event) → Says events ran → IfOk result (λ report. text_of report ≡ report_of events) }
+    ensures received { (events : List Event) → Says events ran → IfOk result (λ _. AreThrough events ran) }
+    ensures fine { IfOk result (λ _. first_of (endings_of ran) ≡ None) }
     ensures first { IfErr result (IsFirstOf (endings_of ran)) }
     ensures unhalted { IfErr result (UnlessMemory (FoundUnhalted ran.sender.knows)) }
     ensures came { CameTogether ran halter result }
@@ -266,7 +267,11 @@ fn finish(alloc: Global, ran: Ran, halter: Halter) -> Result<String, ReplayFault
     }
     match (journal.part, replica.part, business.part) {
         (Ok(journal), Ok(replica), Ok(business)) => {
-            Ok(joined(journal, replica.as_str(), business.as_str())?)
+            Ok(Report {
+                journal,
+                replica,
+                business,
+            })
         }
         _ => unreachable!(),
     }
@@ -279,9 +284,9 @@ fn report<R: Threads + Wait + Sync, G: Gate + Sync>(
     events: &[Event],
     size: Size,
     gate: &G,
-) -> Result<String, ReplayFault>
-    ensures text { IfOk result (λ text. string_bytes text ≡ report_of events.now) }
-    ensures stops { IfOk result (λ text. NoneHadToStop (G.must_stop gate.now) events.now) }
+) -> Result<Report, ReplayFault>
+    ensures text { IfOk result (λ report. text_of report ≡ report_of events.now) }
+    ensures stops { IfOk result (λ _. NoneHadToStop (G.must_stop gate.now) events.now) }
     ensures first { IfErr result (IsOfWorkers (MayStop G.may_stop gate.now) ring_workers) }
     ensures ran { CameOf (G.may_stop gate.now) (G.must_stop gate.now) size result events.now }
 {
@@ -330,6 +335,6 @@ pub fn replay_ring<S: Threads + Wait + Sync, R: Read, W: Write, G: Gate + Sync>(
     ensures counted { ReplayCounts result (faults_of reader.old) (faults_of reader.new) (faults_of writer.old) (faults_of writer.new) }
 {
     let events = read_events(alloc, reader)?;
-    let text = report(rt, alloc, events.as_slice(), size, gate)?;
-    Ok(write_text(writer, text.as_bytes())?)
+    let report = report(rt, alloc, events.as_slice(), size, gate)?;
+    Ok(write_report(writer, &report)?)
 }
