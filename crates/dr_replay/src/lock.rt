@@ -20,9 +20,9 @@ use crate::fault::ReplayFault;
 use crate::given_back::Delivered;
 use crate::lock_workers::{Around, Joined, exchange, make_ends};
 use crate::outcome::{PRODUCER, audit_fault, ended, lock_fault, write_report};
-use crate::part::Part;
+use crate::part::{Agreed, report_of_list};
 use crate::scripts::{scripts, views};
-use dr_accounts::{BUSINESS, Business, JOURNAL, Journal, REPLICA, Replica, Report, graph};
+use dr_accounts::{BUSINESS, JOURNAL, REPLICA, Report, graph};
 use dr_files::Counted;
 use dr_lock::{End, Exchange, Recorded, Shared, audit, finish};
 use dr_meaning::{MAX_LIMIT, Mode};
@@ -83,9 +83,7 @@ fn audited(
     alloc: Global,
     recorded: &Recorded<Event>,
     scripts: &[Vec<Event>],
-    journal: Part<Journal>,
-    replica: Part<Replica>,
-    business: Part<Business>,
+    agreed: Option<Agreed>,
 ) -> Result<Report, ReplayFault>
     ensures text { (sent : List Event) → map (λ v. v.items) scripts.now ≡ scripts_in sent
         → IfOk result (λ report. IsReportOfMerge (λ h. h ≡ recorded.now.history) sent (text_of report)) }
@@ -96,14 +94,7 @@ fn audited(
         Ok(list) => list,
         Err(found) => return Err(audit_fault(found)),
     };
-    let journal = journal.of_list(alloc, list.as_slice())?;
-    let replica = replica.of_list(alloc, list.as_slice())?;
-    let business = business.of_list(alloc, list.as_slice())?;
-    Ok(Report {
-        journal,
-        replica,
-        business,
-    })
+    Ok(report_of_list(alloc, agreed, list.as_slice())?)
 }
 
 fn fault_in<T>(part: &Result<T, WorkFault>) -> Option<WorkFault>
@@ -177,7 +168,8 @@ fn settled<L: Exchange<Event>>(
     )?;
     match (journal.part, replica.part, business.part) {
         (Ok(journal), Ok(replica), Ok(business)) => {
-            audited(alloc, &recorded, scripts, journal, replica, business)
+            let agreed = Agreed::of(journal, replica, business);
+            audited(alloc, &recorded, scripts, agreed)
         }
         _ => unreachable!(),
     }
@@ -261,18 +253,19 @@ fn report<L: Exchange<Event> + Send + Sync, R: Threads + Wait + Sync, G: Gate + 
 fn merged<R: Threads + Wait + Sync, G: Gate + Sync>(
     rt: &R,
     alloc: Global,
-    events: &[Event],
+    events: Vec<Event>,
     size: Size,
     gate: &G,
 ) -> Result<Report, ReplayFault>
-    ensures text { IfOk result (λ report. IsReportOfMerge (IsOfReplay size events.now) events.now (text_of report)) }
-    ensures first { IfErr result (IsOfMerge (MayStop G.may_stop gate.now) (IsOfReplay size events.now) events.now) }
+    ensures text { IfOk result (λ report. IsReportOfMerge (IsOfReplay size events.items) events.items (text_of report)) }
+    ensures first { IfErr result (IsOfMerge (MayStop G.may_stop gate.now) (IsOfReplay size events.items) events.items) }
     ensures refused { IfErr result IsNoRefusal }
-    ensures stops { IfOk result (λ _. NoProducerHadToStop (G.must_stop gate.now) events.now) }
-    ensures ran { SaidOfLock (λ said. text_of said) (G.may_stop gate.now) (G.must_stop gate.now) size result events.now }
+    ensures stops { IfOk result (λ _. NoProducerHadToStop (G.must_stop gate.now) events.items) }
+    ensures ran { SaidOfLock (λ said. text_of said) (G.may_stop gate.now) (G.must_stop gate.now) size result events.items }
 {
+    let count = events.len();
     let scripts = scripts(alloc, events)?;
-    let recorded = opened(alloc, size, scripts.len(), events.len())?;
+    let recorded = opened(alloc, size, scripts.len(), count)?;
     let blank = Blank::new(65);
     report::<Brand, R, G>(rt, alloc, blank, recorded, scripts.as_slice(), size, gate)
 }
@@ -312,6 +305,6 @@ pub fn replay_lock<S: Threads + Wait + Sync, R: Read, W: Write, G: Gate + Sync>(
     ensures counted { ReplayCounts result (faults_of reader.old) (faults_of reader.new) (faults_of writer.old) (faults_of writer.new) }
 {
     let events = read_events(alloc, reader)?;
-    let report = merged(rt, alloc, events.as_slice(), size, gate)?;
+    let report = merged(rt, alloc, events, size, gate)?;
     Ok(write_report(writer, &report)?)
 }
