@@ -73,23 +73,12 @@ fn close(sender: &mut Sender, bell: &Bell)
     bell.ring();
 }
 
-// Closes a ring before anything was sent, and joins those of its handlers' threads that were started.
-fn abandoned<R: Threads, G: Gate>(
-    rt: &R,
-    mut sender: Sender,
-    bell: &Bell,
-    journal: Option<PromisedHandle<Worked, PartOf<Journal, G>>>,
-    replica: Option<PromisedHandle<Worked, PartOf<Replica, G>>>,
-) -> Sender
+// Closes a ring before anything was sent, so that those of its handlers' threads that were started end
+// with their scope.
+fn abandoned(mut sender: Sender, bell: &Bell) -> Sender
     ensures { ClosesOnceDone sender result }
 {
     close(&mut sender, bell);
-    if let Some(journal) = journal {
-        let _journal = journal.join(rt);
-    }
-    if let Some(replica) = replica {
-        let _replica = replica.join(rt);
-    }
     sender
 }
 
@@ -176,22 +165,19 @@ fn exchange<R: Threads + Wait + Sync, G: Gate + Sync>(
         {
             let room = size.get() as usize;
             let promise = PartOf::<Journal, G>::of(&journal, gate, JOURNAL);
-            let Ok(journal) = scope.spawn_with(promise, move || {
+            let journal = scope.spawn_with(promise, move || {
                 work::<R, G, Journal>(rt, gate, JOURNAL, journal, room, alloc, bell)
-            }) else {
-                return Err(abandoned::<R, G>(rt, sender, bell, None, None));
-            };
+            });
             let promise = PartOf::<Replica, G>::of(&replica, gate, REPLICA);
-            let Ok(replica) = scope.spawn_with(promise, move || {
+            let replica = scope.spawn_with(promise, move || {
                 work::<R, G, Replica>(rt, gate, REPLICA, replica, room, alloc, bell)
-            }) else {
-                return Err(abandoned(rt, sender, bell, Some(journal), None));
-            };
+            });
             let promise = PartOf::<Business, G>::of(&business, gate, BUSINESS);
-            let Ok(business) = scope.spawn_with(promise, move || {
+            let business = scope.spawn_with(promise, move || {
                 work::<R, G, Business>(rt, gate, BUSINESS, business, room, alloc, bell)
-            }) else {
-                return Err(abandoned(rt, sender, bell, Some(journal), Some(replica)));
+            });
+            let (Ok(journal), Ok(replica), Ok(business)) = (journal, replica, business) else {
+                return Err(abandoned(sender, bell));
             };
             let ran = served(
                 rt, gate, events, size, sender, bell, journal, replica, business,
