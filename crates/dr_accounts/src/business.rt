@@ -6,6 +6,7 @@ ghost use Rattle.std.specs.Ordering.{nat_cmp};
 ghost use Rattle.dr_accounts.specs.Handlers.{Booked, IsBusinessOf, Moved, Puts, account_lines, added, balance_in, business_text, kept, taken};
 ghost use Rattle.dr_accounts.specs.Report.{account_line};
 
+use crate::heading::headed;
 use crate::operation::{Movement, Operation};
 use dr_meaning::Handler;
 use dr_seq::Event;
@@ -127,14 +128,14 @@ impl Business {
         Ok(())
     }
 
-    /// Appends the part of the business handler to a report.
-    pub fn append_to(&self, report: &mut String) -> Result<(), AllocError>
-        ensures text { OnOk result (string_bytes report.new ≡ string_bytes report.old ++ business_text self.now) }
-        ensures ordered { OnOk result (IsOrdered nat_cmp self.now.accounts) }
+    /// The part of the business handler in the report.
+    pub fn into_text(self, alloc: Global) -> Result<String, AllocError>
+        ensures text { IfOk result (λ text. string_bytes text ≡ business_text self) }
+        ensures ordered { IsOrdered nat_cmp self.accounts }
     {
-        let count = self.count;
-        writeln!(report, "business {count}")?;
-        push_accounts(report, &self.accounts)
+        let mut lines = String::new(alloc);
+        push_accounts(&mut lines, &self.accounts)?;
+        headed(alloc, "business", self.count, lines)
     }
 }
 

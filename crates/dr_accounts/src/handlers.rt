@@ -1,13 +1,15 @@
 //! The three handlers together.
 
-ghost use Rattle.std.specs.Prelude.{◌≡◌, ℕ, [], IfOk, List, false, string_bytes, take};
+ghost use Rattle.std.specs.Prelude.{◌≡◌, ℕ, [], IfOk, List, false, take};
 ghost use Rattle.dr_seq.specs.declared.event.Event.{Event};
+ghost use Rattle.dr_accounts.specs.Parts.{text_of};
 ghost use Rattle.dr_accounts.specs.Report.{report_of};
 ghost use Rattle.dr_accounts.specs.Turns.{AreShown, AreWell, AreOffered, Turns};
 
 use crate::business::Business;
 use crate::journal::Journal;
 use crate::replica::Replica;
+use crate::report::Report;
 use dr_core::Core;
 use dr_meaning::Refusal;
 use dr_seq::Event;
@@ -62,14 +64,19 @@ impl Handlers {
     }
 
     /// The report of the events that they were shown.
-    pub fn report(&self, alloc: Global) -> Result<String, AllocError>
-        requires { AreWell self.now }
-        ensures { (events : List Event) → AreShown self.now events → IfOk result (λ text. string_bytes text ≡ report_of events) }
+    pub fn report(self, alloc: Global) -> Result<Report, AllocError>
+        requires { AreWell self }
+        ensures { (events : List Event) → AreShown self events → IfOk result (λ report. text_of report ≡ report_of events) }
     {
-        let mut text = String::new(alloc);
-        self.journal.append_to(&mut text)?;
-        self.replica.append_to(&mut text)?;
-        self.business.append_to(&mut text)?;
-        Ok(text)
+        let Handlers {
+            journal,
+            replica,
+            business,
+        } = self;
+        Ok(Report {
+            journal: journal.into_text(alloc)?,
+            replica: replica.into_text(alloc)?,
+            business: business.into_text(alloc)?,
+        })
     }
 }

@@ -1,10 +1,11 @@
 //! The journal: each event's record, under its sequence.
 
-ghost use Rattle.std.specs.Prelude.{◌≡◌, ◌+◌, ◌++◌, [], false, OnOk, decimal, string_bytes};
+ghost use Rattle.std.specs.Prelude.{◌≡◌, ◌+◌, ◌++◌, [], false, IfOk, OnOk, decimal, string_bytes};
 ghost use Rattle.dr_accounts.specs.Handlers.{IsJournalOf, journal_text};
 ghost use Rattle.dr_accounts.specs.Operations.{movement_text, operation_text};
 ghost use Rattle.dr_accounts.specs.Report.{journal_line};
 
+use crate::heading::headed;
 use crate::operation::{Movement, Operation};
 use dr_meaning::Handler;
 use dr_seq::Event;
@@ -55,13 +56,11 @@ impl Journal {
         Ok(())
     }
 
-    /// Appends the journal's part to a report.
-    pub fn append_to(&self, report: &mut String) -> Result<(), AllocError>
-        ensures { OnOk result (string_bytes report.new ≡ string_bytes report.old ++ journal_text self.now) }
+    /// The journal's part of the report.
+    pub fn into_text(self, alloc: Global) -> Result<String, AllocError>
+        ensures { IfOk result (λ text. string_bytes text ≡ journal_text self) }
     {
-        let count = self.count;
-        writeln!(report, "journal {count}")?;
-        report.push_str(self.lines.as_str())
+        headed(alloc, "journal", self.count, self.lines)
     }
 }
 

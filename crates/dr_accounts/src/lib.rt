@@ -9,9 +9,11 @@
 
 mod business;
 mod handlers;
+mod heading;
 mod journal;
 mod operation;
 mod replica;
+mod report;
 mod reporter;
 mod through_core;
 mod topology;
@@ -22,6 +24,7 @@ pub use handlers::{BUSINESS, JOURNAL, REPLICA};
 pub use journal::Journal;
 pub use operation::{Movement, Operation, producer_of};
 pub use replica::Replica;
+pub use report::Report;
 pub use reporter::{Reporter, part};
 pub use through_core::report_by_core;
 pub use topology::graph;

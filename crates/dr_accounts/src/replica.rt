@@ -1,9 +1,10 @@
 //! The replica: each event's words, as a machine would take them over.
 
-ghost use Rattle.std.specs.Prelude.{◌≡◌, ◌+◌, ◌++◌, [], false, OnOk, string_bytes};
+ghost use Rattle.std.specs.Prelude.{◌≡◌, ◌+◌, ◌++◌, [], false, IfOk, OnOk, string_bytes};
 ghost use Rattle.dr_accounts.specs.Handlers.{IsReplicaOf, replica_text};
 ghost use Rattle.dr_accounts.specs.Report.{hexadecimal, replica_line};
 
+use crate::heading::headed;
 use crate::operation::{Movement, Operation};
 use dr_meaning::Handler;
 use dr_seq::Event;
@@ -54,13 +55,11 @@ impl Replica {
         Ok(())
     }
 
-    /// Appends the replica's part to a report.
-    pub fn append_to(&self, report: &mut String) -> Result<(), AllocError>
-        ensures { OnOk result (string_bytes report.new ≡ string_bytes report.old ++ replica_text self.now) }
+    /// The replica's part of the report.
+    pub fn into_text(self, alloc: Global) -> Result<String, AllocError>
+        ensures { IfOk result (λ text. string_bytes text ≡ replica_text self) }
     {
-        let count = self.count;
-        writeln!(report, "replica {count}")?;
-        report.push_str(self.lines.as_str())
+        headed(alloc, "replica", self.count, self.lines)
     }
 }
 

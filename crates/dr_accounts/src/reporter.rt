@@ -1,6 +1,6 @@
 //! Handlers that have a part in the report.
 
-ghost use Rattle.std.specs.Prelude.{◌≡◌, ◌++◌, ℕ, [], Bool, false, List, IfOk, OnOk, string_bytes};
+ghost use Rattle.std.specs.Prelude.{◌≡◌, ℕ, [], Bool, false, List, IfOk, string_bytes};
 ghost use Rattle.dr_seq.specs.declared.event.Event.{Event};
 ghost use Rattle.dr_meaning.specs.Calls.Handling.{GoesThrough};
 ghost use Rattle.dr_workers.specs.Meaning.Work.{Dealt, dealt_events, shown_of};
@@ -32,23 +32,21 @@ pub trait Reporter: Handler<Event> + Drop {
     fn has_failed(&self) -> bool
         ensures { result ≡ failed self.now };
 
-    /// Appends its part to a report. An error is that memory ran out.
-    fn push_part(&self, report: &mut String) -> Result<(), AllocError>
-        requires { failed self.now ≡ false }
-        ensures { (first : Self) (batches : List (Dealt Event)) → is_new first → GoesThrough Self.goes first (shown_of batches) self.now → OnOk result (string_bytes report.new ≡ string_bytes report.old ++ part_of (dealt_events batches)) };
+    /// Its part of the report. An error is that memory ran out.
+    fn into_part(self, alloc: Global) -> Result<String, AllocError>
+        requires { failed self ≡ false }
+        ensures { (first : Self) (batches : List (Dealt Event)) → is_new first → GoesThrough Self.goes first (shown_of batches) self → IfOk result (λ text. string_bytes text ≡ part_of (dealt_events batches)) };
 }
 
 /// The part of a handler alone. An error is that memory ran out, here or when an event was handled.
-pub fn part<H: Reporter>(handler: &H, alloc: Global) -> Result<String, AllocError>
-    ensures text { (first : H) (batches : List (Dealt Event)) → H.is_new first → GoesThrough H.goes first (shown_of batches) handler.now → IfOk result (λ text. string_bytes text ≡ H.part_of (dealt_events batches)) }
-    ensures well { IfOk result (λ text. H.failed handler.now ≡ false) }
+pub fn part<H: Reporter>(handler: H, alloc: Global) -> Result<String, AllocError>
+    ensures text { (first : H) (batches : List (Dealt Event)) → H.is_new first → GoesThrough H.goes first (shown_of batches) handler → IfOk result (λ text. string_bytes text ≡ H.part_of (dealt_events batches)) }
+    ensures well { IfOk result (λ text. H.failed handler ≡ false) }
 {
     if handler.has_failed() {
         return Err(AllocError);
     }
-    let mut text = String::new(alloc);
-    handler.push_part(&mut text)?;
-    Ok(text)
+    handler.into_part(alloc)
 }
 
 impl Reporter for Journal {
@@ -69,9 +67,8 @@ impl Reporter for Journal {
         self.is_failed()
     }
 
-    fn push_part(&self, report: &mut String) -> Result<(), AllocError> {
-        self.append_to(report)?;
-        Ok(())
+    fn into_part(self, alloc: Global) -> Result<String, AllocError> {
+        self.into_text(alloc)
     }
 }
 
@@ -93,9 +90,8 @@ impl Reporter for Replica {
         self.is_failed()
     }
 
-    fn push_part(&self, report: &mut String) -> Result<(), AllocError> {
-        self.append_to(report)?;
-        Ok(())
+    fn into_part(self, alloc: Global) -> Result<String, AllocError> {
+        self.into_text(alloc)
     }
 }
 
@@ -117,8 +113,7 @@ impl Reporter for Business {
         self.is_failed()
     }
 
-    fn push_part(&self, report: &mut String) -> Result<(), AllocError> {
-        self.append_to(report)?;
-        Ok(())
+    fn into_part(self, alloc: Global) -> Result<String, AllocError> {
+        self.into_text(alloc)
     }
 }

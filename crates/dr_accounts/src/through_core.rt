@@ -1,11 +1,13 @@
 //! Events through a core, on one thread.
 
-ghost use Rattle.std.specs.Prelude.{◌≡◌, ◌<◌, ◌≤◌, ◌+◌, ◌^◌, [], IfOk, length, string_bytes};
+ghost use Rattle.std.specs.Prelude.{◌≡◌, ◌<◌, ◌≤◌, ◌+◌, ◌^◌, [], IfOk, length};
+ghost use Rattle.dr_accounts.specs.Parts.{text_of};
 ghost use Rattle.dr_accounts.specs.Passing.{each};
 ghost use Rattle.dr_accounts.specs.Report.{report_of};
 ghost use Rattle.dr_accounts.specs.Turns.{AreShown, ShowsAll, Rests, SendsStretch, WentThrough};
 
 use crate::handlers::Handlers;
+use crate::report::Report;
 use crate::topology::open;
 use dr_core::Core;
 use dr_meaning::{Claimed, MAX_LIMIT, Refusal};
@@ -50,9 +52,9 @@ fn pass(core: &mut Core<Event>, handlers: &mut Handlers, events: &[Event]) -> Re
 
 /// The report of events that went through a core of this size, on one thread. An error is that memory
 /// ran out, which more events than there are sequences are answered with too.
-pub fn report_by_core(alloc: Global, events: &[Event], size: Size) -> Result<String, AllocError>
-    ensures text { IfOk result (λ text. string_bytes text ≡ report_of events.now) }
-    ensures through { IfOk result (λ text. WentThrough size events.now) }
+pub fn report_by_core(alloc: Global, events: &[Event], size: Size) -> Result<Report, AllocError>
+    ensures text { IfOk result (λ report. text_of report ≡ report_of events.now) }
+    ensures through { IfOk result (λ _. WentThrough size events.now) }
 {
     if events.len() as u64 > MAX_LIMIT {
         return Err(AllocError);

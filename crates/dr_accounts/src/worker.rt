@@ -5,8 +5,7 @@ ghost use Rattle.dr_accounts.specs.Keeping.{Keeps, error_of};
 
 use crate::reporter::{Reporter, part};
 use dr_ring::Receiver;
-use dr_seq::Event;
-use dr_workers::{BATCH, Bell, Gate, Parking, Ringing, WorkFault, consume_with};
+use dr_workers::{BATCH, Bell, Gate, Parking, WorkFault, serve};
 use std::alloc::Global;
 use std::marker::PhantomData;
 use std::snapshot::Snapshot;
@@ -85,25 +84,12 @@ pub fn work<R: Wait, G: Gate, P: Reporter>(
     ensures { Keeps P.goes P.is_new P.failed P.part_of (G.may_stop gate.now who) (G.must_stop gate.now who) receiver result }
 {
     let mut handler = P::begin(alloc);
-    let mut buf = [Event::NONE; BATCH];
-    let mut outlet = Ringing::new(receiver, bell);
     let mut parking = Parking::new(rt, bell, room.min(BATCH).max(1) as u64);
-    let fault = consume_with(
-        rt,
-        &mut outlet,
-        gate,
-        who,
-        &mut handler,
-        &mut buf,
-        &mut parking,
-    );
-    let part = match (part(&handler, alloc), fault) {
+    let (receiver, fault) = serve(rt, receiver, gate, who, &mut handler, bell, &mut parking);
+    let part = match (part(handler, alloc), fault) {
         (Err(_), _) => Err(WorkFault::Memory),
         (Ok(_), Some(fault)) => Err(fault),
         (Ok(text), None) => Ok(text),
     };
-    Worked {
-        receiver: outlet.into_end(),
-        part,
-    }
+    Worked { receiver, part }
 }

@@ -13,3 +13,4 @@ pub mod Scripting
 pub mod Settled
 pub mod Stopping
 pub mod Unrefused
+pub mod Writing

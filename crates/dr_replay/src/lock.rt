@@ -1,10 +1,11 @@
 //! The replay behind a lock, a thread a producer and a thread a handler.
 
-ghost use Rattle.std.specs.Prelude.{◌≡◌, ◌+◌, ◌-◌, ◌*◌, ◌++◌, ◌^◌, ◌<◌, ◌≤◌, [], All, IfErr, IfOk, IfSome, List, None, OnOk, length, map, string_bytes};
+ghost use Rattle.std.specs.Prelude.{◌≡◌, ◌+◌, ◌-◌, ◌*◌, ◌++◌, ◌^◌, ◌<◌, ◌≤◌, [], All, IfErr, IfOk, IfSome, List, None, OnOk, length, map};
 ghost use Rattle.dr_seq.specs.declared.event.Event.{Event};
 ghost use Rattle.dr_files.specs.Counting.{faults_of, inner_of};
 ghost use Rattle.dr_replay.specs.Meaning.EventFile.{events_of as events_in};
 ghost use Rattle.dr_accounts.specs.Keeping.{error_of};
+ghost use Rattle.dr_accounts.specs.Parts.{text_of};
 ghost use Rattle.dr_workers.specs.Meaning.FirstFault.{first_fault as first_of};
 ghost use Rattle.dr_workers.specs.Calls.Stops.{MayStop};
 ghost use Rattle.dr_replay.specs.Calls.LockRuns.{LockRan};
@@ -18,11 +19,11 @@ use crate::event_file::read_events;
 use crate::fault::ReplayFault;
 use crate::given_back::Delivered;
 use crate::lock_workers::{Around, Joined, exchange, make_ends};
-use crate::outcome::{PRODUCER, audit_fault, ended, joined, lock_fault};
-use crate::part::Part;
+use crate::outcome::{PRODUCER, audit_fault, ended, lock_fault, write_report};
+use crate::part::{Agreed, report_of_list};
 use crate::scripts::{scripts, views};
-use dr_accounts::{BUSINESS, Business, JOURNAL, Journal, REPLICA, Replica, graph};
-use dr_files::{Counted, write_text};
+use dr_accounts::{BUSINESS, JOURNAL, REPLICA, Report, graph};
+use dr_files::Counted;
 use dr_lock::{End, Exchange, Recorded, Shared, audit, finish};
 use dr_meaning::{MAX_LIMIT, Mode};
 use dr_seq::{Event, Size};
@@ -82,12 +83,10 @@ fn audited(
     alloc: Global,
     recorded: &Recorded<Event>,
     scripts: &[Vec<Event>],
-    journal: Part<Journal>,
-    replica: Part<Replica>,
-    business: Part<Business>,
-) -> Result<String, ReplayFault>
+    agreed: Option<Agreed>,
+) -> Result<Report, ReplayFault>
     ensures text { (sent : List Event) → map (λ v. v.items) scripts.now ≡ scripts_in sent
-        → IfOk result (λ t. IsReportOfMerge (λ h. h ≡ recorded.now.history) sent (string_bytes t)) }
+        → IfOk result (λ report. IsReportOfMerge (λ h. h ≡ recorded.now.history) sent (text_of report)) }
     ensures fault { IfErr result (IsOfAudit (λ h. h ≡ recorded.now.history) (map (λ v. v.items) scripts.now)) }
 {
     let views = views(alloc, scripts)?;
@@ -95,10 +94,7 @@ fn audited(
         Ok(list) => list,
         Err(found) => return Err(audit_fault(found)),
     };
-    let journal = journal.of_list(alloc, list.as_slice())?;
-    let replica = replica.of_list(alloc, list.as_slice())?;
-    let business = business.of_list(alloc, list.as_slice())?;
-    Ok(joined(journal, replica.as_str(), business.as_str())?)
+    Ok(report_of_list(alloc, agreed, list.as_slice())?)
 }
 
 fn fault_in<T>(part: &Result<T, WorkFault>) -> Option<WorkFault>
@@ -142,11 +138,11 @@ fn settled<L: Exchange<Event>>(
     shared: Shared<Event, L>,
     ran: Joined<L>,
     scripts: &[Vec<Event>],
-) -> Result<String, ReplayFault>
+) -> Result<Report, ReplayFault>
     requires given { shared.given ≡ 4 + length ran.producers.items }
     requires few { length ran.producers.items ≤ 2 ^ 62 }
     ensures text { (sent : List Event) → map (λ v. v.items) scripts.now ≡ scripts_in sent
-        → IfOk result (λ t. IsReportOfMerge (GoesOnBy L.begun shared.begun (ends_of ran)) sent (string_bytes t)) }
+        → IfOk result (λ report. IsReportOfMerge (GoesOnBy L.begun shared.begun (ends_of ran)) sent (text_of report)) }
     ensures fine { OnOk result (first_of (lock_endings (error_of ran.journal.part) (error_of ran.replica.part) (error_of ran.business.part)
         (map (λ s. s.fault) ran.producers.items)) ≡ None) }
     ensures producers { OnOk result (All (λ fault. fault ≡ None) (map (λ s. s.fault) ran.producers.items)) }
@@ -172,7 +168,8 @@ fn settled<L: Exchange<Event>>(
     )?;
     match (journal.part, replica.part, business.part) {
         (Ok(journal), Ok(replica), Ok(business)) => {
-            audited(alloc, &recorded, scripts, journal, replica, business)
+            let agreed = Agreed::of(journal, replica, business);
+            audited(alloc, &recorded, scripts, agreed)
         }
         _ => unreachable!(),
     }
@@ -220,20 +217,20 @@ fn report<L: Exchange<Event> + Send + Sync, R: Threads + Wait + Sync, G: Gate + 
     scripts: &[Vec<Event>],
     size: Size,
     gate: &G,
-) -> Result<String, ReplayFault>
+) -> Result<Report, ReplayFault>
     requires name { blank.name ≡ L.name }
     requires parts { blank.parts ≡ L.parts }
     requires ends { blank.parts ≡ 65 }
     requires begun { recorded.history ≡ L.begun }
     requires fresh { recorded.history.entries ≡ [] }
     ensures text { (sent : List Event) → map (λ v. v.items) scripts.now ≡ scripts_in sent
-        → IfOk result (λ t. IsReportOfMerge (CameTo recorded.history (length scripts.now)) sent (string_bytes t)) }
+        → IfOk result (λ report. IsReportOfMerge (CameTo recorded.history (length scripts.now)) sent (text_of report)) }
     ensures first { (sent : List Event) → map (λ v. v.items) scripts.now ≡ scripts_in sent
         → IfErr result (IsOfMerge (MayStop G.may_stop gate.now) (CameTo recorded.history (length scripts.now)) sent) }
     ensures refused { IfErr result IsNoRefusal }
-    ensures stops { (sent : List Event) → map (λ v. v.items) scripts.now ≡ scripts_in sent → IfOk result (λ t. NoProducerHadToStop (G.must_stop gate.now) sent) }
+    ensures stops { (sent : List Event) → map (λ v. v.items) scripts.now ≡ scripts_in sent → IfOk result (λ _. NoProducerHadToStop (G.must_stop gate.now) sent) }
     ensures ran { (sent : List Event) → map (λ v. v.items) scripts.now ≡ scripts_in sent → recorded.history.core.setup ≡ lock_setup size sent
-        → SaidOfLock (λ said. string_bytes said) (G.may_stop gate.now) (G.must_stop gate.now) size result sent }
+        → SaidOfLock (λ said. text_of said) (G.may_stop gate.now) (G.must_stop gate.now) size result sent }
 {
     let mut shared = Shared::<Event, L>::new(recorded, blank);
     let ends = make_ends(alloc, &mut shared, scripts.len())?;
@@ -256,18 +253,19 @@ fn report<L: Exchange<Event> + Send + Sync, R: Threads + Wait + Sync, G: Gate + 
 fn merged<R: Threads + Wait + Sync, G: Gate + Sync>(
     rt: &R,
     alloc: Global,
-    events: &[Event],
+    events: Vec<Event>,
     size: Size,
     gate: &G,
-) -> Result<String, ReplayFault>
-    ensures text { IfOk result (λ text. IsReportOfMerge (IsOfReplay size events.now) events.now (string_bytes text)) }
-    ensures first { IfErr result (IsOfMerge (MayStop G.may_stop gate.now) (IsOfReplay size events.now) events.now) }
+) -> Result<Report, ReplayFault>
+    ensures text { IfOk result (λ report. IsReportOfMerge (IsOfReplay size events.items) events.items (text_of report)) }
+    ensures first { IfErr result (IsOfMerge (MayStop G.may_stop gate.now) (IsOfReplay size events.items) events.items) }
     ensures refused { IfErr result IsNoRefusal }
-    ensures stops { IfOk result (λ text. NoProducerHadToStop (G.must_stop gate.now) events.now) }
-    ensures ran { SaidOfLock (λ said. string_bytes said) (G.may_stop gate.now) (G.must_stop gate.now) size result events.now }
+    ensures stops { IfOk result (λ _. NoProducerHadToStop (G.must_stop gate.now) events.items) }
+    ensures ran { SaidOfLock (λ said. text_of said) (G.may_stop gate.now) (G.must_stop gate.now) size result events.items }
 {
+    let count = events.len();
     let scripts = scripts(alloc, events)?;
-    let recorded = opened(alloc, size, scripts.len(), events.len())?;
+    let recorded = opened(alloc, size, scripts.len(), count)?;
     let blank = Blank::new(65);
     report::<Brand, R, G>(rt, alloc, blank, recorded, scripts.as_slice(), size, gate)
 }
@@ -307,6 +305,6 @@ pub fn replay_lock<S: Threads + Wait + Sync, R: Read, W: Write, G: Gate + Sync>(
     ensures counted { ReplayCounts result (faults_of reader.old) (faults_of reader.new) (faults_of writer.old) (faults_of writer.new) }
 {
     let events = read_events(alloc, reader)?;
-    let text = merged(rt, alloc, events.as_slice(), size, gate)?;
-    Ok(write_text(writer, text.as_bytes())?)
+    let report = merged(rt, alloc, events, size, gate)?;
+    Ok(write_report(writer, &report)?)
 }

@@ -14,7 +14,7 @@ use crate::part::Listing;
 use dr_accounts::{BUSINESS, Business, JOURNAL, Journal, REPLICA, Replica, Reporter};
 use dr_lock::{End, Exchange, LockedInlet, LockedOutlet, Shared, halt};
 use dr_seq::{Event, Size};
-use dr_workers::{BATCH, Bell, Gate, Parking, Ringing, WorkFault, consume_with, produce_with};
+use dr_workers::{BATCH, Bell, Gate, Parking, Ringing, WorkFault, produce_with, serve};
 use std::alloc::{AllocError, Global};
 use std::sync::Wait;
 use std::sync::ledger::Ledger;
@@ -148,25 +148,14 @@ fn handle<L: Exchange<Event>, R: Wait, G: Gate, P: Reporter>(
 {
     let (rt, gate, bell) = (around.rt, around.gate, around.bell);
     let locked = LockedOutlet::new(rt, around.shared, end, who);
-    let mut outlet = Ringing::new(locked, bell);
     let mut listing = Listing::<P>::new(around.alloc);
-    let mut buf = [Event::NONE; BATCH];
     let mut parking = Parking::new(rt, bell, BATCH as u64);
-    let fault = consume_with(
-        rt,
-        &mut outlet,
-        gate,
-        who,
-        &mut listing,
-        &mut buf,
-        &mut parking,
-    );
+    let (back, fault) = serve(rt, locked, gate, who, &mut listing, bell, &mut parking);
     let part = match (listing.part(around.alloc), fault) {
         (Err(_), _) => Err(WorkFault::Memory),
         (Ok(_), Some(fault)) => Err(fault),
         (Ok(part), None) => Ok(part),
     };
-    let back = outlet.into_end();
     let end = back.into_end();
     Handled { end, part }
 }

@@ -9,8 +9,9 @@ ghost use Rattle.dr_replay.specs.Meaning.EventFile.{events_of as events_in};
 
 use crate::event_file::read_events;
 use crate::fault::Cause;
+use crate::outcome::write_report;
 use dr_accounts::report_by_core;
-use dr_files::{Counted, FileFault, write_text};
+use dr_files::{Counted, FileFault};
 use dr_seq::Size;
 use std::alloc::Global;
 use std::io::{Read, Write};
@@ -37,6 +38,6 @@ pub fn replay_plain<R: Read, W: Write>(
     ensures counted { CountsFaults result (faults_of reader.old) (faults_of reader.new) (faults_of writer.old) (faults_of writer.new) }
 {
     let events = read_events(alloc, reader)?;
-    let text = report_by_core(alloc, events.as_slice(), size)?;
-    Ok(write_text(writer, text.as_bytes())?)
+    let report = report_by_core(alloc, events.as_slice(), size)?;
+    Ok(write_report(writer, &report)?)
 }

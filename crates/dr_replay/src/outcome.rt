@@ -1,13 +1,17 @@
-//! The numbers of a replay's senders, and what comes of how its workers ended.
+//! The numbers of a replay's senders, what comes of how its workers ended, and the writing of its report.
 
-ghost use Rattle.std.specs.Prelude.{◌≡◌, ◌++◌, IfOk, string_bytes};
+ghost use Rattle.std.specs.Prelude.{◌≡◌, ◌<◌, ◌-◌, ◌^◌};
+ghost use Rattle.dr_accounts.specs.Parts.{text_of};
+ghost use Rattle.dr_files.specs.Counting.{faults_of, inner_of};
+ghost use Rattle.dr_files.specs.Outcome.{WriteTells};
 ghost use Rattle.dr_replay.specs.Calls.Workers.{audit_fault as audit_fault_of, lock_fault as lock_fault_of, replay_fault as fault_of};
 
 use crate::fault::ReplayFault;
-use dr_files::FileFault;
+use dr_accounts::Report;
+use dr_files::{Counted, FileFault, WriteFault, write_text};
 use dr_lock::AuditFault;
 use dr_workers::{Ended, WorkFault, WorkerFault};
-use std::alloc::AllocError;
+use std::io::Write;
 
 /// The number of the sender's worker, and of the first producer's.
 pub const PRODUCER: usize = 16;
@@ -52,11 +56,12 @@ pub fn audit_fault(found: AuditFault) -> ReplayFault
     }
 }
 
-/// One text after another.
-pub fn joined(mut journal: String, replica: &str, business: &str) -> Result<String, AllocError>
-    ensures { IfOk result (λ text. string_bytes text ≡ string_bytes journal ++ replica.now ++ business.now) }
+/// Writes a report, one part after another. After an error a beginning of it is written.
+pub fn write_report<W: Write>(writer: &mut Counted<W>, report: &Report) -> Result<(), WriteFault>
+    requires { faults_of writer.old < 2 ^ 64 - 1 }
+    ensures { WriteTells result (W.contents (inner_of writer.old)) (W.contents (inner_of writer.new)) (text_of report.now) (faults_of writer.old) (faults_of writer.new) }
 {
-    journal.push_str(replica)?;
-    journal.push_str(business)?;
-    Ok(journal)
+    write_text(writer, report.journal.as_bytes())?;
+    write_text(writer, report.replica.as_bytes())?;
+    write_text(writer, report.business.as_bytes())
 }

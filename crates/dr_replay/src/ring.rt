@@ -1,6 +1,6 @@
 //! The replay over the ring, a thread a handler.
 
-ghost use Rattle.std.specs.Prelude.{◌≡◌, ◌++◌, ◌-◌, ◌/◌, ◌^◌, ◌∷◌, ◌<◌, [], IfErr, IfOk, IfSome, List, None, Some, false, length, max, string_bytes, take, true};
+ghost use Rattle.std.specs.Prelude.{◌≡◌, ◌++◌, ◌-◌, ◌/◌, ◌^◌, ◌∷◌, ◌<◌, [], IfErr, IfOk, IfSome, List, None, Some, false, length, max, take, true};
 ghost use Rattle.dr_seq.specs.declared.event.Event.{Event};
 ghost use Rattle.dr_ring.specs.Calls.Ends.{sender_place};
 ghost use Rattle.dr_ring.specs.Calls.Sending.{ClosesOnceDone};
@@ -10,6 +10,7 @@ ghost use Rattle.dr_ring.specs.Calls.Telling.{sender_does};
 ghost use Rattle.dr_meaning.specs.Calls.Calling.{SomeCalls};
 ghost use Rattle.dr_files.specs.Counting.{faults_of, inner_of};
 ghost use Rattle.dr_replay.specs.Calls.Replayed.{ReplayCounts, ReplayFaultKeeps, ReplayWrites, replay_text};
+ghost use Rattle.dr_accounts.specs.Parts.{text_of};
 ghost use Rattle.dr_accounts.specs.Report.{report_of};
 ghost use Rattle.dr_workers.specs.Calls.Serving.{Sends};
 ghost use Rattle.dr_workers.specs.Calls.Stops.{MayStop};
@@ -22,11 +23,11 @@ ghost use Rattle.dr_replay.specs.Calls.Workers.{AreThrough, CameTogether, IsFirs
 
 use crate::event_file::read_events;
 use crate::fault::ReplayFault;
-use crate::outcome::{PRODUCER, joined, replay_fault};
+use crate::outcome::{PRODUCER, replay_fault, write_report};
 use dr_accounts::{
-    BUSINESS, Business, JOURNAL, Journal, PartOf, REPLICA, Replica, Worked, graph, work,
+    BUSINESS, Business, JOURNAL, Journal, PartOf, REPLICA, Replica, Report, Worked, graph, work,
 };
-use dr_files::{Counted, FileFault, write_text};
+use dr_files::{Counted, FileFault};
 use dr_meaning::MAX_LIMIT;
 use dr_ring::{Halter, Receiver, Sender, ring, settle};
 use dr_seq::{Event, Size};
@@ -72,23 +73,12 @@ fn close(sender: &mut Sender, bell: &Bell)
     bell.ring();
 }
 
-// Closes a ring before anything was sent, and joins those of its handlers' threads that were started.
-fn abandoned<R: Threads, G: Gate>(
-    rt: &R,
-    mut sender: Sender,
-    bell: &Bell,
-    journal: Option<PromisedHandle<Worked, PartOf<Journal, G>>>,
-    replica: Option<PromisedHandle<Worked, PartOf<Replica, G>>>,
-) -> Sender
+// Closes a ring before anything was sent, so that those of its handlers' threads that were started end
+// with their scope.
+fn abandoned(mut sender: Sender, bell: &Bell) -> Sender
     ensures { ClosesOnceDone sender result }
 {
     close(&mut sender, bell);
-    if let Some(journal) = journal {
-        let _journal = journal.join(rt);
-    }
-    if let Some(replica) = replica {
-        let _replica = replica.join(rt);
-    }
     sender
 }
 
@@ -175,22 +165,19 @@ fn exchange<R: Threads + Wait + Sync, G: Gate + Sync>(
         {
             let room = size.get() as usize;
             let promise = PartOf::<Journal, G>::of(&journal, gate, JOURNAL);
-            let Ok(journal) = scope.spawn_with(promise, move || {
+            let journal = scope.spawn_with(promise, move || {
                 work::<R, G, Journal>(rt, gate, JOURNAL, journal, room, alloc, bell)
-            }) else {
-                return Err(abandoned::<R, G>(rt, sender, bell, None, None));
-            };
+            });
             let promise = PartOf::<Replica, G>::of(&replica, gate, REPLICA);
-            let Ok(replica) = scope.spawn_with(promise, move || {
+            let replica = scope.spawn_with(promise, move || {
                 work::<R, G, Replica>(rt, gate, REPLICA, replica, room, alloc, bell)
-            }) else {
-                return Err(abandoned(rt, sender, bell, Some(journal), None));
-            };
+            });
             let promise = PartOf::<Business, G>::of(&business, gate, BUSINESS);
-            let Ok(business) = scope.spawn_with(promise, move || {
+            let business = scope.spawn_with(promise, move || {
                 work::<R, G, Business>(rt, gate, BUSINESS, business, room, alloc, bell)
-            }) else {
-                return Err(abandoned(rt, sender, bell, Some(journal), Some(replica)));
+            });
+            let (Ok(journal), Ok(replica), Ok(business)) = (journal, replica, business) else {
+                return Err(abandoned(sender, bell));
             };
             let ran = served(
                 rt, gate, events, size, sender, bell, journal, replica, business,
@@ -241,12 +228,12 @@ fn listed(
 }
 
 // Brings the ends together, and then the parts of the report.
-fn finish(alloc: Global, ran: Ran, halter: Halter) -> Result<String, ReplayFault>
+fn finish(alloc: Global, ran: Ran, halter: Halter) -> Result<Report, ReplayFault>
     requires ends { AreAllEnds ran.sender (ends_of ran) halter }
     requires unhalted { halter.knows.halted ≡ false }
-    ensures text { (events : List Event) → Says events ran → IfOk result (λ text. string_bytes text ≡ report_of events) }
-    ensures received { (events : List Event) → Says events ran → IfOk result (λ text. AreThrough events ran) }
-    ensures fine { IfOk result (λ text. first_of (endings_of ran) ≡ None) }
+    ensures text { (events : List Event) → Says events ran → IfOk result (λ report. text_of report ≡ report_of events) }
+    ensures received { (events : List Event) → Says events ran → IfOk result (λ _. AreThrough events ran) }
+    ensures fine { IfOk result (λ _. first_of (endings_of ran) ≡ None) }
     ensures first { IfErr result (IsFirstOf (endings_of ran)) }
     ensures unhalted { IfErr result (UnlessMemory (FoundUnhalted ran.sender.knows)) }
     ensures came { CameTogether ran halter result }
@@ -266,7 +253,11 @@ fn finish(alloc: Global, ran: Ran, halter: Halter) -> Result<String, ReplayFault
     }
     match (journal.part, replica.part, business.part) {
         (Ok(journal), Ok(replica), Ok(business)) => {
-            Ok(joined(journal, replica.as_str(), business.as_str())?)
+            Ok(Report {
+                journal,
+                replica,
+                business,
+            })
         }
         _ => unreachable!(),
     }
@@ -279,9 +270,9 @@ fn report<R: Threads + Wait + Sync, G: Gate + Sync>(
     events: &[Event],
     size: Size,
     gate: &G,
-) -> Result<String, ReplayFault>
-    ensures text { IfOk result (λ text. string_bytes text ≡ report_of events.now) }
-    ensures stops { IfOk result (λ text. NoneHadToStop (G.must_stop gate.now) events.now) }
+) -> Result<Report, ReplayFault>
+    ensures text { IfOk result (λ report. text_of report ≡ report_of events.now) }
+    ensures stops { IfOk result (λ _. NoneHadToStop (G.must_stop gate.now) events.now) }
     ensures first { IfErr result (IsOfWorkers (MayStop G.may_stop gate.now) ring_workers) }
     ensures ran { CameOf (G.may_stop gate.now) (G.must_stop gate.now) size result events.now }
 {
@@ -330,6 +321,6 @@ pub fn replay_ring<S: Threads + Wait + Sync, R: Read, W: Write, G: Gate + Sync>(
     ensures counted { ReplayCounts result (faults_of reader.old) (faults_of reader.new) (faults_of writer.old) (faults_of writer.new) }
 {
     let events = read_events(alloc, reader)?;
-    let text = report(rt, alloc, events.as_slice(), size, gate)?;
-    Ok(write_text(writer, text.as_bytes())?)
+    let report = report(rt, alloc, events.as_slice(), size, gate)?;
+    Ok(write_report(writer, &report)?)
 }

@@ -31,13 +31,19 @@ const OPERATIONS: [Operation; 3] = [
     },
 ];
 
-const REPORT: &str =
-    "journal 3\n0,0,deposit,1,100\n1,2,transfer,1,7,30\n2,0,withdraw,7,31\nreplica 3\n0001000100000064\n0203000100000000000700000000001e\n000200070000001f\nbusiness 3\n1,70,0\n7,30,1\n";
+const JOURNAL: &str = "journal 3\n0,0,deposit,1,100\n1,2,transfer,1,7,30\n2,0,withdraw,7,31\n";
+
+const REPLICA: &str =
+    "replica 3\n0001000100000064\n0203000100000000000700000000001e\n000200070000001f\n";
+
+const BUSINESS: &str = "business 3\n1,70,0\n7,30,1\n";
 
 fn check_report(rt: &impl Abort, alloc: Global, events: &[Event], slots: u64) {
     let size = Size::new(slots).expect(rt, "a size");
-    let text = report_by_core(alloc, events, size).expect(rt, "memory");
-    check(rt, text.as_str(), REPORT);
+    let report = report_by_core(alloc, events, size).expect(rt, "memory");
+    check(rt, report.journal.as_str(), JOURNAL);
+    check(rt, report.replica.as_str(), REPLICA);
+    check(rt, report.business.as_str(), BUSINESS);
 }
 
 #[test]

@@ -39,12 +39,14 @@ served_by start after fault new well answers fine calls =
 
 pub returns : goal.returns
 returns g c =
-    let given = c.new-outlet.result in
-    let run = c.consume_with-fault in
+    let given = c.args.receiver in
+    let run = c.serve-receiver in
+    let back = run.result.0 in
+    let fault = run.result.1 in
     let part = c.match-part.part in
     let serves = run.ensures.serves in
     let batches = batches_in serves.calls in
-    let answers : AnswersFor run.result (error_of part) = elim c.match-part.branch [
+    let answers : AnswersFor fault (error_of part) = elim c.match-part.branch [
       | in-Err-default w ↦ inr (ap error_of w.part-is)
       | in-Ok-Some+in-Ok-this-2 w ↦ inl (ap error_of w.part-is ∙ sym w.in-Ok-Some.is-1)
       | in-Ok-Some+in-Err-1 w ↦ inl (ap error_of w.part-is ∙ sym w.in-Ok-Some.is-1)
@@ -58,27 +60,27 @@ returns g c =
       | in-Ok-None w ↦ where_ok w.in-Ok-None.is-0 c.part.ensures.well
     ]
     in
-    rw (c.into_end.ensures, ← c.new-outlet.ensures) (record {
+    record {
       place = run.ensures.kept;
       told = λ none. elim c.match-part.branch [
         | in-Err-default w ↦ where_none part _ _ w.part-is
         | in-Ok-Some+in-Ok-this-2 w ↦ where_none part _ _ w.part-is
         | in-Ok-Some+in-Err-1 w ↦ where_none part _ _ w.part-is
-        | in-Ok-None w ↦ subst (λ p. IfOk p (λ text. run.new.outlet.knows.told ≡ true)) (sym w.part-is) (rw w.in-Ok-None.is-1 at run.ensures.drained)
+        | in-Ok-None w ↦ subst (λ p. IfOk p (λ text. back.knows.told ≡ true)) (sym w.part-is) (rw w.in-Ok-None.is-1 at run.ensures.drained)
       ];
       says = λ none. elim c.match-part.branch [
         | in-Err-default w ↦ where_none part _ _ w.part-is
         | in-Ok-Some+in-Ok-this-2 w ↦ where_none part _ _ w.part-is
         | in-Ok-Some+in-Err-1 w ↦ where_none part _ _ w.part-is
         | in-Ok-None w ↦
-            let handed : HandsOut batches (received_of given.knows) (received_of run.new.outlet.knows) = serves.holds.works.handed in
-            let all : dealt_events batches ≡ run.new.outlet.knows.received = shown_all given.knows.received run.new.outlet.knows.received (dealt_events batches) none handed.0 in
+            let handed : HandsOut batches (received_of given.knows) (received_of back.knows) = serves.holds.works.handed in
+            let all : dealt_events batches ≡ back.knows.received = shown_all given.knows.received back.knows.received (dealt_events batches) none handed.0 in
             let says = c.part.ensures.text c.begin-handler.result batches c.begin-handler.ensures.new serves.holds.works.through in
-            subst (λ p. IfOk p (λ text. string_bytes text ≡ g.P.Reporter.part_of run.new.outlet.knows.received)) (sym w.part-is)
-            (subst (λ p. IfOk p (λ text. string_bytes text ≡ g.P.Reporter.part_of run.new.outlet.knows.received)) w.in-Ok-None.is-0
+            subst (λ p. IfOk p (λ text. string_bytes text ≡ g.P.Reporter.part_of back.knows.received)) (sym w.part-is)
+            (subst (λ p. IfOk p (λ text. string_bytes text ≡ g.P.Reporter.part_of back.knows.received)) w.in-Ok-None.is-0
             (subst (λ l. IfOk c.part.result (λ text. string_bytes text ≡ g.P.Reporter.part_of l)) all says))
       ];
-      stopped = λ is. stopped_by run.result (error_of part) answers run.ensures.stopped (ap error_of is);
-      refused = never_refused 256 _ _ _ _ _ _ _ run.result part (omega arith) answers serves;
-      served = served_by c.begin-handler.result run.new.handler run.result c.begin-handler.ensures.new c.begin-handler.ensures.well answers fine serves;
-    })
+      stopped = λ is. stopped_by fault (error_of part) answers run.ensures.stopped (ap error_of is);
+      refused = never_refused 256 _ _ _ _ _ _ _ fault part (omega arith) answers serves;
+      served = served_by c.begin-handler.result run.new.handler fault c.begin-handler.ensures.new c.begin-handler.ensures.well answers fine serves;
+    }

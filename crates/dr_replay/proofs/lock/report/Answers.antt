@@ -1,8 +1,9 @@
-use Rattle.std.proofs.Common.{◌∙◌, ap, length, map, string_bytes, subst, sym}
+use Rattle.std.proofs.Common.{◌∙◌, ap, length, map, subst, sym}
 use Rattle.std.proofs.lemmas.List.{length-map}
 use Rattle.dr_seq.specs.declared.event.Event.{Event}
 use Rattle.dr_lock.specs.Meaning.History.{History}
 use Rattle.dr_accounts.specs.Keeping.{error_of}
+use Rattle.dr_accounts.specs.Parts.{text_of}
 use Rattle.dr_replay.specs.Meaning.Exchange.{CameTo}
 use Rattle.dr_replay.proofs.Coming.{came}
 use Rattle.dr_replay.proofs.Endings.{ends_of_merge, reports_more}
@@ -17,7 +18,7 @@ returns-in-Ok-clause-text g c = λ sent are.
     let had = c.in_ok-ends.ensures.begun ∙ c.new-shared.ensures.begun ∙ ap (λ (h : History Event). length h.entries) c.requires.begun in
     reports_more (λ h went. subst (λ b. CameTo b (length c.args.scripts.now) h) (sym c.requires.begun)
     (came _ _ _ _ c.args.scripts.now c.in-Ok.ran c.in-Ok.ensures _ had h went))
-    sent (λ t. string_bytes t) c.settled.result (c.settled.ensures.text sent are)
+    sent text_of c.settled.result (c.settled.ensures.text sent are)
 
 pub returns-in-Ok-clause-first : goal.returns-in-Ok-clause-first
 returns-in-Ok-clause-first g c = λ sent are.
@@ -46,7 +47,7 @@ returns-in-Ok-clause-ran g c = λ sent are setup.
     let had = c.in_ok-ends.ensures.begun ∙ c.new-shared.ensures.begun ∙ ap (λ (h : History Event). length h.entries) c.requires.begun in
     let opened = sym (ap (λ (h : History Event). h.core.setup) c.requires.begun) ∙ setup in
     let fresh = sym (ap (λ (h : History Event). h.entries) c.requires.begun) ∙ c.requires.fresh in
-    came_of_lock (λ t. string_bytes t) (joined_over begun may must c.args.size c.args.scripts.now ran sent is are opened fresh) c.settled.result
+    came_of_lock text_of (joined_over begun may must c.args.size c.args.scripts.now ran sent is are opened fresh) c.settled.result
     (map (λ v. v.items) c.args.scripts.now) are
     (history_of begun may must c.args.size c.args.scripts.now ran sent is are opened fresh _ had) c.settled.ensures.fine
     (c.settled.ensures.text sent are) c.settled.ensures.first

@@ -1,6 +1,7 @@
-use Rattle.std.proofs.Common.{◌∙◌, map, string_bytes, subst, sym}
+use Rattle.std.proofs.Common.{◌∙◌, map, subst, sym}
 use Rattle.std.proofs.lemmas.Result.{err_from_is_err_and}
 use Rattle.dr_accounts.specs.Keeping.{error_of}
+use Rattle.dr_accounts.specs.Parts.{text_of}
 use Rattle.dr_replay.specs.Calls.Workers.{lock_endings}
 use Rattle.dr_replay.specs.Inside.LockWorkers.{ends_of}
 use Rattle.dr_replay.specs.Meaning.Exchange.{GoesOnBy}
@@ -17,7 +18,7 @@ returns-in_err-check-clause-first g c =
 pub returns-clause-text : goal.returns-clause-text
 returns-clause-text g c = λ sent are.
     reports_more (λ h same. subst (GoesOnBy g.L.Exchange.begun c.args.shared.begun (ends_of c.args.ran)) (sym same) c.in_ok-recorded.ensures.history)
-    sent (λ t. string_bytes t) c.audited.result (c.audited.ensures.text sent are)
+    sent text_of c.audited.result (c.audited.ensures.text sent are)
 
 pub returns-clause-first : goal.returns-clause-first
 returns-clause-first g c =

@@ -29,34 +29,31 @@ gives_all list_in after got part p found is list well =
 
 pub returns : goal.returns
 returns g c =
-    let run = c.consume_with-fault in
+    let run = c.serve-back in
     let begun = g.L.Exchange.begun in
     let gate = c.args.around.now.gate.now in
-    let answers : AnswersFor run.result (error_of c.match-part.part) = elim c.match-part.branch [
+    let answers : AnswersFor run.result.1 (error_of c.match-part.part) = elim c.match-part.branch [
       | in-Err-default w ↦ inr (ap error_of w.part-is)
       | in-Ok-Some+in-Ok-this-2 w ↦ inl (ap error_of w.part-is ∙ sym w.in-Ok-Some.is-1)
       | in-Ok-Some+in-Err-1 w ↦ inl (ap error_of w.part-is ∙ sym w.in-Ok-Some.is-1)
       | in-Ok-None w ↦ inl (ap error_of w.part-is ∙ sym w.in-Ok-None.is-1)
     ]
     in
-    let number : c.new-outlet.result.h ≡ c.args.who = ap (λ (outlet : LockedOutlet _ _ _). outlet.h) c.new-outlet.ensures ∙ c.new-locked.ensures.number in
-    let begins : c.new-outlet.result.end ≡ no_calls = ap (λ (outlet : LockedOutlet _ _ _). outlet.end) c.new-outlet.ensures ∙ c.new-locked.ensures.end
-    ∙ c.requires.unused in
-    let ends : c.into_end-end.result ≡ run.new.outlet.end = c.into_end-end.ensures ∙ ap (λ (outlet : LockedOutlet _ _ _). outlet.end) c.into_end-back.ensures in
+    let begins : c.new-locked.result.end ≡ no_calls = c.new-locked.ensures.end ∙ c.requires.unused in
     record {
       start = c.new-listing.result;
       after = run.new.handler;
-      fault = run.result;
+      fault = run.result.1;
       new = c.new-listing.ensures.empty;
       well = c.new-listing.ensures.well;
       calls = asked (λ (old : LockedOutlet _ _ _) call (new : LockedOutlet _ _ _). (new.h ≡ old.h) × OutletAsks begun old.h old.end call new.end)
           (OutletAsks begun c.args.who) (λ outlet. outlet.end) (λ outlet. outlet.h ≡ c.args.who)
           (λ old new call here is. (is.0 ∙ here, subst (λ n. OutletAsks begun n old.end call new.end) here is.1))
           {Holds = Serves 256 Lists c.new-listing.result run.new.handler None None (g.G.Gate.may_stop gate c.args.who)
-          (g.G.Gate.must_stop gate c.args.who) run.result}
-          c.new-outlet.result run.new.outlet no_calls c.into_end-end.result number begins ends run.ensures.serves;
+          (g.G.Gate.must_stop gate c.args.who) run.result.1}
+          c.new-locked.result run.result.0 no_calls c.into_end-end.result c.new-locked.ensures.number begins c.into_end-end.ensures run.ensures.serves;
       answers = answers;
-      stopped = stopped_by run.result (error_of c.match-part.part) answers run.ensures.stopped;
+      stopped = stopped_by run.result.1 (error_of c.match-part.part) answers run.ensures.stopped;
       lists = elim c.match-part.branch [
         | in-Err-default w ↦ gives_none (λ part. part.list.items) run.new.handler c.match-part.part _ w.part-is
         | in-Ok-Some+in-Ok-this-2 w ↦ gives_none (λ part. part.list.items) run.new.handler c.match-part.part _ w.part-is

@@ -1,4 +1,4 @@
-use Rattle.std.proofs.Common.{◌≡◌, ◌++◌, List, map, ap, ◌∙◌, sym, string_bytes, All, None, refl, arith}
+use Rattle.std.proofs.Common.{◌≡◌, List, map, ap, ◌∙◌, sym, All, None, refl, arith}
 use Rattle.dr_seq.specs.declared.event.Event.{Event}
 use Rattle.dr_ring.specs.Calls.Ends.{ReceiverEnd}
 use Rattle.dr_ring.specs.Meaning.Settling.{Settles}
@@ -26,10 +26,7 @@ returns c =
     } in
     record {
       text = λ events says.
-          c.in_ok-joined-in-Ok-Ok-Ok.ensures
-          ∙ ap (λ l. string_bytes parts.journal ++ l ++ c.as_str-in-Ok-Ok-Ok.result.now) c.as_str.ensures.value
-          ∙ ap (λ l. string_bytes parts.journal ++ string_bytes parts.replica ++ l) c.as_str-in-Ok-Ok-Ok.ensures.value
-          ∙ joined_parts events ran _ _ _ (through events says) (rw parts.is-0 at says.journal).1 (rw parts.is-1 at says.replica).1
+          joined_parts events ran _ _ _ (through events says) (rw parts.is-0 at says.journal).1 (rw parts.is-1 at says.replica).1
           (rw parts.is-2 at says.business).1;
       received = through;
       fine = sym (c.in_default.ensures.first ∙ ap first_fault ended);
