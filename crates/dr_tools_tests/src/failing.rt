@@ -29,6 +29,12 @@ const DRIVEN: &str = "claimed 0 0\nhalting\n";
 // Of one producer, so that there is one report by every way.
 const REPLAYED: &str = "0,deposit,1,100\n0,withdraw,1,40\n";
 
+// The report as it grows, part by part.
+const JOURNAL: &str = "journal 2\n0,0,deposit,1,100\n1,0,withdraw,1,40\n";
+
+const JOURNAL_AND_REPLICA: &str =
+    "journal 2\n0,0,deposit,1,100\n1,0,withdraw,1,40\nreplica 2\n0001000100000064\n0002000100000028\n";
+
 const REPORT: &str =
     "journal 2\n0,0,deposit,1,100\n1,0,withdraw,1,40\nreplica 2\n0001000100000064\n0002000100000028\nbusiness 2\n1,60,0\n";
 
@@ -45,21 +51,21 @@ const RUNS: [Run; 4] = [
         input: REPLAYED,
         output: REPORT,
         reads: 4,
-        pieces: &["", REPORT],
+        pieces: &["", JOURNAL, JOURNAL_AND_REPLICA, REPORT],
     },
     Run {
         by: Way::Lock,
         input: REPLAYED,
         output: REPORT,
         reads: 4,
-        pieces: &["", REPORT],
+        pieces: &["", JOURNAL, JOURNAL_AND_REPLICA, REPORT],
     },
     Run {
         by: Way::Ring,
         input: REPLAYED,
         output: REPORT,
         reads: 4,
-        pieces: &["", REPORT],
+        pieces: &["", JOURNAL, JOURNAL_AND_REPLICA, REPORT],
     },
 ];
 
