@@ -2,7 +2,7 @@
 
 ghost use Rattle.std.specs.Prelude.{◌≡◌, ℕ, [], IfOk, List, false, take};
 ghost use Rattle.dr_seq.specs.declared.event.Event.{Event};
-ghost use Rattle.dr_accounts.specs.Parts.{text_of};
+ghost use Rattle.dr_accounts.specs.Parts.{HasParts, text_of};
 ghost use Rattle.dr_accounts.specs.Report.{report_of};
 ghost use Rattle.dr_accounts.specs.Turns.{AreShown, AreWell, AreOffered, Turns};
 
@@ -66,7 +66,8 @@ impl Handlers {
     /// The report of the events that they were shown.
     pub fn report(self, alloc: Global) -> Result<Report, AllocError>
         requires { AreWell self }
-        ensures { (events : List Event) → AreShown self events → IfOk result (λ report. text_of report ≡ report_of events) }
+        ensures text { (events : List Event) → AreShown self events → IfOk result (λ report. text_of report ≡ report_of events) }
+        ensures parts { (events : List Event) → AreShown self events → IfOk result (HasParts events) }
     {
         let Handlers {
             journal,

@@ -1,7 +1,7 @@
 //! Events through a core, on one thread.
 
 ghost use Rattle.std.specs.Prelude.{◌≡◌, ◌<◌, ◌≤◌, ◌+◌, ◌^◌, [], IfOk, length};
-ghost use Rattle.dr_accounts.specs.Parts.{text_of};
+ghost use Rattle.dr_accounts.specs.Parts.{HasParts, text_of};
 ghost use Rattle.dr_accounts.specs.Passing.{each};
 ghost use Rattle.dr_accounts.specs.Report.{report_of};
 ghost use Rattle.dr_accounts.specs.Turns.{AreShown, ShowsAll, Rests, SendsStretch, WentThrough};
@@ -54,6 +54,7 @@ fn pass(core: &mut Core<Event>, handlers: &mut Handlers, events: &[Event]) -> Re
 /// ran out, which more events than there are sequences are answered with too.
 pub fn report_by_core(alloc: Global, events: &[Event], size: Size) -> Result<Report, AllocError>
     ensures text { IfOk result (λ report. text_of report ≡ report_of events.now) }
+    ensures parts { IfOk result (HasParts events.now) }
     ensures through { IfOk result (λ _. WentThrough size events.now) }
 {
     if events.len() as u64 > MAX_LIMIT {

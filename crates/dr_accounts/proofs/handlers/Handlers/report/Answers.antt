@@ -3,8 +3,17 @@ use Rattle.dr_accounts.specs.Report.{journal_part, replica_part}
 use Rattle.dr_accounts.proofs.Reports.{business_says, journal_says, replica_says}
 use Rattle.dr_accounts.proofs.handlers.Handlers.report.Goals as goal
 
-pub returns : goal.returns
-returns c = λ events shown.
+pub returns-clause-parts : goal.returns-clause-parts
+returns-clause-parts c = λ events shown.
+    let all = c.args.self in
+    record {
+      journal = c.in_ok-into_text.ensures ∙ journal_says all.journal events (shown.journal c.requires.journal);
+      replica = c.in_ok-into_text-2.ensures ∙ replica_says all.replica events (shown.replica c.requires.replica);
+      business = c.in_ok-into_text-3.ensures.text ∙ business_says all.business events (shown.business c.requires.business) c.in_ok-into_text-3.ensures.ordered;
+    }
+
+pub returns-clause-text : goal.returns-clause-text
+returns-clause-text c = λ events shown.
     let all = c.args.self in
     let replica = c.in_ok-into_text-2.ensures ∙ replica_says all.replica events (shown.replica c.requires.replica) in
     let business = c.in_ok-into_text-3.ensures.text ∙ business_says all.business events (shown.business c.requires.business) c.in_ok-into_text-3.ensures.ordered in
