@@ -234,13 +234,18 @@ class Trial:
         bodies, others = self.crates[name].lists()
         groups = [*sorted(bodies, key=self.seconds, reverse=True), *others]
         for first in groups[:1]:
-            self.attempt(first)
+            self.work(first)
         self.add(groups[1:])
 
     def add(self, groups, is_short=True):
-        work = self.leave_out if self.manner == "control" else functools.partial(self.attempt, is_short=is_short)
         for it in groups:
-            self.lanes.add(-self.seconds(it), functools.partial(work, it))
+            self.lanes.add(-self.seconds(it), functools.partial(self.work, it, is_short))
+
+    def work(self, edits, is_short=True):
+        if self.manner == "control":
+            self.leave_out(edits)
+        else:
+            self.attempt(edits, is_short)
 
     def seconds(self, edits):
         """Returns about how long a check of these edits takes."""
