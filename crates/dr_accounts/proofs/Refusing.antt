@@ -8,14 +8,14 @@ use Rattle.dr_workers.specs.Calls.Serving.{Serves}
 use Rattle.dr_workers.specs.Calls.Stops.{fault_at_end}
 use Rattle.dr_workers.specs.declared.fault.WorkFault.{WorkFault}
 use Rattle.dr_workers.specs.declared.fault.WorkFault.TheVariants.{Refused}
-use Rattle.dr_workers.proofs.Untroubled.{Answers, untroubled}
+use Rattle.dr_workers.proofs.Untroubled.{AnswersWork, untroubled}
 use Rattle.dr_ring.specs.Calls.Ends.{ReceiverEnd, received_of}
 use Rattle.dr_ring.specs.Calls.Telling.{receiver_does}
 use Rattle.dr_ring.proofs.Untroubled as ring
 use Rattle.dr_accounts.specs.Keeping.{AnswersFor, error_of}
 
 -- a receiver answers a poll with room, and a completion of what it took
-answers : Answers receiver_does (λ (e : ReceiverEnd). received_of e.knows)
+answers : AnswersWork receiver_does (λ (e : ReceiverEnd). received_of e.knows)
 answers = record { polls = ring.polls; takes = ring.takes; fits = ring.fits; completes = ring.completes; completed = ring.completed }
 
 -- a stop is no refusal

@@ -14,12 +14,12 @@ use Rattle.dr_meaning.specs.Calls.Calling.{CallsLead, OutletCall, PollsInto, Com
 use Rattle.dr_workers.specs.Calls.Serving.{InTurn, ToPoll}
 use Rattle.dr_workers.specs.Meaning.Work.{batches_in}
 use Rattle.dr_runs.specs.declared.look.Look.{Look}
-use Rattle.dr_runs.specs.Looks.{look, offered_by}
+use Rattle.dr_runs.specs.Looks.{look, offered_by, count_looks}
 use Rattle.dr_runs.specs.Polls.{PollLooks, offer}
 use Rattle.dr_runs.specs.Words.{closed_word, count_word, cursor_word}
 use Rattle.dr_runs.proofs.Elements.{at_index}
 use Rattle.dr_ring.specs.declared.record.ReceiverRecord.{ReceiverRecord}
-use Rattle.dr_ring.specs.Calls.Ends.{ReceiverEnd, count_looks}
+use Rattle.dr_ring.specs.Calls.Ends.{ReceiverEnd}
 use Rattle.dr_ring.specs.Calls.Telling.{receiver_does}
 use Rattle.dr_ring.specs.Meaning.Settling.{HasBeginning}
 use Rattle.dr_ring.specs.declared.record.SenderRecord.{SenderRecord}

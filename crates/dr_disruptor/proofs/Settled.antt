@@ -7,7 +7,7 @@ use Rattle.dr_seq.specs.declared.event.Event.{Event}
 use Rattle.dr_meaning.specs.Calls.Handling.{Relation}
 use Rattle.dr_workers.specs.Meaning.Work.{batches_in}
 use Rattle.dr_workers.specs.declared.fault.WorkFault.{WorkFault}
-use Rattle.dr_workers.proofs.Untroubled.{Answers}
+use Rattle.dr_workers.proofs.Untroubled.{AnswersWork}
 use Rattle.dr_ring.specs.Meaning.Shape.{Shape, handlers_of}
 use Rattle.dr_ring.specs.Meaning.Settling.{HasBeginning, Settles}
 use Rattle.dr_ring.specs.Calls.Ends.{HalterEnd, ReceiverEnd, ReceiverPlace, SenderEnd, SenderPlace, receiver_place, sender_place}
@@ -48,7 +48,7 @@ fresh_at k t a (suc n) (suc h) below =
     fresh_at k t (suc a) n h less ∙ ap (λ (m : ℕ). some (new_receiver t k m)) same
 
 -- a receiver answers a poll with room, and a completion of what it took
-answers : Answers receiver_does received_by
+answers : AnswersWork receiver_does received_by
 answers = record { polls = ring.polls; takes = ring.takes; fits = ring.fits; completes = ring.completes; completed = ring.completed }
 
 module _ {A : Type 0} (goes : Relation Event A) (s : SenderEnd) (ws : List (Worker A)) (ss : List (Served A)) (kept : AreKept goes ws ss) where

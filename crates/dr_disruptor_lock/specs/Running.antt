@@ -1,12 +1,11 @@
 -- What came of a run behind a lock: what each handler went through, what each sender sent, how the workers ended, and what the history has of it.
-use Rattle.std.specs.Prelude.{◌≡◌, ◌≢◌, ℕ, ◌+◌, ◌^◌, ◌/◌, ◌<◌, ◌≤◌, ◌==◌, max, if◌then◌else◌, sum_by, List, [], ◌∷◌, ◌++◌, length, take, Option, None, Some, IfNone, IfOk, IfErr, Err}
+use Rattle.std.specs.Prelude.{◌≡◌, ◌≢◌, ℕ, ◌+◌, ◌^◌, ◌/◌, ◌<◌, ◌≤◌, max, sum_by, List, [], ◌∷◌, ◌++◌, length, take, Option, None, Some, IfNone, IfOk, IfErr, Err}
 use mathlib.Core.Option.{some}
 use lib.ListN.{get_elem?}
 use Rattle.dr_seq.specs.declared.event.Event.{Event}
 use Rattle.dr_meaning.specs.declared.mode.Mode.TheVariants.{Multi}
 use Rattle.dr_meaning.specs.Calls.Calling.{SomeCalls}
 use Rattle.dr_meaning.specs.Calls.Handling.{Relation}
-use Rattle.dr_meaning.specs.Calls.OpenFault.{has_bad_producers}
 use Rattle.dr_meaning.specs.Meaning.Machine.{handlers, setup_of}
 use Rattle.dr_meaning.specs.Meaning.Transcript.{Transcript}
 use Rattle.dr_workers.specs.Calls.Serving as worker
@@ -19,8 +18,6 @@ use Rattle.dr_lock.specs.Meaning.Audit.{Faults, IsAudited}
 use Rattle.dr_lock.specs.Meaning.History.{GoesOn, History, IsRecorded, entries_since, halts_in, transcript}
 use Rattle.dr_threads.specs.Endings.{AreFine, IsFirst}
 use Rattle.dr_threads.specs.Handlers.{AllWentThrough}
-use Rattle.dr_threads.specs.declared.fault.RunFault.{RunFault}
-use Rattle.dr_threads.specs.declared.fault.RunFault.TheVariants as fault
 use Rattle.dr_disruptor_lock.specs.declared.comparing.HistoryFault.{HistoryFault}
 use Rattle.dr_disruptor_lock.specs.declared.comparing.HistoryFault.TheVariants.{Audit, Shown}
 use Rattle.dr_disruptor_lock.specs.declared.fault.LockedFault.{LockedFault}
@@ -31,11 +28,6 @@ use Rattle.dr_disruptor_lock.specs.declared.running.Ran.{Ran}
 abbrev pub IsWhyNot : {A : Type 0} → Ran A → LockedFault → Type 0
 IsWhyNot ran (locked.Run why) = IsFirst ran.endings.items why
 IsWhyNot ran (locked.History why) = AreFine ran.endings.items × (ran.list ≡ Err why)
-
--- of a graph of so many handlers, where so many handlers and scripts were given: that the handlers differ, then that no exchange has so many producers, and else a lack of memory or of a thread
-abbrev pub refusal_of : ℕ → ℕ → ℕ → RunFault
-refusal_of graph given scripts =
-    if graph == given then (if has_bad_producers (Multi scripts) then fault.Senders scripts else fault.Memory) else fault.Handlers graph given
 
 -- the first events of each script, as many as were sent of it
 abbrev pub fronts : List (List Event) → List Produced → List (List Event)

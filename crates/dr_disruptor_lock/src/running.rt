@@ -5,9 +5,9 @@ ghost use Rattle.dr_meaning.specs.declared.mode.Mode.TheVariants.{Multi};
 ghost use Rattle.dr_meaning.specs.Meaning.Machine.{setup_of};
 ghost use Rattle.dr_meaning.specs.Calls.OpenFault.{has_bad_producers};
 ghost use Rattle.dr_workers.specs.Meaning.FirstFault.{first_fault as first_of};
-ghost use Rattle.dr_threads.specs.Endings.{AreFine};
+ghost use Rattle.dr_threads.specs.Endings.{AreFine, refusal_of};
 ghost use Rattle.dr_threads.specs.Handlers.{AllWentThroughMerge};
-ghost use Rattle.dr_disruptor_lock.specs.Running.{IsRan, IsRun, IsWhyNot, refusal_of};
+ghost use Rattle.dr_disruptor_lock.specs.Running.{IsRan, IsRun, IsWhyNot};
 
 use crate::around::Around;
 use crate::comparing::HistoryFault;

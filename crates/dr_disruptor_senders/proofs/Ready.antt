@@ -29,7 +29,8 @@ use Rattle.dr_disruptor_senders.specs.declared.sending.FeedsPromise.{FeedsPromis
 use Rattle.dr_disruptor_senders.specs.declared.sending.SendsPromise.{SendsPromise}
 use Rattle.dr_disruptor_senders.specs.declared.sending.Sent.{Sent}
 use Rattle.dr_disruptor_senders.specs.Running.{IsJoined, JoinsAll, Ran}
-use Rattle.dr_disruptor_senders.specs.Serving.{AreGiven, AreKept, AreSent, Feeder, HaltsOnly, LeavesSender, Producer, Sending, SendsFeed, SendsScript, Served, Worker, fed_sender, given_feed, given_script, given_sender, given_size, is_told, received_by, refusal_of}
+use Rattle.dr_disruptor_senders.specs.Serving.{AreGiven, AreKept, AreSent, Feeder, HaltsOnly, LeavesSender, Producer, Sending, SendsFeed, SendsScript, Served, Worker, fed_sender, given_feed, given_script, given_sender, given_size, is_told, received_by}
+use Rattle.dr_threads.specs.Endings.{refusal_of}
 
 -- each sender's worker gave its end back
 abbrev pub StayAtPlace : (ℕ → SenderEnd Event → Sent → Type 0) → Type 0

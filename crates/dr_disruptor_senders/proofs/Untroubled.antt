@@ -8,7 +8,7 @@ use Rattle.dr_meaning.specs.declared.ends.Trouble.{Trouble}
 use Rattle.dr_meaning.specs.declared.ends.Trouble.TheVariants.{Memory, Refused}
 use Rattle.dr_meaning.specs.Calls.Calling.{PollsInto, CompletesBelow}
 use Rattle.dr_meaning.specs.Calls.Ends.{Completes, Takes}
-use Rattle.dr_workers.proofs.Untroubled.{Answers}
+use Rattle.dr_workers.proofs.Untroubled.{AnswersWork}
 use Rattle.dr_plain_senders.specs.Calls.Ends.{ReceiverEnd, received_of}
 use Rattle.dr_plain_senders.specs.Calls.Outlets.{receiver_does}
 use Rattle.dr_disruptor_senders.specs.Serving.{received_by}
@@ -45,5 +45,5 @@ completed : (a b : ReceiverEnd Event) (upto : ℕ) → receiver_does a (Complete
     → Completes upto (Ok tt) (received_of a.knows) (received_of b.knows)
 completed a b upto is = is.1.1
 
-pub answers : Answers receiver_does received_by
+pub answers : AnswersWork receiver_does received_by
 answers = record { polls = polls; takes = takes; fits = fits; completes = completes; completed = completed }

@@ -1,5 +1,5 @@
 -- What the workers of handlers and of senders promise, and what they gave back.
-use Rattle.std.specs.Prelude.{◌≡◌, ◌≢◌, ℕ, ◌+◌, ◌^◌, ◌≤◌, ◌/◌, ◌==◌, max, Bool, if◌then◌else◌, List, [], ◌∷◌, length, Option, Some, IfNone, replicate}
+use Rattle.std.specs.Prelude.{◌≡◌, ◌≢◌, ℕ, ◌+◌, ◌^◌, ◌≤◌, ◌/◌, max, Bool, List, [], ◌∷◌, length, Option, Some, IfNone, replicate}
 use Rattle.std.specs.Global.{Vec}
 use mathlib.Core.Option.{some}
 use lib.ListN.{get_elem?}
@@ -7,11 +7,9 @@ use denote.RawPtr.{Ptr}
 use Rattle.std.specs.declared.thread.PromisedHandle.{PromisedHandle}
 use Rattle.dr_seq.specs.declared.event.Event.{Event}
 use Rattle.dr_seq.specs.Event.{no_event}
-use Rattle.dr_meaning.specs.declared.mode.Mode.TheVariants.{Multi}
 use Rattle.dr_meaning.specs.Calls.Calling.{SomeCalls}
 use Rattle.dr_meaning.specs.Calls.Ends.{Received}
 use Rattle.dr_meaning.specs.Calls.Handling.{Relation}
-use Rattle.dr_meaning.specs.Calls.OpenFault.{has_bad_producers}
 use Rattle.dr_workers.specs.Calls.Serving as worker
 use Rattle.dr_workers.specs.declared.ended.Ended.{Ended}
 use Rattle.dr_workers.specs.declared.fault.WorkFault.{WorkFault}
@@ -22,8 +20,6 @@ use Rattle.dr_plain_senders.specs.declared.record.Step.TheVariants.{HalterHalts}
 use Rattle.dr_plain_senders.specs.Calls.Ends.{HalterStand, HasStored, ReceiverEnd, SenderEnd, receiver_place, received_of, sender_place}
 use Rattle.dr_plain_senders.specs.Calls.Inlets.{sender_does}
 use Rattle.dr_plain_senders.specs.Calls.Outlets.{receiver_does}
-use Rattle.dr_threads.specs.declared.fault.RunFault.{RunFault}
-use Rattle.dr_threads.specs.declared.fault.RunFault.TheVariants as fault
 use Rattle.dr_threads.specs.declared.served.Served as threads
 use Rattle.dr_threads.specs.Serving as serving
 use Rattle.dr_disruptor_senders.specs.declared.sending.FeedsPromise.{FeedsPromise}
@@ -40,11 +36,6 @@ shape_of upstreams size senders strip = record {
   strip = strip;
   begun = replicate size no_event;
 }
-
--- of a graph of so many handlers, where so many handlers and scripts were given: that the handlers differ, then that no ring has so many senders, and else a lack of memory or of a thread
-abbrev pub refusal_of : ℕ → ℕ → ℕ → RunFault
-refusal_of graph given scripts =
-    if graph == given then (if has_bad_producers (Multi scripts) then fault.Senders scripts else fault.Memory) else fault.Handlers graph given
 
 -- The handlers.
 

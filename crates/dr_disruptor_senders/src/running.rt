@@ -6,11 +6,11 @@ ghost use Rattle.dr_seq.specs.declared.event.Event.{Event};
 ghost use Rattle.dr_meaning.specs.declared.mode.Mode.TheVariants.{Multi};
 ghost use Rattle.dr_meaning.specs.Calls.OpenFault.{has_bad_producers};
 ghost use Rattle.dr_plain_senders.specs.Calls.Settling.{AreAllEnds};
-ghost use Rattle.dr_threads.specs.Endings.{AreFine};
+ghost use Rattle.dr_threads.specs.Endings.{AreFine, refusal_of};
 ghost use Rattle.dr_threads.specs.Handlers.{AllWentThroughMerge};
 ghost use Rattle.dr_threads.specs.Serving.{given_end};
 ghost use Rattle.dr_disruptor_senders.specs.Running.{IsRan, IsRanBy, JoinsAll};
-ghost use Rattle.dr_disruptor_senders.specs.Serving.{LeavesSender, SendsFeed, refusal_of, shape_of};
+ghost use Rattle.dr_disruptor_senders.specs.Serving.{LeavesSender, SendsFeed, shape_of};
 
 use crate::sending::{LiveSender, Sent};
 use crate::workers::{LiveHalter, Worker, begin, feed_all, joined, open, send_all, senders_apart};

@@ -23,8 +23,8 @@ use Rattle.dr_plain.specs.declared.record.SenderRecord.{SenderRecord}
 use Rattle.dr_runs.specs.declared.written.Written.{Written}
 use Rattle.dr_plain.specs.Meaning.Lying.{placed}
 use Rattle.dr_plain.specs.Meaning.Records.{events_of, claimed, laid, halt_looked}
-use Rattle.dr_runs.specs.Looks.{look, last_look}
-use Rattle.dr_plain.specs.Calls.Ends.{SenderStand, SenderEnd, sent_of, count_looks}
+use Rattle.dr_runs.specs.Looks.{look, last_look, count_looks}
+use Rattle.dr_plain.specs.Calls.Ends.{SenderStand, SenderEnd, sent_of}
 use Rattle.dr_plain.specs.Calls.Plans.{IsPlan}
 use Rattle.dr_plain.specs.Calls.Sending.{gate_looks, FoundRoom, LooksToClaim, TriesToClaim, ClaimCall}
 use Rattle.dr_plain.specs.Inside.Scans.{sender_saw, more_claimed, LooksAtFinals, IsEnough, IsShort}

@@ -5,7 +5,7 @@ use Rattle.dr_meaning.specs.declared.command.Polled.TheVariants.{Batch}
 use Rattle.dr_lent.specs.declared.lent.Lent.{Lent}
 use Rattle.dr_plain.specs.declared.record.ReceiverRecord.{ReceiverRecord}
 use Rattle.dr_plain.specs.Calls.Ends.{ReceiverEnd}
-use Rattle.dr_plain.specs.Calls.Receiving.{Answers, PollCall}
+use Rattle.dr_plain.specs.Calls.Receiving.{AnswersAsSeen, PollCall}
 
 module _ {T : Type 0} where
   pub record TakesBatch (e e' : ReceiverEnd T) (first count : ℕ) : Type 0 where
@@ -19,7 +19,7 @@ module _ {T : Type 0} where
       → polled ≡ Batch first count last
       → TakesBatch e e' first count
   takes_batch e e' room first count last polled call is =
-      let sees = call.1.1 in let A = subst (λ (p : Polled). Answers e.knows room e'.knows sees.0 p) is sees.2 in record {
+      let sees = call.1.1 in let A = subst (λ (p : Polled). AnswersAsSeen e.knows room e'.knows sees.0 p) is sees.2 in record {
         next = A.0;
         lents = A.5.0;
         many = A.5.1;

@@ -21,15 +21,14 @@ use Rattle.dr_plain.specs.declared.record.Step.{Step}
 use Rattle.dr_plain.specs.declared.record.Step.TheVariants.{SenderLooksAtCount, SenderLooksAtHalt, SenderPublishes, SenderHalts, SenderCloses}
 use Rattle.dr_plain.specs.declared.record.Step.TheVariants.{ReceiverLooksAtClosed, ReceiverLooksAtCursor, ReceiverLooksAtCount, ReceiverCompletes, HalterHalts}
 use Rattle.dr_plain.specs.Meaning.Records.{closed_looked, receiver_looked, taken_at, cursor_looked, completed_to}
-use Rattle.dr_runs.specs.Looks.{look, last_look, offered_by}
+use Rattle.dr_runs.specs.Looks.{look, last_look, offered_by, count_looks}
 use Rattle.dr_plain.specs.Meaning.Rule.{World, KeepsRule}
 use Rattle.dr_plain.specs.Meaning.Steps.{Happens, next_of}
 use Rattle.dr_plain.specs.Meaning.Moments.{Runs, picture_of}
 use Rattle.dr_plain.specs.Meaning.Replies.{LooksAt, OffersWhatWasThere}
-use Rattle.dr_plain.specs.Calls.Ends.{count_looks}
-use Rattle.dr_plain.specs.Calls.Receiving.{Answers}
-use Rattle.dr_runs.specs.Polls.{PollLooks, offer}
-use Rattle.dr_plain.specs.Calls.Handing.{handed, HandsWhatWasThere}
+use Rattle.dr_plain.specs.Calls.Receiving.{AnswersAsSeen}
+use Rattle.dr_runs.specs.Polls.{PollLooks, offer, handed}
+use Rattle.dr_plain.specs.Calls.Handing.{HandsWhatWasThere}
 use Rattle.dr_runs.proofs.Elements.{at_below}
 use Rattle.dr_plain.proofs.Keeps.{word_at}
 use Rattle.dr_plain.proofs.Beginning.{keeps_step}
@@ -201,7 +200,7 @@ module _ {T : Type 0} where
   offered_found m words (u ∷ us) (n ∷ ns) found len low all le = least_found (λ h. get_or m.completed h 0) words u us (n ∷ ns) len low all
 
   -- a poll hands over what it is offered, as far as there is room
-  hands : (r r' : ReceiverRecord T) (room : ℕ) (seen : PollLooks) (polled : Polled) (n : ℕ) → Answers r room r' seen polled → n ≤ offer seen
+  hands : (r r' : ReceiverRecord T) (room : ℕ) (seen : PollLooks) (polled : Polled) (n : ℕ) → AnswersAsSeen r room r' seen polled → n ≤ offer seen
       → min (n - length r.received) room ≤ handed polled
   hands r r' room seen (Batch first count last) n A le = let first_is = A.0 in let least = A.2 in omega arith
   hands r r' room seen Drained n A le = let level = A.2 in omega arith
@@ -209,7 +208,7 @@ module _ {T : Type 0} where
   hands r r' room seen Idle n A le = let level = A.2 in omega arith
 
   -- and what looks it made
-  looks_of : (r r' : ReceiverRecord T) (room : ℕ) (seen : PollLooks) (polled : Polled) → Answers r room r' seen polled
+  looks_of : (r r' : ReceiverRecord T) (room : ℕ) (seen : PollLooks) (polled : Polled) → AnswersAsSeen r room r' seen polled
       → r'.looks ≡ r.looks ++ look closed_word seen.closed ∷ look cursor_word seen.cursor ∷ count_looks (upstreams_of r.plan.upstreams r.number) seen.counts
   looks_of r r' room seen (Batch first count last) A = ap (λ (q : ReceiverRecord T). q.looks) A.5.2
   looks_of r r' room seen Drained A = ap (λ (q : ReceiverRecord T). q.looks) A.3

@@ -21,9 +21,9 @@ use Rattle.dr_plain.specs.Meaning.Lying.{placed}
 use Rattle.dr_runs.specs.declared.look.Look.{Look}
 use Rattle.dr_plain.specs.declared.record.ReceiverRecord.{ReceiverRecord}
 use Rattle.dr_plain.specs.Meaning.Records.{closed_looked}
-use Rattle.dr_runs.specs.Looks.{look}
-use Rattle.dr_plain.specs.Calls.Ends.{ReceiverStand, count_looks}
-use Rattle.dr_plain.specs.Calls.Receiving.{looked_round, received_all, Answers}
+use Rattle.dr_runs.specs.Looks.{look, count_looks}
+use Rattle.dr_plain.specs.Calls.Ends.{ReceiverStand}
+use Rattle.dr_plain.specs.Calls.Receiving.{looked_round, received_all, AnswersAsSeen}
 use Rattle.dr_runs.specs.Polls.{PollLooks, nothing_offered}
 use Rattle.dr_plain.specs.Inside.Fits.{taken_slots, ReceiverFits}
 use Rattle.dr_plain.specs.Inside.Hands.{with_hand}
@@ -75,11 +75,11 @@ module _ {T : Type 0} (r r' : ReceiverRecord T) (room closed cursor available ta
   hand_none none = L.in_hand ∙ ap (λ (ls : List (Lent T)). taken_by_poll r ls ++ hand) (none_taken none)
 
   -- nothing is offered
-  pub poll_nothing : closed ≤ 1 → available ≤ taken → Answers r room r' (saw closed cursor L.counts) (nothing_offered closed cursor taken)
+  pub poll_nothing : closed ≤ 1 → available ≤ taken → AnswersAsSeen r room r' (saw closed cursor L.counts) (nothing_offered closed cursor taken)
   poll_nothing flag none =
       let round = round_none none in let near = L.near in let least = near.0 in let ahead = L.ahead in
       let level : available ≡ length r.received = omega arith in
-      let P : Polled → Type 0 = λ p. Answers r room r' (saw closed cursor L.counts) p in
+      let P : Polled → Type 0 = λ p. AnswersAsSeen r room r' (saw closed cursor L.counts) p in
       elim (cases_eq cursor taken) [
         | inl all ↦ elim (cases_eq closed 1) [
           | inl one ↦ subst P (sym (drains closed cursor taken one all))
@@ -97,7 +97,7 @@ module _ {T : Type 0} (r r' : ReceiverRecord T) (room closed cursor available ta
 
   -- some events are offered
   pub poll_batch : (count : ℕ) (last : Bool) → taken < available → count ≡ min (available - taken) room → (IsTrue last ↔ (taken + count ≡ available))
-      → Answers r room r' (saw closed cursor L.counts) (Batch taken count last)
+      → AnswersAsSeen r room r' (saw closed cursor L.counts) (Batch taken count last)
   poll_batch count last more least end = (
     next,
     subst (λ (n : ℕ). taken < n) L.offered more,

@@ -12,7 +12,8 @@ ghost use Rattle.dr_runs.specs.Seats.{fresh_seat};
 ghost use Rattle.dr_plain.specs.Inside.Seats.{IsAtTable, known_receivers};
 ghost use Rattle.dr_plain.specs.Inside.Making.{AreFreshStands, IsPrepared};
 ghost use Rattle.dr_plain.specs.Calls.Settling.{AreAllEnds, IsHalterOf};
-ghost use Rattle.dr_plain.specs.Calls.Making.{at_ring, AreFreshEnds, fault_of};
+ghost use Rattle.dr_plain.specs.Calls.Making.{at_ring, AreFreshEnds};
+ghost use Rattle.dr_runs.specs.Fault.{fault_of};
 
 use crate::body::RingBody;
 use crate::laws::{Halter, ReceiverStation, RingSeat, RingTable, SenderStation};

@@ -19,7 +19,7 @@ use Rattle.dr_plain_senders.specs.declared.record.MarkLook.{MarkLook}
 use Rattle.dr_plain_senders.specs.declared.record.ReceiverRecord.{ReceiverRecord}
 use Rattle.dr_plain_senders.specs.Meaning.Records.{claims_looked}
 use Rattle.dr_plain_senders.specs.Calls.Ends.{ReceiverStand, count_looks}
-use Rattle.dr_plain_senders.specs.Calls.Receiving.{ups_of, WalksTo, walk_end, PollLooks, offer, LooksInOrder, looked_round, received_all, Answers}
+use Rattle.dr_plain_senders.specs.Calls.Receiving.{ups_of, WalksTo, walk_end, PollLooks, offer, LooksInOrder, looked_round, received_all, AnswersAsSeen}
 use Rattle.dr_plain_senders.specs.Inside.Fits.{ReceiverFits}
 use Rattle.dr_plain_senders.specs.Inside.Polling.{walked, TakesMarked, TakesPast, TakesOffered, nothing_offered}
 
@@ -125,10 +125,10 @@ module _ {T : Type 0} (k : Shape T) (r s : ReceiverRecord T) (found room availab
       round_of ∙ ap (λ (ls : List (Lent T)). received_all (looked_round k r seen) ls) (no_elements O.lents (omega arith))
       ∙ ap (λ (ls : List (Lent T)). record (looked_round k r seen) { received = ls }) (append-nil r.received)
 
-  pub poll_nothing : taken ≤ claimed_in found → available ≤ taken → Answers k r room s seen (nothing_offered (is_halted found) (claimed_in found) taken)
+  pub poll_nothing : taken ≤ claimed_in found → available ≤ taken → AnswersAsSeen k r room s seen (nothing_offered (is_halted found) (claimed_in found) taken)
   poll_nothing ahead none =
       let round = round_none none in let least = O.taken in let offered = O.offered in let level : offer seen ≡ length r.received = omega arith in
-      let P : Polled → Type 0 = λ p. Answers k r room s seen p in
+      let P : Polled → Type 0 = λ p. AnswersAsSeen k r room s seen p in
       elim (cases_lt taken (claimed_in found)) [
         | inl more ↦ subst P (sym (gates (is_halted found) (claimed_in found) taken more)) (omega arith, level, round)
         | inr all ↦ elim (cases_Bool (is_halted found)) [
@@ -139,7 +139,7 @@ module _ {T : Type 0} (k : Shape T) (r s : ReceiverRecord T) (found room availab
       ]
 
   pub poll_batch : (count : ℕ) (last : Bool) → taken < available → count ≡ min (available - taken) room → (IsTrue last ↔ (taken + count ≡ available))
-      → Answers k r room s seen (Batch taken count last)
+      → AnswersAsSeen k r room s seen (Batch taken count last)
   poll_batch count last more least end = (
     next,
     subst (λ (n : ℕ). taken < n) O.offered more,

@@ -35,7 +35,7 @@ use Rattle.dr_plain_senders.specs.Meaning.Rule.{World, IsOut, KeepsRule}
 use Rattle.dr_plain_senders.specs.Meaning.Steps.{Happens, sender_knows, sender_claims}
 use Rattle.dr_plain_senders.specs.Meaning.Moments.{Runs, stage_at, picture_of}
 use Rattle.dr_plain_senders.specs.Calls.Ends.{count_looks, mark_looks}
-use Rattle.dr_plain_senders.specs.Calls.Receiving.{ups_of, WalksTo, PollLooks, offer, Answers}
+use Rattle.dr_plain_senders.specs.Calls.Receiving.{ups_of, WalksTo, PollLooks, offer, AnswersAsSeen}
 use Rattle.dr_plain_senders.specs.Calls.Handing.{HandsWhatWasThere}
 use Rattle.dr_plain_senders.proofs.Places.{word_at}
 use Rattle.dr_plain_senders.proofs.Facts.{cases_option, above, handler_inside, upstream_inside}
@@ -266,7 +266,7 @@ module _ {T : Type 0} where
     completed : r'.completed ≡ r.completed
     hands : min (offer seen - length r.received) room ≤ n
 
-  polled_so : (k : Shape T) (r : ReceiverRecord T) (room : ℕ) (r' : ReceiverRecord T) (seen : PollLooks) (polled : Polled) → Answers k r room r' seen polled
+  polled_so : (k : Shape T) (r : ReceiverRecord T) (room : ℕ) (r' : ReceiverRecord T) (seen : PollLooks) (polled : Polled) → AnswersAsSeen k r room r' seen polled
       → HasPolled k r room r' seen (handed polled)
   polled_so k r room r' seen (Batch first count last) A = record {
     looks = ap (λ (q : ReceiverRecord T). q.looks) A.5.2;

@@ -15,8 +15,7 @@ use Rattle.dr_runs.specs.Words.{halt_word, count_word}
 use Rattle.dr_runs.specs.declared.look.Look.{Look}
 use Rattle.dr_ring.specs.declared.record.SenderRecord.{SenderRecord}
 use Rattle.dr_ring.specs.Meaning.Records.{claimed, halt_looked}
-use Rattle.dr_runs.specs.Looks.{look, last_look}
-use Rattle.dr_ring.specs.Calls.Ends.{count_looks}
+use Rattle.dr_runs.specs.Looks.{look, last_look, count_looks}
 use Rattle.dr_ring.specs.Calls.Sending.{gate_looks, FoundRoom, TriesToClaim}
 use Rattle.dr_ring.specs.Inside.Parts.{sender_saw, more_claimed, LooksAtFinals, IsEnough, IsShort}
 use Rattle.dr_ring.specs.Inside.Fits.{IsSeenLeast, SenderFields, SenderFits}

@@ -24,12 +24,11 @@ use Rattle.dr_ring.specs.declared.record.Step.TheVariants.{SenderLooksAtCount, S
 use Rattle.dr_ring.specs.declared.record.Step.TheVariants.{SenderHalts, SenderCloses, ReceiverLooksAtClosed, ReceiverLooksAtCursor, ReceiverLooksAtCount}
 use Rattle.dr_ring.specs.declared.record.Step.TheVariants.{ReceiverLoadsFirst, ReceiverLoadsSecond, ReceiverCompletes, HalterHalts}
 use Rattle.dr_ring.specs.Meaning.Records.{receiver_looked, cursor_looked, half_taken, took, completed_to}
-use Rattle.dr_runs.specs.Looks.{look, offered_by}
+use Rattle.dr_runs.specs.Looks.{look, offered_by, count_looks}
 use Rattle.dr_ring.specs.Meaning.Rule.{World, KeepsRule}
 use Rattle.dr_ring.specs.Meaning.Steps.{Happens}
 use Rattle.dr_ring.specs.Meaning.Moments.{Runs, picture_of}
-use Rattle.dr_ring.specs.Calls.Ends.{count_looks}
-use Rattle.dr_ring.specs.Calls.Receiving.{Answers}
+use Rattle.dr_ring.specs.Calls.Receiving.{AnswersAsSeen}
 use Rattle.dr_runs.specs.Polls.{PollLooks, offer, handed}
 use Rattle.dr_ring.specs.Calls.Replies.{HandsWhatWasThere}
 use Rattle.dr_runs.proofs.Elements.{at_below}
@@ -151,7 +150,7 @@ offered_later k w (u ∷ ups) [] found len inside all le = absurd (omega arith)
 offered_later k w (u ∷ ups) (n ∷ ns) found len inside all le = least_later k w (u ∷ ups) (n ∷ ns) len inside all
 
 -- a poll hands over what it is offered, as far as there is room
-hands : (r r' : ReceiverRecord) (out out' : List Event) (seen : PollLooks) (polled : Polled) (n : ℕ) → Answers r out r' out' seen polled → n ≤ offer seen
+hands : (r r' : ReceiverRecord) (out out' : List Event) (seen : PollLooks) (polled : Polled) (n : ℕ) → AnswersAsSeen r out r' out' seen polled → n ≤ offer seen
     → min (n - length r.received) (length out) ≤ handed polled
 hands r r' out out' seen (Batch first count last) n A le = let first_is = A.0 in let least = A.2 in omega arith
 hands r r' out out' seen Drained n A le = let level = A.2 in omega arith
@@ -159,7 +158,7 @@ hands r r' out out' seen Gating n A le = let level = A.2 in omega arith
 hands r r' out out' seen Idle n A le = let level = A.2 in omega arith
 
 -- and what looks it made
-looks_of : (r r' : ReceiverRecord) (out out' : List Event) (seen : PollLooks) (polled : Polled) → Answers r out r' out' seen polled
+looks_of : (r r' : ReceiverRecord) (out out' : List Event) (seen : PollLooks) (polled : Polled) → AnswersAsSeen r out r' out' seen polled
     → r'.looks ≡ r.looks ++ look closed_word seen.closed ∷ look cursor_word seen.cursor ∷ count_looks (upstreams_of r.plan.upstreams r.number) seen.counts
 looks_of r r' out out' seen (Batch first count last) A = ap (λ (q : ReceiverRecord). q.looks) A.4
 looks_of r r' out out' seen Drained A = ap (λ (q : ReceiverRecord). q.looks) A.3

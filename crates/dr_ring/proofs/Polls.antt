@@ -11,10 +11,9 @@ use Rattle.dr_runs.specs.Words.{cursor_word, closed_word}
 use Rattle.dr_runs.specs.declared.look.Look.{Look}
 use Rattle.dr_ring.specs.declared.record.ReceiverRecord.{ReceiverRecord}
 use Rattle.dr_ring.specs.Meaning.Records.{receiver_looked, cursor_looked}
-use Rattle.dr_runs.specs.Looks.{look, last_look, offered_by}
-use Rattle.dr_ring.specs.Calls.Receiving.{looked_round, received_all, Answers}
+use Rattle.dr_runs.specs.Looks.{look, last_look, offered_by, count_looks}
+use Rattle.dr_ring.specs.Calls.Receiving.{looked_round, received_all, AnswersAsSeen}
 use Rattle.dr_runs.specs.Polls.{PollLooks, nothing_offered}
-use Rattle.dr_ring.specs.Calls.Ends.{count_looks}
 use Rattle.dr_ring.specs.Inside.Parts.{receiver_saw, ups_of, IsOfferedUpTo, LooksAtUpstreams}
 use Rattle.dr_ring.specs.Inside.Fits.{ReceiverFits}
 use Rattle.dr_runs.proofs.Looks.{last_look_more}
@@ -56,12 +55,12 @@ is_told r closed cursor one all = rw (eq-eqb closed 1 one, eq-eqb cursor (length
 -- nothing is offered
 pub poll_nothing : (r s : ReceiverRecord) (out : List Event) (closed cursor available taken : ℕ) → taken ≡ length r.received
     → (L : LooksAtUpstreams (looked_twice r closed cursor) cursor s available)
-    → closed ≤ 1 → taken ≤ cursor → available ≤ taken → Answers r out s out (saw closed cursor L.counts) (nothing_offered closed cursor taken)
+    → closed ≤ 1 → taken ≤ cursor → available ≤ taken → AnswersAsSeen r out s out (saw closed cursor L.counts) (nothing_offered closed cursor taken)
 poll_nothing r s out closed cursor available taken next L flag ahead none =
     let round = round_of r s closed cursor available L in
     let least = L.taken in
     let level : available ≡ length r.received = omega arith in
-    let P : Polled → Type 0 = λ p. Answers r out s out (saw closed cursor L.counts) p in
+    let P : Polled → Type 0 = λ p. AnswersAsSeen r out s out (saw closed cursor L.counts) p in
     elim (cases_eq cursor taken) [
       | inl all ↦ elim (cases_eq closed 1) [
         | inl one ↦
@@ -124,7 +123,7 @@ pub poll_batch : (r s t : ReceiverRecord) (out out' : List Event) (closed cursor
     → (L : LooksAtUpstreams (looked_twice r closed cursor) cursor s available) → (r.told ≡ true → cursor ≤ length r.received)
     → t ≡ received_all s (take count out') → drop count out' ≡ drop count out → taken < available → count ≡ min (available - taken) (length out)
     → (IsTrue last ↔ (taken + count ≡ available))
-    → Answers r out t out' (saw closed cursor L.counts) (Batch taken count last)
+    → AnswersAsSeen r out t out' (saw closed cursor L.counts) (Batch taken count last)
 poll_batch r s t out out' closed cursor available taken count last next L before is rest more least end = (
   next,
   subst (λ (n : ℕ). taken < n) L.offered more,

@@ -11,8 +11,7 @@ use Rattle.dr_runs.specs.declared.look.Look.{Look}
 use Rattle.dr_ring.specs.declared.record.SenderRecord.{SenderRecord}
 use Rattle.dr_ring.specs.declared.record.ReceiverRecord.{ReceiverRecord}
 use Rattle.dr_ring.specs.Meaning.Records.{sender_looked, receiver_looked}
-use Rattle.dr_runs.specs.Looks.{look, last_look, offered_by, lesser_of}
-use Rattle.dr_ring.specs.Calls.Ends.{count_looks}
+use Rattle.dr_runs.specs.Looks.{look, last_look, offered_by, lesser_of, count_looks}
 use Rattle.dr_ring.specs.Inside.Fits.{IsSeenLeast}
 use Rattle.dr_ring.specs.Inside.Parts.{LooksAtFinals, IsEnough, IsShort, receiver_saw, ups_of, LooksAtUpstreams}
 use Rattle.dr_runs.proofs.Lists.{no_elements, take_whole}

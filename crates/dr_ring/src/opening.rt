@@ -9,7 +9,8 @@ ghost use Rattle.dr_ring.specs.Meaning.Moments.{fresh_receivers};
 ghost use Rattle.dr_runs.specs.Seats.{fresh_seat};
 ghost use Rattle.dr_ring.specs.Inside.Seats.{IsAtTable, known_receivers};
 ghost use Rattle.dr_ring.specs.Calls.Settling.{AreAllEnds};
-ghost use Rattle.dr_ring.specs.Calls.Making.{at_ring, AreFreshEnds, fault_of};
+ghost use Rattle.dr_ring.specs.Calls.Making.{at_ring, AreFreshEnds};
+ghost use Rattle.dr_runs.specs.Fault.{fault_of};
 
 use crate::laws::{Halter, ReceiverStation, RingBody, RingSeat, RingTable, SenderStation};
 use crate::plan::Plan;

@@ -1,5 +1,5 @@
 -- An exchange by its steps, and what lists of them come to.
-use Rattle.std.specs.Prelude.{◌≡◌, ℕ, Bool, List, [], ◌∷◌, ◌++◌, Result, Ok, Err}
+use Rattle.std.specs.Prelude.{◌≡◌, ℕ, ◌+◌, Bool, List, [], ◌∷◌, ◌++◌, Result, Ok, Err}
 use mathlib.Core.Option.{Option}
 use Rattle.dr_meaning.specs.Meaning.Transcript.{Transcript}
 
@@ -7,6 +7,10 @@ use Rattle.dr_meaning.specs.Meaning.Transcript.{Transcript}
 pub record Ends (E S : Type 0) : Type 0 where
   pub number_of : E → ℕ
   pub is_store_of : ℕ → S → Bool
+
+-- the ends of a ring with one sender: the sender is end 0, the halter end 1, and the receivers follow
+abbrev pub receiver_number : ℕ → ℕ
+receiver_number h = h + 2
 
 -- An exchange of events T: C is what a slot of its table holds, E what one of its ends knows, S a step, and W a world, which is the words with what all ends know.
 pub record Exchange (T C E S W : Type 0) : Type 1 where

@@ -10,7 +10,7 @@ use Rattle.dr_meaning.specs.Calls.Handling.{Relation}
 use Rattle.dr_workers.specs.Meaning.Work.{FollowFrom, HandsOut, IsDone, batches_in, dealt_events}
 use Rattle.dr_workers.specs.declared.ended.Ended.{Ended}
 use Rattle.dr_workers.specs.declared.fault.WorkFault.{WorkFault}
-use Rattle.dr_workers.proofs.Untroubled.{Answers}
+use Rattle.dr_workers.proofs.Untroubled.{AnswersWork}
 use Rattle.dr_runs.specs.Gathering.{counts_at}
 use Rattle.dr_runs.specs.declared.counts.HandlerCounts.{HandlerCounts}
 use Rattle.dr_runs.proofs.Elements.{there, at_below, value_at}
@@ -42,7 +42,7 @@ last_ending who (s ∷ served) last = last_ending (who + 1) served last
 abbrev pub BeginsAt : {O : Type 0} → (O → Received Event) → O → Type 0
 BeginsAt shown e = ((shown e).events ≡ []) × ((shown e).completed ≡ 0)
 
-module _ {O A K : Type 0} (kept : O → K) (does : O → OutletCall Event → O → Type 0) (shown : O → Received Event) (told : O → Bool) (answers : Answers does shown)
+module _ {O A K : Type 0} (kept : O → K) (does : O → OutletCall Event → O → Type 0) (shown : O → Received Event) (told : O → Bool) (answers : AnswersWork does shown)
     (goes : Relation Event A) (start : A) (given : O) (back : Served O A) (serving : Serving kept does (λ e. Some (shown e)) told goes start given back)
     (begins : BeginsAt shown given) where
   no_fault : back.fault ≡ None
@@ -110,7 +110,7 @@ module _ {O A K : Type 0} (kept : O → K) (does : O → OutletCall Event → O 
       let (w, at_w, serving) = are.each h back at_back in
       (given_end w, map_there given_end ws h w at_w, ap kept (sym same) ∙ serving.place)
 
-module _ {O A K : Type 0} (kept : O → K) (does : O → OutletCall Event → O → Type 0) (shown : O → Received Event) (told : O → Bool) (answers : Answers does shown)
+module _ {O A K : Type 0} (kept : O → K) (does : O → OutletCall Event → O → Type 0) (shown : O → Received Event) (told : O → Bool) (answers : AnswersWork does shown)
     (goes : Relation Event A) (ws : List (Worker O A)) (served : List (Served O A)) (are : AreKept kept does (λ e. Some (shown e)) told goes ws served)
     (new_end : ℕ → O) (begins : (h : ℕ) → BeginsAt shown (new_end h)) (ends : (h : ℕ) (e : O) → get_elem? (map given_end ws) h ≡ some e → e ≡ new_end h)
     (starts : List A) (begun : map given_handler ws ≡ starts) where

@@ -7,13 +7,13 @@ use Rattle.dr_meaning.specs.Calls.Handling.{Relation}
 use Rattle.dr_workers.specs.Calls.Serving as worker
 use Rattle.dr_workers.specs.Calls.Stops.{fault_at_end}
 use Rattle.dr_workers.specs.declared.fault.WorkFault.{WorkFault}
-use Rattle.dr_workers.proofs.Untroubled.{Answers, untroubled}
+use Rattle.dr_workers.proofs.Untroubled.{AnswersWork, untroubled}
 
 pub unstopped : (stopped : Bool) → (stopped ≡ true → ⊥) → fault_at_end stopped ≡ None
 unstopped true not = absurd (not refl)
 unstopped false not = refl
 
-pub no_trouble : {O A : Type 0} (does : O → OutletCall Event → O → Type 0) (shown : O → Received Event) → Answers does shown
+pub no_trouble : {O A : Type 0} (does : O → OutletCall Event → O → Type 0) (shown : O → Received Event) → AnswersWork does shown
     → (goes : Relation Event A) (start after : A) (given back : O) (fault : Option WorkFault)
     → SomeCalls does given back (worker.Serves 256 goes start after (Some (shown given)) (Some (shown back)) (λ passage. ⊥) (λ passage. ⊥) fault)
     → (shown given).completed ≤ length (shown given).events → fault ≡ None

@@ -9,7 +9,7 @@ use Rattle.dr_meaning.specs.Calls.Ends.{Completes, Received, Takes}
 use Rattle.dr_workers.specs.Calls.Serving.{Due, EndsIn, InTurn, IsInTrouble, IsNextCall, NoCall, ToComplete, ToPoll, due_after}
 
 -- an end that answers a poll with room, and a completion of what it handed out
-pub record Answers {S E : Type 0} (does : S → OutletCall E → S → Type 0) (shown : S → Received E) : Type 0 where
+pub record AnswersWork {S E : Type 0} (does : S → OutletCall E → S → Type 0) (shown : S → Received E) : Type 0 where
   pub polls : (a b : S) (before after : List E) (trouble : Trouble) → 0 < length before → does a (PollsInto before after (Err trouble)) b → ⊥
   pub takes : (a b : S) (before after : List E) (answer : Polled) → does a (PollsInto before after (Ok answer)) b → Takes after (Ok answer) (shown a) (shown b)
   pub fits : (a b : S) (before after : List E) (first count : ℕ) (end : Bool) → does a (PollsInto before after (Ok (Batch first count end))) b
@@ -47,7 +47,7 @@ no_call : {E : Type 0} (room : ℕ) (call : OutletCall E) → IsNextCall room No
 no_call room (PollsInto before after answer) next = next
 no_call room (CompletesBelow upto answer) next = next
 
-module _ {S E : Type 0} (does : S → OutletCall E → S → Type 0) (shown : S → Received E) (answers : Answers does shown) (room : ℕ) (some : 0 < room) where
+module _ {S E : Type 0} (does : S → OutletCall E → S → Type 0) (shown : S → Received E) (answers : AnswersWork does shown) (room : ℕ) (some : 0 < room) where
   -- one call more
   goes_on : (due : Due) (call : OutletCall E) (a b : S) → IsNextCall room due call → does a call b → IsAt due (shown a) → IsAt (due_after due call) (shown b)
   goes_on ToPoll (PollsInto before after (Ok (Batch first count end))) a b next is at =

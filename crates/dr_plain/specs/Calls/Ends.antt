@@ -5,10 +5,7 @@ use Rattle.dr_cells.specs.declared.token.Token.{Token}
 use Rattle.dr_meaning.specs.Calls.Ends.{Sent, Received}
 use Rattle.dr_runs.specs.Runs.{IsBeginning}
 use Rattle.dr_plain.specs.Meaning.Shape.{Shape}
-use Rattle.dr_runs.specs.Words.{count_word}
 use Rattle.dr_plain.specs.Meaning.Records.{events_of}
-use Rattle.dr_runs.specs.Looks.{looks_at}
-use Rattle.dr_runs.specs.declared.look.Look.{Look}
 use Rattle.dr_plain.specs.declared.record.Step.{Step}
 use Rattle.dr_plain.specs.declared.record.SenderRecord.{SenderRecord}
 use Rattle.dr_plain.specs.declared.record.ReceiverRecord.{ReceiverRecord}
@@ -56,10 +53,6 @@ pub record ReceiverEnd (T : Type 0) : Type 0 where
   pub knows : ReceiverRecord T
   pub past : List (Step T)
   pub stored : List (Step T)
-
--- looks at the counts of some handlers
-abbrev pub count_looks : List ℕ → List ℕ → List Look
-count_looks hs counts = looks_at count_word hs counts
 
 -- which end it is: of which ring, made for what, and a receiver's number
 abbrev pub SenderPlace : Type 0

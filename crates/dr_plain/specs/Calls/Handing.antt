@@ -3,18 +3,13 @@ use Rattle.std.specs.Prelude.{◌≡◌, ℕ, ◌-◌, ◌≤◌, min, length, O
 use mathlib.Core.Option.{some}
 use lib.ListN.{get_elem?}
 use Rattle.dr_meaning.specs.declared.command.Polled.{Polled}
-use Rattle.dr_meaning.specs.declared.command.Polled.TheVariants.{Batch}
 use Rattle.dr_meaning.specs.Meaning.Machine.{available}
 use Rattle.dr_plain.specs.Meaning.Shape.{Shape, ring_setup}
 use Rattle.dr_plain.specs.Meaning.Rule.{World}
 use Rattle.dr_plain.specs.Meaning.Moments.{picture_of}
 use Rattle.dr_plain.specs.declared.record.ReceiverRecord.{ReceiverRecord}
 use Rattle.dr_plain.specs.Calls.Receiving.{PollSees}
-
--- how many events an answer hands over
-abbrev pub handed : Polled → ℕ
-handed (Batch first count last) = count
-handed _ = 0
+use Rattle.dr_runs.specs.Polls.{handed}
 
 -- A poll hands over at least what the picture had for its handler at any earlier moment at which its receiver stood as the poll found it,
 -- as far as there is room; so where that was more than the handler took, it answers a batch.

@@ -1,10 +1,7 @@
 -- How the ends of a new ring begin.
-use Rattle.std.specs.Prelude.{◌≡◌, ℕ, if◌then◌else◌, List, [], map, Some}
-use Rattle.dr_meaning.specs.Calls.OpenFault.{is_bad_limit}
+use Rattle.std.specs.Prelude.{◌≡◌, List, [], map, Some}
 use Rattle.atomic_table.specs.Seated.{TableId}
 use Rattle.dr_plain.specs.declared.record.ReceiverRecord.{ReceiverRecord}
-use Rattle.dr_runs.specs.declared.fault.RingFault.{RingFault}
-use Rattle.dr_runs.specs.declared.fault.RingFault.TheVariants.{BadLimit, NoMemory}
 use Rattle.dr_plain.specs.Meaning.Shape.{Shape, handlers_of}
 use Rattle.dr_plain.specs.Meaning.Moments.{fresh_sender, fresh_receivers, fresh_halter}
 use Rattle.dr_plain.specs.Calls.Ends.{SenderEnd, ReceiverEnd, HalterStand}
@@ -23,7 +20,3 @@ pub record AreFreshEnds {T : Type 0} (k : Shape) (events : List T) (s : SenderEn
   pub stored : s.stored ≡ []
   pub receivers : rs ≡ map (λ r. at_ring s.ring r) (fresh_receivers k 0 (handlers_of k))
   pub halter : t ≡ record { ring = s.ring; knows = fresh_halter k; hand = []; past = []; stored = [] }
-
--- why a ring is refused: its limit, or that memory ran out
-abbrev pub fault_of : ℕ → RingFault
-fault_of limit = if is_bad_limit limit then BadLimit else NoMemory

@@ -15,9 +15,9 @@ use Rattle.dr_lent.specs.declared.lent.Lent.{Lent}
 use Rattle.dr_plain.specs.declared.record.ReceiverRecord.{ReceiverRecord}
 use Rattle.dr_plain.specs.declared.record.Step.TheVariants.{ReceiverCompletes}
 use Rattle.dr_plain.specs.Meaning.Records.{events_of}
-use Rattle.dr_runs.specs.Looks.{look}
+use Rattle.dr_runs.specs.Looks.{look, count_looks}
 use Rattle.dr_plain.specs.Meaning.Replies.{tests_of_poll, tests_of_completion}
-use Rattle.dr_plain.specs.Calls.Ends.{ReceiverEnd, received_of, receiver_place, count_looks}
+use Rattle.dr_plain.specs.Calls.Ends.{ReceiverEnd, received_of, receiver_place}
 use Rattle.dr_runs.specs.Polls.{PollLooks, offer}
 
 module _ {T : Type 0} where
@@ -33,21 +33,21 @@ module _ {T : Type 0} where
   received_all r lents = record r { received = r.received ++ lents }
 
   -- what a poll with room for so many answers, where it saw this; who was told that the ring drained gets no batch any more
-  abbrev pub Answers : ReceiverRecord T → ℕ → ReceiverRecord T → PollLooks → Polled → Type 0
-  Answers r room r' seen (Batch first count last) =
+  abbrev pub AnswersAsSeen : ReceiverRecord T → ℕ → ReceiverRecord T → PollLooks → Polled → Type 0
+  AnswersAsSeen r room r' seen (Batch first count last) =
       (first ≡ length r.received) × (first < offer seen) × (count ≡ min (offer seen - first) room)
       × (IsTrue last ↔ (first + count ≡ offer seen)) × (r'.told ≡ false)
       × ((lents : List (Lent T)) × (length lents ≡ count) × (r' ≡ received_all (looked_round r seen) lents))
-  Answers r room r' seen Drained =
+  AnswersAsSeen r room r' seen Drained =
       (seen.closed ≡ 1) × (seen.cursor ≡ length r.received) × (offer seen ≡ length r.received) × (r' ≡ looked_round r seen) × (r'.told ≡ true)
-  Answers r room r' seen Gating =
+  AnswersAsSeen r room r' seen Gating =
       (length r.received < seen.cursor) × Contains seen.counts (length r.received) × (offer seen ≡ length r.received) × (r' ≡ looked_round r seen)
-  Answers r room r' seen Idle =
+  AnswersAsSeen r room r' seen Idle =
       (seen.closed ≡ 0) × (seen.cursor ≡ length r.received) × (offer seen ≡ length r.received) × (r' ≡ looked_round r seen)
 
   -- a poll that is not refused answers by what it saw
   abbrev pub PollSees : ReceiverRecord T → ℕ → ReceiverRecord T → Result Polled Refusal → Type 0
-  PollSees r room r' (Ok polled) = (seen : PollLooks) × (length seen.counts ≡ length (upstreams_of r.plan.upstreams r.number)) × Answers r room r' seen polled
+  PollSees r room r' (Ok polled) = (seen : PollLooks) × (length seen.counts ≡ length (upstreams_of r.plan.upstreams r.number)) × AnswersAsSeen r room r' seen polled
   PollSees r room r' (Err refusal) = r' ≡ r
 
   abbrev pub Polls : ReceiverEnd T → ℕ → ReceiverEnd T → Result Polled Refusal → Type 0

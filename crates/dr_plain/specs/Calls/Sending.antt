@@ -14,9 +14,9 @@ use Rattle.dr_plain.specs.declared.record.SenderRecord.{SenderRecord}
 use Rattle.dr_plain.specs.declared.record.Step.TheVariants.{SenderPublishes, SenderHalts, SenderCloses}
 use Rattle.dr_runs.specs.Runs.{IsBeginning, StoresWhereOk}
 use Rattle.dr_plain.specs.Meaning.Replies.{tests_of_claim}
-use Rattle.dr_plain.specs.Calls.Ends.{SenderEnd, sender_place, sent_of, count_looks}
+use Rattle.dr_plain.specs.Calls.Ends.{SenderEnd, sender_place, sent_of}
 use Rattle.dr_plain.specs.Meaning.Records.{claimed, events_of, sender_halted, sender_closed, SeesRoom}
-use Rattle.dr_runs.specs.Looks.{look}
+use Rattle.dr_runs.specs.Looks.{look, count_looks}
 
 module _ {T : Type 0} where
   -- a claim looks at the finals' counts in rising order

@@ -6,8 +6,7 @@ use Rattle.dr_runs.specs.declared.look.Look.{Look}
 use Rattle.dr_lent.specs.declared.lent.Lent.{Lent}
 use Rattle.dr_plain.specs.declared.record.ReceiverRecord.{ReceiverRecord}
 use Rattle.dr_plain.specs.Meaning.Records.{tells_drained}
-use Rattle.dr_runs.specs.Looks.{look, offered_by}
-use Rattle.dr_plain.specs.Calls.Ends.{count_looks}
+use Rattle.dr_runs.specs.Looks.{look, offered_by, count_looks}
 use Rattle.dr_plain.specs.Calls.Receiving.{received_all}
 use Rattle.dr_plain.specs.Inside.Seats.{Hand, taken_by_poll}
 

@@ -5,8 +5,7 @@ use Rattle.dr_plain.specs.Meaning.Shape.{Shape}
 use Rattle.dr_runs.specs.Words.{count_word}
 use Rattle.dr_runs.specs.declared.look.Look.{Look}
 use Rattle.dr_plain.specs.declared.record.SenderRecord.{SenderRecord}
-use Rattle.dr_runs.specs.Looks.{last_look}
-use Rattle.dr_plain.specs.Calls.Ends.{count_looks}
+use Rattle.dr_runs.specs.Looks.{last_look, count_looks}
 use Rattle.dr_plain.specs.Inside.Fits.{IsSeenLeast}
 
 -- the last count was the first that was less

@@ -8,7 +8,7 @@ use Rattle.atomic_table.specs.Seated.{TableId}
 use Rattle.dr_cells.specs.declared.token.Token.{Token}
 use Rattle.dr_graph.specs.Meaning.Graph.{IsGraph}
 use Rattle.dr_runs.specs.declared.view.View.{View}
-use Rattle.dr_runs.specs.Runs.{Ends, Exchange}
+use Rattle.dr_runs.specs.Runs.{Ends, Exchange, receiver_number}
 use Rattle.dr_runs.specs.Seats as seats
 use Rattle.dr_runs.specs.Seats.{holding, fresh_view}
 use Rattle.dr_runs.specs.Stretches.{stretch, rows}
@@ -27,7 +27,7 @@ use Rattle.dr_plain.specs.Meaning.Records.{receiver_looked, taken_at, cursor_loo
 use Rattle.dr_plain.specs.Meaning.Rule.{World}
 use Rattle.dr_plain.specs.Meaning.Lying.{placed, Lies}
 use Rattle.dr_plain.specs.Meaning.Steps.{Happens}
-use Rattle.dr_plain.specs.Meaning.Stores.{receiver_number, is_store_of}
+use Rattle.dr_plain.specs.Meaning.Stores.{is_store_of}
 use Rattle.dr_plain.specs.Meaning.Moments.{fresh_sender, fresh_receivers, fresh_halter, fresh_receiver, new_world, entries_of}
 use Rattle.dr_plain.specs.Calls.Finds.{FindsCompleted, FindsHalt, FindsClosed, FindsEvents}
 

@@ -1,11 +1,8 @@
 -- Whose store a step of a ring is.
-use Rattle.std.specs.Prelude.{ℕ, ◌+◌, ◌==◌, Bool, false, List, filter}
+use Rattle.std.specs.Prelude.{ℕ, ◌==◌, Bool, false, List, filter}
 use Rattle.dr_plain.specs.declared.record.Step.{Step}
 use Rattle.dr_plain.specs.declared.record.Step.TheVariants.{SenderPublishes, SenderHalts, SenderCloses, ReceiverCompletes, HalterHalts}
-
--- the sender is end 0, the halter end 1, and the receivers follow
-abbrev pub receiver_number : ℕ → ℕ
-receiver_number h = h + 2
+use Rattle.dr_runs.specs.Runs.{receiver_number}
 
 module _ {T : Type 0} where
   -- whether a step is a store by the end of a number

@@ -71,22 +71,22 @@ module _ {T : Type 0} where
   received_all r lents = record r { received = r.received ++ lents }
 
   -- what a poll with room for so many answers, where it saw this; who was told that the ring drained gets no batch any more
-  abbrev pub Answers : Shape T → ReceiverRecord T → ℕ → ReceiverRecord T → PollLooks → Polled → Type 0
-  Answers k r room r' seen (Batch first count last) =
+  abbrev pub AnswersAsSeen : Shape T → ReceiverRecord T → ℕ → ReceiverRecord T → PollLooks → Polled → Type 0
+  AnswersAsSeen k r room r' seen (Batch first count last) =
       (first ≡ length r.received) × (first < offer seen) × (count ≡ min (offer seen - first) room)
       × (IsTrue last ↔ (first + count ≡ offer seen)) × (r'.told ≡ false)
       × ((lents : List (Lent T)) × (length lents ≡ count) × (r' ≡ received_all (looked_round k r seen) lents))
-  Answers k r room r' seen Drained =
+  AnswersAsSeen k r room r' seen Drained =
       (is_halted seen.claims ≡ true) × (claimed_in seen.claims ≡ length r.received) × (offer seen ≡ length r.received)
       × (r' ≡ looked_round k r seen) × (r'.told ≡ true)
-  Answers k r room r' seen Gating =
+  AnswersAsSeen k r room r' seen Gating =
       (length r.received < claimed_in seen.claims) × (offer seen ≡ length r.received) × (r' ≡ looked_round k r seen)
-  Answers k r room r' seen Idle =
+  AnswersAsSeen k r room r' seen Idle =
       (is_halted seen.claims ≡ false) × (claimed_in seen.claims ≡ length r.received) × (offer seen ≡ length r.received) × (r' ≡ looked_round k r seen)
 
   -- a poll that is not refused answers by what it saw
   abbrev pub PollSees : Shape T → ReceiverRecord T → ℕ → ReceiverRecord T → Result Polled Refusal → Type 0
-  PollSees k r room r' (Ok polled) = (seen : PollLooks) × LooksInOrder k r room seen × Answers k r room r' seen polled
+  PollSees k r room r' (Ok polled) = (seen : PollLooks) × LooksInOrder k r room seen × AnswersAsSeen k r room r' seen polled
   PollSees k r room r' (Err refusal) = r' ≡ r
 
   abbrev pub Polls : Shape T → ReceiverRecord T → ℕ → ReceiverRecord T → Result Polled Refusal → Type 0

@@ -3,15 +3,12 @@ use Rattle.dr_seq.specs.declared.event.Event.{Event}
 use Rattle.std.specs.Prelude.{◌≡◌, ℕ, List, [], ◌∷◌, ◌++◌}
 use Rattle.atomic_table.specs.Seated.{TableId}
 use Rattle.dr_ring.specs.Meaning.Shape.{Shape}
-use Rattle.dr_runs.specs.declared.look.Look.{Look}
 use Rattle.dr_ring.specs.declared.record.Step.{Step}
 use Rattle.dr_ring.specs.declared.record.SenderRecord.{SenderRecord}
 use Rattle.dr_ring.specs.declared.record.ReceiverRecord.{ReceiverRecord}
 use Rattle.dr_ring.specs.declared.record.HalterRecord.{HalterRecord}
 use Rattle.dr_runs.specs.Runs.{IsBeginning}
 use Rattle.dr_meaning.specs.Calls.Ends.{Received}
-use Rattle.dr_runs.specs.Words.{count_word}
-use Rattle.dr_runs.specs.Looks.{looks_at}
 
 -- an end: of which ring it is, what it knows, the run as it was at its last step, and what it has stored since the ring's opening
 pub record EndOf (K : Type 0) : Type 0 where
@@ -52,7 +49,3 @@ ReceiverPlace = TableId × Shape × ℕ
 
 abbrev pub receiver_place : ReceiverEnd → ReceiverPlace
 receiver_place e = (e.ring, e.knows.plan, e.knows.number)
-
--- looks at the counts of some handlers
-abbrev pub count_looks : List ℕ → List ℕ → List Look
-count_looks hs counts = looks_at count_word hs counts

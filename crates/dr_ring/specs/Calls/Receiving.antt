@@ -12,8 +12,8 @@ use Rattle.dr_runs.specs.Words.{cursor_word, closed_word}
 use Rattle.dr_ring.specs.declared.record.ReceiverRecord.{ReceiverRecord}
 use Rattle.dr_ring.specs.declared.record.Step.TheVariants.{ReceiverCompletes}
 use Rattle.dr_runs.specs.Runs.{IsBeginning, StoresWhereOk}
-use Rattle.dr_ring.specs.Calls.Ends.{ReceiverEnd, received_of, receiver_place, count_looks}
-use Rattle.dr_runs.specs.Looks.{look}
+use Rattle.dr_ring.specs.Calls.Ends.{ReceiverEnd, received_of, receiver_place}
+use Rattle.dr_runs.specs.Looks.{look, count_looks}
 use Rattle.dr_runs.specs.Polls.{PollLooks, offer}
 
 -- a receiver knows all of its own tests
@@ -35,20 +35,20 @@ looked_round r seen = record r {
 }
 
 -- what a poll answers, where it saw this; who was told that the ring drained gets no batch any more
-abbrev pub Answers : ReceiverRecord → List Event → ReceiverRecord → List Event → PollLooks → Polled → Type 0
-Answers r out r' out' seen (Batch first count last) =
+abbrev pub AnswersAsSeen : ReceiverRecord → List Event → ReceiverRecord → List Event → PollLooks → Polled → Type 0
+AnswersAsSeen r out r' out' seen (Batch first count last) =
     (first ≡ length r.received) × (first < offer seen) × (count ≡ min (offer seen - first) (length out)) × (IsTrue last ↔ (first + count ≡ offer seen))
     × (r' ≡ received_all (looked_round r seen) (take count out')) × (r'.told ≡ false) × (drop count out' ≡ drop count out)
-Answers r out r' out' seen Drained =
+AnswersAsSeen r out r' out' seen Drained =
     (seen.closed ≡ 1) × (seen.cursor ≡ length r.received) × (offer seen ≡ length r.received) × (r' ≡ looked_round r seen) × (r'.told ≡ true) × (out' ≡ out)
-Answers r out r' out' seen Gating =
+AnswersAsSeen r out r' out' seen Gating =
     (length r.received < seen.cursor) × Contains seen.counts (length r.received) × (offer seen ≡ length r.received) × (r' ≡ looked_round r seen) × (out' ≡ out)
-Answers r out r' out' seen Idle =
+AnswersAsSeen r out r' out' seen Idle =
     (seen.closed ≡ 0) × (seen.cursor ≡ length r.received) × (offer seen ≡ length r.received) × (r' ≡ looked_round r seen) × (out' ≡ out)
 
 -- a poll that is not refused answers by what it saw
 abbrev pub PollSees : ReceiverRecord → List Event → ReceiverRecord → List Event → Result Polled Refusal → Type 0
-PollSees r out r' out' (Ok polled) = (seen : PollLooks) × (length seen.counts ≡ length (upstreams_of r.plan.upstreams r.number)) × Answers r out r' out' seen polled
+PollSees r out r' out' (Ok polled) = (seen : PollLooks) × (length seen.counts ≡ length (upstreams_of r.plan.upstreams r.number)) × AnswersAsSeen r out r' out' seen polled
 PollSees r out r' out' (Err refusal) = (r' ≡ r) × (out' ≡ out)
 
 abbrev pub Polls : ReceiverRecord → List Event → ReceiverRecord → List Event → Result Polled Refusal → Type 0

@@ -17,9 +17,9 @@ use Rattle.dr_ring.specs.declared.record.SenderRecord.{SenderRecord}
 use Rattle.dr_ring.specs.declared.record.Step.{Step}
 use Rattle.dr_ring.specs.declared.record.Step.TheVariants.{SenderStoresFirst, SenderStoresSecond, SenderPublishes, SenderHalts, SenderCloses}
 use Rattle.dr_runs.specs.Runs.{IsBeginning, StoresWhereOk}
-use Rattle.dr_ring.specs.Calls.Ends.{SenderEnd, sender_place, count_looks}
+use Rattle.dr_ring.specs.Calls.Ends.{SenderEnd, sender_place}
 use Rattle.dr_ring.specs.Meaning.Records.{claimed, seen_before, sender_halted, sender_closed, SeesRoom}
-use Rattle.dr_runs.specs.Looks.{look}
+use Rattle.dr_runs.specs.Looks.{look, count_looks}
 use Rattle.dr_runs.specs.Replies.{claim_tests_of}
 
 -- a claim looks at the finals' counts in rising order

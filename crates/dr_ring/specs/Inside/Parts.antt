@@ -6,9 +6,8 @@ use Rattle.dr_runs.specs.Words.{cursor_word, count_word}
 use Rattle.dr_runs.specs.declared.look.Look.{Look}
 use Rattle.dr_ring.specs.declared.record.SenderRecord.{SenderRecord}
 use Rattle.dr_ring.specs.declared.record.ReceiverRecord.{ReceiverRecord}
-use Rattle.dr_runs.specs.Looks.{last_look, offered_by}
+use Rattle.dr_runs.specs.Looks.{last_look, offered_by, count_looks}
 use Rattle.dr_meaning.specs.Calls.Ends.{with_claimed}
-use Rattle.dr_ring.specs.Calls.Ends.{count_looks}
 use Rattle.dr_ring.specs.Inside.Fits.{IsSeenLeast}
 
 -- the sender has made these looks more

@@ -11,7 +11,7 @@ use lib.ListN.{get_elem?}
 use Rattle.atomic_table.specs.Table.{State, Step as TableStep}
 use Rattle.dr_graph.specs.Meaning.Graph.{IsGraph}
 use Rattle.dr_runs.specs.declared.view.View.{View}
-use Rattle.dr_runs.specs.Runs.{Ends, Exchange}
+use Rattle.dr_runs.specs.Runs.{Ends, Exchange, receiver_number}
 use Rattle.dr_runs.specs.Seats as seats
 use Rattle.dr_runs.specs.Seats.{alone, fresh_view}
 use Rattle.dr_ring.specs.Meaning.Words.{words_of}
@@ -24,7 +24,7 @@ use Rattle.dr_ring.specs.Meaning.Records.{receiver_looked, cursor_looked, half_t
 use Rattle.dr_ring.specs.Meaning.Rule.{World}
 use Rattle.dr_ring.specs.Calls.Finds.{FindsCompleted, FindsHalt, FindsClosed, FindsEvents}
 use Rattle.dr_ring.specs.Meaning.Steps.{Happens}
-use Rattle.dr_ring.specs.Meaning.Stores.{receiver_number, is_store_of}
+use Rattle.dr_ring.specs.Meaning.Stores.{is_store_of}
 use Rattle.dr_ring.specs.declared.record.Step.{Step}
 
 -- a seat: what is known of its ends and, with it, the run as it was at each end's last step

@@ -1,14 +1,11 @@
 -- Whose store a step of a ring is.
-use Rattle.std.specs.Prelude.{ℕ, ◌+◌, ◌==◌, Bool, false, List, filter}
+use Rattle.std.specs.Prelude.{ℕ, ◌==◌, Bool, false, List, filter}
 use Rattle.dr_ring.specs.declared.record.Step.{Step}
 use Rattle.dr_ring.specs.declared.record.Step.TheVariants.{SenderStoresFirst, SenderStoresSecond, SenderPublishes, SenderHalts, SenderCloses}
 use Rattle.dr_ring.specs.declared.record.Step.TheVariants.{ReceiverCompletes, HalterHalts}
 use Rattle.dr_ring.specs.declared.record.Step.TheVariants.{SenderLooksAtCount, SenderLooksAtHalt, ReceiverLooksAtClosed, ReceiverLooksAtCursor}
 use Rattle.dr_ring.specs.declared.record.Step.TheVariants.{ReceiverLooksAtCount, ReceiverLoadsFirst, ReceiverLoadsSecond}
-
--- the sender is end 0, the halter end 1, and the receivers follow
-abbrev pub receiver_number : ℕ → ℕ
-receiver_number h = h + 2
+use Rattle.dr_runs.specs.Runs.{receiver_number}
 
 -- whether a step is a store by the end of a number
 abbrev pub is_store_of : ℕ → Step → Bool

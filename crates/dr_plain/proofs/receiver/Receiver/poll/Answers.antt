@@ -5,7 +5,7 @@ use Rattle.dr_graph.specs.Meaning.Graph.{upstreams_of}
 use Rattle.dr_runs.specs.Runs.{IsBeginning}
 use Rattle.dr_plain.specs.declared.record.ReceiverRecord.{ReceiverRecord}
 use Rattle.dr_plain.specs.Calls.Ends.{ReceiverEnd, ReceiverStand}
-use Rattle.dr_plain.specs.Calls.Receiving.{Answers}
+use Rattle.dr_plain.specs.Calls.Receiving.{AnswersAsSeen}
 use Rattle.dr_plain.proofs.Stations.{begins_on}
 use Rattle.dr_plain.proofs.Polls.{saw, seen_round, poll_nothing, poll_batch, fits_nothing, fits_batch, new_in_hand}
 use Rattle.dr_runs.proofs.Offers.{of_count}
@@ -25,9 +25,9 @@ returns-then-available-first-clause-call g c =
     let L = seen_round e.knows _ _ c.args.room closed cursor available _ e.hand _ step.1 step.2 c.look_round-cursor.ensures.answer in
     let some_room : (c.args.room == 0) ≡ false = search rules in
     let same = ap (λ (x : ReceiverEnd g.row.T.Denot). x.knows) c.self.view_is in let now = c.look_round-cursor.new.self.knows in
-    let sees = subst (λ (r : ReceiverRecord g.row.T.Denot). (length L.counts ≡ length (upstreams_of r.plan.upstreams r.number)) × Answers r c.args.room now (saw closed cursor L.counts) c.nothing_offered.result) same (
+    let sees = subst (λ (r : ReceiverRecord g.row.T.Denot). (length L.counts ≡ length (upstreams_of r.plan.upstreams r.number)) × AnswersAsSeen r c.args.room now (saw closed cursor L.counts) c.nothing_offered.result) same (
       L.each,
-      subst (λ (p : Polled). Answers e.knows c.args.room now (saw closed cursor L.counts) p) (sym c.nothing_offered.ensures)
+      subst (λ (p : Polled). AnswersAsSeen e.knows c.args.room now (saw closed cursor L.counts) p) (sym c.nothing_offered.ensures)
           (poll_nothing e.knows now c.args.room closed cursor available _ e.hand _ c.self.invariant.taken L c.look_at_closed-closed.ensures.finds.1 c.if-available-first.true),
     ) in (
       search rules,
@@ -59,7 +59,7 @@ returns-clause-call g c =
     let some_room : (c.args.room == 0) ≡ false = search rules in let first = c.self.inside.taken in
     let same = ap (λ (x : ReceiverEnd g.row.T.Denot). x.knows) c.self.view_is in let now = c.look_round-cursor.new.self.knows in
     let last = first + count == available in
-    let sees = subst (λ (r : ReceiverRecord g.row.T.Denot). (length L.counts ≡ length (upstreams_of r.plan.upstreams r.number)) × Answers r c.args.room now (saw closed cursor L.counts) (Batch first count last)) same (
+    let sees = subst (λ (r : ReceiverRecord g.row.T.Denot). (length L.counts ≡ length (upstreams_of r.plan.upstreams r.number)) × AnswersAsSeen r c.args.room now (saw closed cursor L.counts) (Batch first count last)) same (
       L.each,
       poll_batch e.knows now c.args.room closed cursor available first e.hand _ c.self.invariant.taken L count last (let more = c.if-available-first.false in omega arith)
           c.min-count.ensures (of_count (first + count) available last refl),
@@ -71,7 +71,7 @@ returns-clause-call g c =
         (
           saw closed cursor L.counts,
           sees.0,
-          subst (λ (r : ReceiverRecord g.row.T.Denot). Answers c.args.self.now.knows c.args.room r (saw closed cursor L.counts) (Batch first count last)) (sym after) sees.1,
+          subst (λ (r : ReceiverRecord g.row.T.Denot). AnswersAsSeen c.args.self.now.knows c.args.room r (saw closed cursor L.counts) (Batch first count last)) (sym after) sees.1,
         ),
       ),
       search rules,

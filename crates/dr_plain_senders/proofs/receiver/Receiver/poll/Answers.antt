@@ -4,7 +4,7 @@ use Rattle.dr_runs.proofs.Offers.{of_count}
 use Rattle.dr_plain_senders.specs.Meaning.Words.{is_halted}
 use Rattle.dr_plain_senders.specs.declared.record.ReceiverRecord.{ReceiverRecord}
 use Rattle.dr_plain_senders.specs.Calls.Ends.{ReceiverEnd}
-use Rattle.dr_plain_senders.specs.Calls.Receiving.{Answers}
+use Rattle.dr_plain_senders.specs.Calls.Receiving.{AnswersAsSeen}
 use Rattle.dr_plain_senders.specs.Inside.Polling.{nothing_offered}
 use Rattle.dr_plain_senders.proofs.Stations.{begins_on}
 use Rattle.dr_plain_senders.proofs.Answering.{seen_round, seen, in_order, poll_nothing, poll_batch}
@@ -29,7 +29,7 @@ returns-then-available-first-clause-call g c =
         (
           seen k r s found room available taken next O,
           in_order k r s found room available taken next O,
-          subst (λ (p : Polled). Answers k r room s (seen k r s found room available taken next O) p)
+          subst (λ (p : Polled). AnswersAsSeen k r room s (seen k r s found room available taken next O) p)
               (sym (c.nothing_offered.ensures ∙ ap (λ (n : ℕ). nothing_offered (is_halted found) n taken) is))
               (poll_nothing k r s found room available taken next O (omega arith) c.if-available-first.true),
         ),

@@ -5,7 +5,7 @@ use Rattle.dr_ring.specs.declared.record.ReceiverRecord.{ReceiverRecord}
 use Rattle.dr_runs.specs.Words.{closed_word}
 use Rattle.dr_ring.specs.Meaning.Records.{receiver_looked}
 use Rattle.dr_ring.specs.Calls.Ends.{ReceiverEnd}
-use Rattle.dr_ring.specs.Calls.Receiving.{Answers, received_all}
+use Rattle.dr_ring.specs.Calls.Receiving.{AnswersAsSeen, received_all}
 use Rattle.dr_runs.specs.Runs.{IsBeginning}
 use Rattle.dr_ring.proofs.Stations.{begins_on}
 use Rattle.dr_ring.proofs.Polls.{saw, seen_round, poll_nothing, poll_batch, offers}
@@ -24,7 +24,7 @@ returns-then-available-first-clause-call c =
         (
           saw closed cursor seen.counts,
           seen.each,
-          subst (Answers c.args.self.now.knows c.args.out.now c.barrier-available.new.self.knows c.args.out.now (saw closed cursor seen.counts))
+          subst (AnswersAsSeen c.args.self.now.knows c.args.out.now c.barrier-available.new.self.knows c.args.out.now (saw closed cursor seen.counts))
               (sym c.nothing_offered.ensures)
               (poll_nothing _ _ c.args.out.now closed cursor c.barrier-available.result c.self.inside.taken next seen
               c.look_at_closed-closed.ensures.finds.1 (search rules) c.if-available-first.true),
