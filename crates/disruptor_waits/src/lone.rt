@@ -2,7 +2,6 @@
 
 ghost use Rattle.std.specs.Prelude.{◌≡◌};
 
-use crate::SENDER;
 use crate::clock::{micros_since, pause};
 use crate::fault::Fault;
 use crate::pair::takers;
@@ -11,7 +10,7 @@ use crate::times::{Notes, Times};
 use dr_disruptor::{LiveSender, WaitStrategy, Waits};
 use dr_meaning::Inlet;
 use dr_seq::Event;
-use dr_workers::{OpenGate, Patience, WorkFault, produce_with};
+use dr_workers::{OpenGate, Patience, SENDER, WorkFault, produce_with};
 use std::alloc::Global;
 use std::sync::atomic::{AtomicU64, Ordering};
 use std::sync::{Arc, Wait};

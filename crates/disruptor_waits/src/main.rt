@@ -43,9 +43,6 @@ use std::time::Instant;
 use times::Times;
 use words::{Exchange, STRATEGIES, Task, read};
 
-/// The number of the sender's worker.
-const SENDER: usize = 16;
-
 /// How many microseconds a lone event may take.
 const MOST: u64 = 1_000_000;
 

@@ -1,6 +1,5 @@
 //! Lone events over a ring of one slot, whose workers park: each is sent once the last handler completed the one before.
 
-use crate::SENDER;
 use crate::fault::Fault;
 use crate::pair::idlers;
 use crate::runs::{Job, run};
@@ -8,7 +7,7 @@ use crate::stopwatch::Stopwatch;
 use crate::times::Times;
 use dr_disruptor::{LiveSender, WaitStrategy, Waits};
 use dr_seq::Event;
-use dr_workers::{WorkFault, produce_with};
+use dr_workers::{SENDER, WorkFault, produce_with};
 use std::alloc::Global;
 use std::sync::Wait;
 use std::thread::Threads;

@@ -2,14 +2,13 @@
 
 ghost use Rattle.std.specs.Prelude.{◌≡◌};
 
-use crate::SENDER;
 use crate::fault::Fault;
 use crate::pair::idlers;
 use crate::runs::{Job, run};
 use dr_disruptor::{LiveSender, WaitStrategy, Waits};
 use dr_meaning::Inlet;
 use dr_seq::Event;
-use dr_workers::{OpenGate, Patience, WorkFault, produce_with};
+use dr_workers::{OpenGate, Patience, SENDER, WorkFault, produce_with};
 use std::alloc::Global;
 use std::num::NonZeroU64;
 use std::sync::Wait;

@@ -19,13 +19,13 @@ ghost use Rattle.dr_disruptor.specs.Refused.{refusal_of};
 ghost use Rattle.dr_disruptor.specs.Running.{IsRan, IsRanBy, IsRun};
 ghost use Rattle.dr_disruptor.specs.Serving.{shape_of};
 
-use crate::workers::{Abandoned, LiveSender, SENDER, Worker, begin, gathered, joined, open};
+use crate::workers::{Abandoned, LiveSender, Worker, begin, gathered, joined, open};
 use dr_graph::Graph;
 use dr_meaning::Handler;
 use dr_ring::{Halter, Settled, settle};
 use dr_seq::{Event, Size};
 use dr_threads::{Back, RunFault, WaitStrategy};
-use dr_workers::{OpenGate, WorkFault, produce_with};
+use dr_workers::{OpenGate, SENDER, WorkFault, produce_with};
 use std::alloc::Global;
 use std::sync::Wait;
 use std::thread::Threads;

@@ -15,14 +15,11 @@ use dr_meaning::{Handler, MAX_LIMIT};
 use dr_ring::{Halter, Receiver, Sender, ring};
 use dr_seq::{Event, Size};
 use dr_threads::{Back, RunFault, Served, WaitStrategy, apart, join, start, wait_for};
-use dr_workers::{Bell, Ended, Ringing, WorkFault};
+use dr_workers::{Bell, Ended, Ringing, SENDER, WorkFault};
 use std::alloc::{AllocError, Global};
 use std::snapshot::Snapshot;
 use std::sync::{Arc, Wait};
 use std::thread::Threads;
-
-/// The number of the sender's worker. Those of the handlers are below it.
-pub(crate) const SENDER: usize = 16;
 
 /// A run's sender, which wakes the handlers' threads.
 pub type LiveSender = Ringing<Sender, Arc<Bell, Global>>;

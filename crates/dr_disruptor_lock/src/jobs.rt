@@ -8,12 +8,10 @@ use crate::around::Around;
 use crate::watching::Watching;
 use dr_lock::{End, Exchange, LockedOutlet, Shared};
 use dr_seq::Event;
+use dr_workers::SENDER;
 use std::alloc::{AllocError, Global};
 use std::sync::Wait;
 use std::sync::ledger::Ledger;
-
-/// The number of the first sender's worker. Those of the handlers are below it.
-pub const FIRST_SENDER: usize = 16;
 
 /// What the worker of the handler `who` is given.
 #[derive(Drop)]
@@ -97,7 +95,7 @@ pub(crate) fn tasks_of<L: Exchange<Event>>(
     for script in scripts {
         let end = new_end(shared)?;
         let at = tasks.len();
-        let (who, p) = (FIRST_SENDER + at, at as u64);
+        let (who, p) = (SENDER + at, at as u64);
         tasks.push(Task {
             who,
             p,

@@ -5,7 +5,6 @@ ghost use Rattle.dr_disruptor_lock.specs.Joining.{IsSettled, endings_from};
 ghost use Rattle.dr_disruptor_lock.specs.Running.{IsHistoryOf};
 
 use crate::comparing::compared;
-use crate::jobs::FIRST_SENDER;
 use crate::running::Ran;
 use crate::sending::Sent;
 use crate::watching::Watching;
@@ -13,7 +12,7 @@ use crate::workers::Joined;
 use dr_lock::{End, Exchange, Recorded, Shared, finish};
 use dr_seq::Event;
 use dr_threads::{Back, apart};
-use dr_workers::Ended;
+use dr_workers::{Ended, SENDER};
 use std::alloc::{AllocError, Global};
 use std::sync::ledger::Ledger;
 
@@ -37,7 +36,7 @@ fn senders_apart<L: Ledger>(
             produced,
         } = one;
         endings.push(Ended {
-            who: FIRST_SENDER + scripts.len(),
+            who: SENDER + scripts.len(),
             fault: produced.fault,
         })?;
         ends.push(end)?;

@@ -8,7 +8,8 @@ ghost use Rattle.dr_plain_senders.specs.Calls.Making.{AreFreshEnds};
 ghost use Rattle.dr_plain_senders.specs.Calls.Settling.{AreAllEnds};
 ghost use Rattle.dr_plain_senders.specs.Meaning.Shape.{IsShape};
 ghost use Rattle.dr_threads.specs.Serving.{given_end, given_handler};
-ghost use Rattle.dr_disruptor_senders.specs.Serving.{AreGiven, AreKept, AreSent, HaltsOnly, SendsFeed, SendsScript, fed_sender, given_feed, given_script, given_sender, given_size, refusal_of, sender_endings, shape_of};
+ghost use Rattle.dr_disruptor_senders.specs.Serving.{AreGiven, AreKept, AreSent, HaltsOnly, SendsFeed, SendsScript, fed_sender, given_feed, given_script, given_sender, given_size, sender_endings, shape_of};
+ghost use Rattle.dr_threads.specs.Endings.{refusal_of};
 
 use crate::sending::{Feed, FeedsPromise, SendsPromise, Sent, send, send_by};
 use dr_graph::Graph;
@@ -16,13 +17,10 @@ use dr_meaning::{Handler, MAX_LIMIT, Mode};
 use dr_plain_senders::{Halter, Receiver, Sender, senders_ring};
 use dr_seq::{Event, Size};
 use dr_threads::{RunFault, Served, WaitStrategy, join, start, wait_for};
-use dr_workers::{Bell, Ended, Ringing};
+use dr_workers::{Bell, Ended, Ringing, SENDER};
 use std::alloc::{AllocError, Global};
 use std::sync::{Arc, Wait};
 use std::thread::{self, Promise, PromisedHandle, Threads, join_promised};
-
-/// The number of the first sender's worker. Those of the handlers are below it.
-const FIRST_SENDER: usize = 16;
 
 /// A run's halter, which wakes its threads.
 pub(crate) type LiveHalter = Ringing<Halter<Event>, Arc<Bell, Global>>;
@@ -106,7 +104,7 @@ fn start_senders<R: Threads + Wait + Copy + Send + 'static>(
         };
         let bell = Arc::try_clone(bell)?;
         let promise = SendsPromise::of(&sender, &script, size);
-        let who = FIRST_SENDER + started.len();
+        let who = SENDER + started.len();
         let Ok(worker) = thread::spawn_with(
             &rt,
             promise,
@@ -275,7 +273,7 @@ pub(crate) fn senders_apart(
     for one in sent {
         let Sent { sender, fault } = one;
         endings.push(Ended {
-            who: FIRST_SENDER + senders.len(),
+            who: SENDER + senders.len(),
             fault,
         })?;
         senders.push(sender)?;

@@ -4,11 +4,12 @@ ghost use Rattle.std.specs.Prelude.{◌<◌};
 
 use crate::checks::check;
 use crate::histories::word;
+use crate::ringing::{check_strokes, no_strokes};
 use dr_meaning::{Claimed, Handler, Inlet, Outlet, Polled, Refusal, Trouble};
 use dr_seq::{Event, Size};
 use dr_workers::{
-    Ended, Gate, GateAnswer, OpenGate, Produced, Waiting, WorkFault, WorkerFault, consume,
-    first_fault, produce,
+    Ended, Gate, GateAnswer, OpenGate, Produced, Spinning, Waiting, WorkFault, WorkerFault,
+    consume, first_fault, produce, serve,
 };
 use std::process::Abort;
 use std::sync::Wait;
@@ -228,6 +229,16 @@ struct Dealer<'a> {
     told: bool,
 }
 
+fn six_events(shown: &AtomicU64, retired_at: u64) -> Dealer<'_> {
+    Dealer {
+        shown,
+        calls: 0,
+        dealt: 0,
+        retired_at,
+        told: false,
+    }
+}
+
 impl Outlet<Event> for Dealer<'_> {
     ghost kept = { λ _. tt };
 
@@ -281,6 +292,21 @@ struct Adder<'a> {
     sum: u64,
 }
 
+impl Adder<'_> {
+    fn new(shown: &AtomicU64) -> Adder<'_> {
+        Adder {
+            shown,
+            marks: 0,
+            sum: 0,
+        }
+    }
+
+    // How many events and marks it was shown, and the sum of their first words.
+    fn seen(&self) -> [u64; 3] {
+        [self.shown.load(Ordering::SeqCst), self.marks, self.sum]
+    }
+}
+
 impl Handler<Event> for Adder<'_> {
     ghost use Rattle.std.specs.Prelude.{⊤};
 
@@ -306,22 +332,10 @@ fn check_taken<R: Wait + Abort, G: Gate>(
     events: [u64; 3],
 ) {
     let shown = AtomicU64::new(0);
-    let mut dealer = Dealer {
-        shown: &shown,
-        calls: 0,
-        dealt: 0,
-        retired_at,
-        told: false,
-    };
-    let mut adder = Adder {
-        shown: &shown,
-        marks: 0,
-        sum: 0,
-    };
+    let (mut dealer, mut adder) = (six_events(&shown, retired_at), Adder::new(&shown));
     let answer = consume(rt, &mut dealer, gate, 0, &mut adder, buf);
     check(rt, answer, wanted);
-    let seen = [shown.load(Ordering::SeqCst), adder.marks, adder.sum];
-    check(rt, seen, events);
+    check(rt, adder.seen(), events);
 }
 
 #[test]
@@ -334,6 +348,26 @@ fn consumers(rt: HostRuntime) {
     check(&rt, gate.passed.load(Ordering::SeqCst), 2);
     let refused = Some(WorkFault::Refused(Refusal::BadCount));
     check_taken(&rt, &OpenGate, &mut [], NEVER, refused, [0, 0, 0]);
+}
+
+// The end hands out one event, two, and three, and each batch is completed once.
+#[test]
+fn a_served_handler_rings_with_each_completion(rt: HostRuntime) {
+    let (strokes, shown) = (no_strokes(), AtomicU64::new(0));
+    let mut adder = Adder::new(&shown);
+    let dealer = six_events(&shown, NEVER);
+    let (_dealer, fault) = serve(
+        &rt,
+        dealer,
+        &OpenGate,
+        0,
+        &mut adder,
+        &strokes,
+        &mut Spinning,
+    );
+    check(&rt, fault, None);
+    check(&rt, adder.seen(), [6, 1, 15]);
+    check_strokes(&rt, &strokes, 3);
 }
 
 #[test]

@@ -11,7 +11,7 @@ ghost use Rattle.dr_workers.specs.Calls.Waits.{Attends};
 ghost use Rattle.dr_workers.specs.Inside.Retries.{TakesBatch};
 ghost use Rattle.dr_workers.specs.Meaning.Work.{IsDone};
 
-use crate::bell::Bell;
+use crate::bell::Rings;
 use crate::fault::WorkFault;
 use crate::gate::Gate;
 use crate::passages::Passages;
@@ -134,13 +134,13 @@ pub fn consume<E: Copy, R: Wait, O: Outlet<E>, G: Gate, H: Handler<E>>(
 
 /// As [`consume_with`] over an end of two-word events that is the worker's own: it takes up to [`BATCH`] of them at
 /// once, and rings the bell with each completion. The end comes back, with the fault if there is one.
-pub fn serve<R: Wait, O: Outlet<Event>, G: Gate, H: Handler<Event>, P: Patience>(
+pub fn serve<R: Wait, O: Outlet<Event>, G: Gate, H: Handler<Event>, B: Rings, P: Patience>(
     rt: &R,
     outlet: O,
     gate: &G,
     who: usize,
     handler: &mut H,
-    bell: &Bell,
+    bell: B,
     patience: &mut P,
 ) -> (O, Option<WorkFault>)
     ensures kept { O.kept result.0 ≡ O.kept outlet }

@@ -5,6 +5,10 @@ ghost use Rattle.dr_workers.specs.Meaning.FirstFault.{first_fault as first_of, l
 
 use crate::fault::WorkFault;
 
+/// The number of the worker of a ring's sender, of the first of several senders, or of the first producer behind a
+/// lock; the next ones follow. A graph's handlers have those below it.
+pub const SENDER: usize = 16;
+
 /// How a worker ended.
 #[derive(Clone, Copy, Debug, PartialEq, Eq)]
 pub struct Ended {

@@ -21,7 +21,7 @@ mod waiting;
 
 pub use bell::{Bell, Rings};
 pub use consumer::{BATCH, consume, consume_with, serve};
-pub use ended::{Ended, WorkerFault, first_fault};
+pub use ended::{Ended, SENDER, WorkerFault, first_fault};
 pub use fault::WorkFault;
 pub use gate::{Gate, GateAnswer, OpenGate};
 pub use parking::Parking;

@@ -1,6 +1,5 @@
 //! A measurement over each exchange.
 
-use crate::SENDER;
 use crate::fault::Fault;
 use crate::latency::handling::{noted, start};
 use crate::latency::sending::{Ends, send_all};
@@ -11,7 +10,7 @@ use dr_meaning::{MAX_LIMIT, Outlet};
 use dr_plain_senders::senders_ring;
 use dr_ring::ring;
 use dr_seq::{Event, Size};
-use dr_workers::Bell;
+use dr_workers::{Bell, SENDER};
 use std::alloc::Global;
 use std::rt::Clock;
 use std::sync::{Arc, Wait};

@@ -1,11 +1,10 @@
 //! Events that are sent now and then.
 
-use crate::SENDER;
 use crate::clock::{await_nanos, nanos_since};
 use crate::words::Order;
 use dr_meaning::{Inlet, Refusal};
 use dr_seq::Event;
-use dr_workers::{Bell, OpenGate, Patience, Ringing, WorkFault, produce_with};
+use dr_workers::{Bell, OpenGate, Patience, Ringing, SENDER, WorkFault, produce_with};
 use std::rt::Clock;
 use std::sync::Wait;
 use std::time::Instant;
