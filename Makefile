@@ -26,6 +26,7 @@ try:
 	cd $(program) && rt try -- drive $(CURDIR)/examples/first_event.csv
 
 test:
+	tests/house.py
 	tests/steps_in_laws.sh
 	tests/everything.sh
 

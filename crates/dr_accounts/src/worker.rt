@@ -5,6 +5,7 @@ ghost use Rattle.dr_accounts.specs.Keeping.{Keeps, error_of};
 
 use crate::reporter::{Reporter, part};
 use dr_ring::Receiver;
+use dr_seq::Size;
 use dr_workers::{BATCH, Bell, Gate, Parking, WorkFault, serve};
 use std::alloc::Global;
 use std::marker::PhantomData;
@@ -71,20 +72,20 @@ impl<P: Reporter, G: Gate> Promise<Worked> for PartOf<P, G> {
 
 /// Takes a new handler through all events of an end, up to 256 of them at once. A handler that finds
 /// no memory holds up no other worker: it goes on without taking any more. It parks where nothing
-/// comes, as one that has room for `room` of them, and rings the bell with each completion.
+/// comes, as one that may be handed a whole ring of `size`, and rings the bell with each completion.
 pub fn work<R: Wait, G: Gate, P: Reporter>(
     rt: &R,
     gate: &G,
     who: usize,
     receiver: Receiver,
-    room: usize,
+    size: Size,
     alloc: Global,
     bell: &Bell,
 ) -> Worked
     ensures { Keeps P.goes P.is_new P.failed P.part_of (G.may_stop gate.now who) (G.must_stop gate.now who) receiver result }
 {
     let mut handler = P::begin(alloc);
-    let mut parking = Parking::new(rt, bell, room.min(BATCH).max(1) as u64);
+    let mut parking = Parking::new(rt, bell, size.get().min(BATCH as u64));
     let (receiver, fault) = serve(rt, receiver, gate, who, &mut handler, bell, &mut parking);
     let part = match (part(handler, alloc), fault) {
         (Err(_), _) => Err(WorkFault::Memory),

@@ -131,9 +131,7 @@ pub fn finish<T: Drop>(
 {
     let (ring, sends) = sender.into_left();
     let (_, halts) = halter.into_left();
-    let mut seat = sends.seat;
-    let mut counts = sends.counts;
-    let mut hands = sends.hands;
+    let (mut seat, mut counts, mut hands) = (sends.seat, sends.counts, sends.hands);
     settling::take_in(&ring.table.shared, &mut seat, halts.seat);
     gather(&ring, &mut seat, receivers, &mut counts, &mut hands);
     let row = take_back(

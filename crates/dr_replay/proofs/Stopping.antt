@@ -15,7 +15,7 @@ use Rattle.dr_accounts.specs.Keeping.{error_of}
 use Rattle.dr_replay.proofs.Unrefused.{sender_served}
 use Rattle.dr_replay.specs.declared.lock_workers.Joined.{Joined}
 use Rattle.dr_replay.specs.declared.ring.Ran.{Ran}
-use Rattle.dr_replay.specs.Inside.LockWorkers.{IsJoined}
+use Rattle.dr_replay.specs.Inside.LockWorkers.{IsJoined, endings_in}
 use Rattle.dr_replay.specs.Calls.Workers.{AreServed, AreStopped, IsRun, endings_of, lock_endings, numbered}
 
 -- a worker that ended with a fault
@@ -93,8 +93,7 @@ run_served {size = size} k events s j r b ran is fresh slots limit short first s
 -- so behind a lock
 pub joined_stopped : {L Z : Type 0} (begun : History Event) (may_stop must_stop : ℕ → ℕ → Type 0) (size : ℕ) (scripts : List (Vec Event Z)) (joined : Joined L)
     → IsJoined begun may_stop must_stop size scripts joined
-    → AreStopped (λ who. (passage : ℕ) × may_stop who passage)
-    (lock_endings (error_of joined.journal.part) (error_of joined.replica.part) (error_of joined.business.part) (map (λ s. s.fault) joined.producers.items))
+    → AreStopped (λ who. (passage : ℕ) × may_stop who passage) (endings_in joined)
 joined_stopped begun may_stop must_stop size scripts joined is =
     let at_some_passage : ℕ → Type 0 = λ who. (passage : ℕ) × may_stop who passage in
     lock_stopped at_some_passage (error_of joined.journal.part) (error_of joined.replica.part) (error_of joined.business.part)

@@ -11,7 +11,7 @@ ghost use Rattle.dr_workers.specs.Calls.Stops.{MayStop};
 ghost use Rattle.dr_replay.specs.Calls.LockRuns.{LockRan};
 ghost use Rattle.dr_replay.specs.Calls.Replayed.{IsReportOfMerge, LockWrites, ReplayCounts, ReplayFaultKeeps};
 ghost use Rattle.dr_replay.specs.Calls.Workers.{IsFirstOf, IsFirstOfLock, IsNoRefusal, IsOfAudit, IsOfLock, IsOfMerge, NoProducerHadToStop, lock_endings};
-ghost use Rattle.dr_replay.specs.Inside.LockWorkers.{SaidOfLock, ends_of};
+ghost use Rattle.dr_replay.specs.Inside.LockWorkers.{SaidOfLock, endings_in, ends_of};
 ghost use Rattle.dr_replay.specs.Meaning.Exchange.{CameTo, GoesOnBy, IsOfReplay, lock_setup, setup_for};
 ghost use Rattle.dr_replay.specs.Meaning.Scripts.{scripts_in};
 
@@ -19,7 +19,7 @@ use crate::event_file::read_events;
 use crate::fault::ReplayFault;
 use crate::given_back::Delivered;
 use crate::lock_workers::{Around, Joined, exchange, make_ends};
-use crate::outcome::{PRODUCER, audit_fault, ended, lock_fault, write_report};
+use crate::outcome::{audit_fault, ended, lock_fault, write_report};
 use crate::part::{Agreed, report_of_list};
 use crate::scripts::{scripts, views};
 use dr_accounts::{BUSINESS, JOURNAL, REPLICA, Report, graph};
@@ -27,7 +27,7 @@ use dr_files::Counted;
 use dr_lock::{End, Exchange, Recorded, Shared, audit, finish};
 use dr_meaning::{MAX_LIMIT, Mode};
 use dr_seq::{Event, Size};
-use dr_workers::{Bell, Ended, Gate, WorkFault, first_fault};
+use dr_workers::{Bell, Ended, Gate, SENDER, WorkFault, first_fault};
 use std::alloc::{AllocError, Global};
 use std::io::{Read, Write};
 use std::marker::Brand;
@@ -51,7 +51,7 @@ fn endings(
     all.push(ended(REPLICA, replica))?;
     all.push(ended(BUSINESS, business))?;
     for (p, fault) in producers.iter().enumerate() {
-        all.push(ended(PRODUCER + p, *fault))?;
+        all.push(ended(SENDER + p, *fault))?;
     }
     Ok(all)
 }
@@ -143,12 +143,10 @@ fn settled<L: Exchange<Event>>(
     requires few { length ran.producers.items ≤ 2 ^ 62 }
     ensures text { (sent : List Event) → map (λ v. v.items) scripts.now ≡ scripts_in sent
         → IfOk result (λ report. IsReportOfMerge (GoesOnBy L.begun shared.begun (ends_of ran)) sent (text_of report)) }
-    ensures fine { OnOk result (first_of (lock_endings (error_of ran.journal.part) (error_of ran.replica.part) (error_of ran.business.part)
-        (map (λ s. s.fault) ran.producers.items)) ≡ None) }
+    ensures fine { OnOk result (first_of (endings_in ran) ≡ None) }
     ensures producers { OnOk result (All (λ fault. fault ≡ None) (map (λ s. s.fault) ran.producers.items)) }
     ensures refused { IfErr result IsNoRefusal }
-    ensures first { IfErr result (IsOfLock (lock_endings (error_of ran.journal.part) (error_of ran.replica.part) (error_of ran.business.part)
-        (map (λ s. s.fault) ran.producers.items)) (GoesOnBy L.begun shared.begun (ends_of ran)) (map (λ v. v.items) scripts.now)) }
+    ensures first { IfErr result (IsOfLock (endings_in ran) (GoesOnBy L.begun shared.begun (ends_of ran)) (map (λ v. v.items) scripts.now)) }
 {
     let Joined {
         halter,

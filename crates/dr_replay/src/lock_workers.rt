@@ -9,12 +9,11 @@ ghost use Rattle.dr_replay.specs.Inside.LockWorkers.{AreSent, AreUnused, ComesBa
 ghost use Rattle.dr_replay.specs.Meaning.Exchange.{IsHalters};
 
 use crate::given_back::{Delivered, Handled, HandledBy, SentBy};
-use crate::outcome::PRODUCER;
 use crate::part::Listing;
 use dr_accounts::{BUSINESS, Business, JOURNAL, Journal, REPLICA, Replica, Reporter};
 use dr_lock::{End, Exchange, LockedInlet, LockedOutlet, Shared, halt};
 use dr_seq::{Event, Size};
-use dr_workers::{BATCH, Bell, Gate, Parking, Ringing, WorkFault, produce_with, serve};
+use dr_workers::{BATCH, Bell, Gate, Parking, Ringing, SENDER, WorkFault, produce_with, serve};
 use std::alloc::{AllocError, Global};
 use std::sync::Wait;
 use std::sync::ledger::Ledger;
@@ -181,15 +180,7 @@ fn send<L: Exchange<Event>, R: Wait, G: Gate>(
     let locked = LockedInlet::new(rt, around.shared, end, p as u64);
     let mut inlet = Ringing::new(locked, bell);
     let mut parking = Parking::new(rt, bell, cut);
-    let produced = produce_with(
-        rt,
-        &mut inlet,
-        gate,
-        PRODUCER + p,
-        script,
-        cut,
-        &mut parking,
-    );
+    let produced = produce_with(rt, &mut inlet, gate, SENDER + p, script, cut, &mut parking);
     let back = inlet.into_end();
     let end = back.into_end();
     Delivered {

@@ -13,9 +13,6 @@ use dr_lock::AuditFault;
 use dr_workers::{Ended, WorkFault, WorkerFault};
 use std::io::Write;
 
-/// The number of the sender's worker, and of the first producer's.
-pub const PRODUCER: usize = 16;
-
 /// How a worker ended.
 pub fn ended(who: usize, fault: Option<WorkFault>) -> Ended
     ensures { result ≡ record { who = who; fault = fault } }

@@ -19,11 +19,11 @@ ghost use Rattle.dr_workers.specs.Meaning.Work.{LeavesNothingOpen};
 ghost use Rattle.dr_workers.specs.declared.fault.WorkFault.TheVariants.{Stopped};
 ghost use Rattle.dr_replay.specs.Meaning.EventFile.{events_of as events_in};
 ghost use Rattle.dr_replay.specs.Calls.RingRuns.{CameOf};
-ghost use Rattle.dr_replay.specs.Calls.Workers.{AreThrough, CameTogether, IsFirstOf, IsFirstOfSome, IsOfWorkers, IsRun, IsSending, NoneHadToStop, Says, UnlessMemory, endings_of, ends_of, ring_workers};
+ghost use Rattle.dr_replay.specs.Calls.Workers.{AreThrough, CameTogether, ComesOf, IsFirstOf, IsFirstOfSome, IsOfWorkers, IsSending, NoneHadToStop, Says, UnlessMemory, endings_of, ends_of, ring_workers};
 
 use crate::event_file::read_events;
 use crate::fault::ReplayFault;
-use crate::outcome::{PRODUCER, replay_fault, write_report};
+use crate::outcome::{replay_fault, write_report};
 use dr_accounts::{
     BUSINESS, Business, JOURNAL, Journal, PartOf, REPLICA, Replica, Report, Worked, graph, work,
 };
@@ -31,7 +31,9 @@ use dr_files::{Counted, FileFault};
 use dr_meaning::MAX_LIMIT;
 use dr_ring::{Halter, Receiver, Sender, ring, settle};
 use dr_seq::{Event, Size};
-use dr_workers::{Bell, Ended, Gate, Parking, Produced, Ringing, first_fault, produce_with};
+use dr_workers::{
+    Bell, Ended, Gate, Parking, Produced, Ringing, SENDER, first_fault, produce_with,
+};
 use std::alloc::{AllocError, Global};
 use std::io::{Read, Write};
 use std::sync::Wait;
@@ -101,7 +103,7 @@ fn sent<R: Wait, G: Gate>(
     // With less than the ring in a claim the handlers have events while the sender writes.
     let cut = (size.get() / 4).max(1);
     let mut parking = Parking::new(rt, bell, size.get());
-    produce_with(rt, sender, gate, PRODUCER, events, cut, &mut parking)
+    produce_with(rt, sender, gate, SENDER, events, cut, &mut parking)
 }
 
 // Sends the events, then closes, unless the sender was refused a call while a claim was open, and joins
@@ -113,20 +115,23 @@ fn served<R: Threads + Wait, G: Gate, J: Promise<Worked>, K: Promise<Worked>, B:
     size: Size,
     sender: Sender,
     bell: &Bell,
-    journal: PromisedHandle<Worked, J>,
-    replica: PromisedHandle<Worked, K>,
-    business: PromisedHandle<Worked, B>,
+    handles: (
+        PromisedHandle<Worked, J>,
+        PromisedHandle<Worked, K>,
+        PromisedHandle<Worked, B>,
+    ),
 ) -> Ran
     ensures sending { IsSending (max (size / 4) 1) events.now (G.may_stop gate.now 16) (G.must_stop gate.now 16) sender result.sender result.produced }
     ensures closed { sender.knows.sent.pending ≡ [] → result.sender.knows.closed ≡ true }
-    ensures journal { J.kept_by journal.promise result.journal }
-    ensures replica { K.kept_by replica.promise result.replica }
-    ensures business { B.kept_by business.promise result.business }
+    ensures journal { J.kept_by handles.0.promise result.journal }
+    ensures replica { K.kept_by handles.1.promise result.replica }
+    ensures business { B.kept_by handles.2.promise result.business }
 {
     let mut live = Ringing::new(sender, bell);
     let produced = sent(rt, gate, events, size, &mut live, bell);
     let mut sender = live.into_end();
     close(&mut sender, bell);
+    let (journal, replica, business) = handles;
     let journal = journal.join(rt);
     let replica = replica.join(rt);
     let business = business.join(rt);
@@ -148,41 +153,35 @@ fn exchange<R: Threads + Wait + Sync, G: Gate + Sync>(
     events: &[Event],
     size: Size,
     sender: Sender,
+    receivers: (Receiver, Receiver, Receiver),
     bell: &Bell,
-    journal: Receiver,
-    replica: Receiver,
-    business: Receiver,
 ) -> Result<Ran, Sender>
-    ensures run { IfOk result (λ ran. IsRun (G.may_stop gate.now) (G.must_stop gate.now) size events.now sender journal replica business ran) }
-    ensures unsent { IfErr result (ClosesOnceDone sender) }
+    ensures { ComesOf (G.may_stop gate.now) (G.must_stop gate.now) size events.now sender receivers result }
 {
+    let (journal, replica, business) = receivers;
     thread::scope(
         thread::scope_env(),
         rt,
         move |scope| -> Result<Ran, Sender>
-            ensures run { IfOk result (λ ran. IsRun (G.may_stop gate.entry.now) (G.must_stop gate.entry.now) size events.entry.now sender journal replica business ran) }
-            ensures unsent { IfErr result (ClosesOnceDone sender) }
+            ensures { ComesOf (G.may_stop gate.entry.now) (G.must_stop gate.entry.now) size events.entry.now sender (journal, replica, business) result }
         {
-            let room = size.get() as usize;
             let promise = PartOf::<Journal, G>::of(&journal, gate, JOURNAL);
             let journal = scope.spawn_with(promise, move || {
-                work::<R, G, Journal>(rt, gate, JOURNAL, journal, room, alloc, bell)
+                work::<R, G, Journal>(rt, gate, JOURNAL, journal, size, alloc, bell)
             });
             let promise = PartOf::<Replica, G>::of(&replica, gate, REPLICA);
             let replica = scope.spawn_with(promise, move || {
-                work::<R, G, Replica>(rt, gate, REPLICA, replica, room, alloc, bell)
+                work::<R, G, Replica>(rt, gate, REPLICA, replica, size, alloc, bell)
             });
             let promise = PartOf::<Business, G>::of(&business, gate, BUSINESS);
             let business = scope.spawn_with(promise, move || {
-                work::<R, G, Business>(rt, gate, BUSINESS, business, room, alloc, bell)
+                work::<R, G, Business>(rt, gate, BUSINESS, business, size, alloc, bell)
             });
             let (Ok(journal), Ok(replica), Ok(business)) = (journal, replica, business) else {
                 return Err(abandoned(sender, bell));
             };
-            let ran = served(
-                rt, gate, events, size, sender, bell, journal, replica, business,
-            );
-            Ok(ran)
+            let handles = (journal, replica, business);
+            Ok(served(rt, gate, events, size, sender, bell, handles))
         },
     )
 }
@@ -205,7 +204,7 @@ fn endings(ran: &Ran) -> [Ended; 4]
             fault: ran.business.fault(),
         },
         Ended {
-            who: PRODUCER,
+            who: SENDER,
             fault: ran.produced.fault,
         },
     ]
@@ -280,11 +279,9 @@ fn report<R: Threads + Wait + Sync, G: Gate + Sync>(
     let Ok((sender, receivers, halter)) = ring(alloc, &graph, size, MAX_LIMIT) else {
         return Err(ReplayFault::File(FileFault::Memory));
     };
-    let (journal, replica, business) = three(receivers);
+    let receivers = three(receivers);
     let bell = Bell::new();
-    let ran = exchange(
-        rt, alloc, gate, events, size, sender, &bell, journal, replica, business,
-    );
+    let ran = exchange(rt, alloc, gate, events, size, sender, receivers, &bell);
     match ran {
         Ok(ran) => finish(alloc, ran, halter),
         Err(_sender) => Err(ReplayFault::from(AllocError)),

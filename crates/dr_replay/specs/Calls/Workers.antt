@@ -63,6 +63,11 @@ pub record IsRun (may_stop must_stop : ℕ → ℕ → Type 0) (size : ℕ) (eve
   pub replica : KeepsReplica (may_stop 1) (must_stop 1) r ran.replica
   pub business : KeepsBusiness (may_stop 2) (must_stop 2) b ran.business
 
+-- what comes of an exchange: such a run; or, where a thread is lacking, its sender, which closed it and sent nothing
+abbrev pub ComesOf : (may_stop must_stop : ℕ → ℕ → Type 0) → ℕ → List Event → SenderEnd → ReceiverEnd × ReceiverEnd × ReceiverEnd → Result Ran SenderEnd → Type 0
+ComesOf may_stop must_stop size events s ends (Ok ran) = IsRun may_stop must_stop size events s ends.0 ends.1 ends.2 ran
+ComesOf may_stop must_stop size events s ends (Err sender) = ClosesOnceDone s sender
+
 -- what is told of some events, unless a worker has a fault
 pub record Says (events : List Event) (ran : Ran) : Type 0 where
   pub all : ran.produced.fault ≡ None → ran.sender.knows.sent.published ≡ events

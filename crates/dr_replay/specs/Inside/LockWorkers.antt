@@ -3,9 +3,11 @@ use Rattle.std.specs.Prelude.{◌≡◌, ℕ, ◌+◌, ◌<◌, ◌/◌, max, Li
 use Rattle.dr_seq.specs.declared.event.Event.{Event}
 use Rattle.dr_lock.specs.Calls.Lock.{EndView, no_calls}
 use Rattle.dr_lock.specs.Meaning.History.{History}
+use Rattle.dr_workers.specs.declared.ended.Ended.{Ended}
 use Rattle.dr_accounts.specs.Keeping.{error_of}
 use Rattle.dr_replay.specs.Calls.LockRuns.{CameOfLock}
 use Rattle.dr_replay.specs.Calls.LockWorkers.{HasHandled, HasSent, list_of}
+use Rattle.dr_replay.specs.Calls.Workers.{lock_endings}
 use Rattle.dr_replay.specs.Meaning.Exchange.{IsHalters}
 use Rattle.dr_replay.specs.declared.given_back.Delivered.{Delivered}
 use Rattle.dr_replay.specs.declared.fault.ReplayFault.{ReplayFault}
@@ -46,6 +48,11 @@ halter_of (Err halter) = halter
 -- the ends of an exchange, as they came back
 abbrev pub ends_of : {L : Type 0} → Joined L → List (EndView Event)
 ends_of joined = joined.halter ∷ joined.journal.end ∷ joined.replica.end ∷ joined.business.end ∷ map (λ s. s.end) joined.producers.items
+
+-- how their workers ended
+abbrev pub endings_in : {L : Type 0} → Joined L → List Ended
+endings_in joined =
+    lock_endings (error_of joined.journal.part) (error_of joined.replica.part) (error_of joined.business.part) (map (λ s. s.fault) joined.producers.items)
 
 -- a text is the report of what came of a run; so far nothing is written
 abbrev pub SaidOfLock : {A : Type 0} → (A → List ℕ) → (ℕ → ℕ → Type 0) → (ℕ → ℕ → Type 0) → ℕ → Result A ReplayFault → List Event → Type 0

@@ -1,9 +1,7 @@
 use Rattle.std.proofs.Common.{◌∙◌, map, subst, sym}
 use Rattle.std.proofs.lemmas.Result.{err_from_is_err_and}
-use Rattle.dr_accounts.specs.Keeping.{error_of}
 use Rattle.dr_accounts.specs.Parts.{text_of}
-use Rattle.dr_replay.specs.Calls.Workers.{lock_endings}
-use Rattle.dr_replay.specs.Inside.LockWorkers.{ends_of}
+use Rattle.dr_replay.specs.Inside.LockWorkers.{endings_in, ends_of}
 use Rattle.dr_replay.specs.Meaning.Exchange.{GoesOnBy}
 use Rattle.dr_replay.proofs.Endings.{audit_names_none, ends_of_audit, first_of_parts, none_of_parts, reports_more}
 use Rattle.dr_replay.proofs.lock.settled.Goals as goal
@@ -23,8 +21,7 @@ returns-clause-text g c = λ sent are.
 pub returns-clause-first : goal.returns-clause-first
 returns-clause-first g c =
     ends_of_audit (λ h same. subst (GoesOnBy g.L.Exchange.begun c.args.shared.begun (ends_of c.args.ran)) (sym same) c.in_ok-recorded.ensures.history)
-    (lock_endings (error_of c.args.ran.journal.part) (error_of c.args.ran.replica.part) (error_of c.args.ran.business.part)
-    (map (λ s. s.fault) c.args.ran.producers.items)) (map (λ v. v.items) c.args.scripts.now) c.audited.result
+    (endings_in c.args.ran) (map (λ v. v.items) c.args.scripts.now) c.audited.result
     (none_of_parts c.fault_in.ensures c.fault_in-2.ensures c.fault_in-3.ensures (c.as_slice.ensures.value ∙ c.in_ok-recorded.ensures.faults)
     c.in_ok-check.ensures.fine) c.audited.ensures.fault
 
