@@ -6,6 +6,8 @@ ghost use Rattle.dr_drive.specs.Inside.Faults.{fault_at};
 
 use dr_files::{FileFault, Named};
 use dr_graph::GraphFault;
+use dr_meaning::OpenFault;
+use dr_seq::SizeFault;
 use std::alloc::AllocError;
 use std::fmt;
 
@@ -38,9 +40,9 @@ impl Named for Cause {
         match self {
             Cause::NoRing => "no ring",
             Cause::BadRecord => "bad record",
-            Cause::BadSize => "bad-size",
-            Cause::BadProducers => "bad-producers",
-            Cause::BadLimit => "bad-limit",
+            Cause::BadSize => SizeFault.name(),
+            Cause::BadProducers => OpenFault::BadProducers.name(),
+            Cause::BadLimit => OpenFault::BadLimit.name(),
             Cause::NoGroup => "no group",
             Cause::Graph(fault) => fault.name(),
             Cause::NoStart => "no start",
@@ -52,8 +54,7 @@ impl fmt::Display for Cause {
     ghost output = { λ cause. Some (cause_name cause) };
 
     fn fmt<W: fmt::Write>(&self, f: &mut fmt::Formatter<W>) -> fmt::Result {
-        let name = self.name();
-        write!(f, "{name}")
+        f.write_str(self.name())
     }
 }
 

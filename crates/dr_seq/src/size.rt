@@ -1,6 +1,6 @@
 //! How many slots a ring has.
 
-ghost use Rattle.std.specs.Prelude.{◌≡◌, ◌%◌, ◌/◌, IfOk, IsOk, IsErr, codes};
+ghost use Rattle.std.specs.Prelude.{◌≡◌, ◌%◌, ◌/◌, IfOk, IsOk, IsErr, Some, codes};
 ghost use Rattle.dr_seq.specs.Size.{IsSize};
 
 use std::error::Error;
@@ -94,6 +94,8 @@ impl SizeFault {
 }
 
 impl fmt::Display for SizeFault {
+    ghost output = { λ _. Some (codes "bad-size") };
+
     fn fmt<W: fmt::Write>(&self, f: &mut fmt::Formatter<W>) -> fmt::Result {
         f.write_str(self.name())
     }
