@@ -60,12 +60,18 @@ def goals_of(output, path, why):
     return [it[1] for it in (re.match(r"`([^`]+)`", one) for one in reversed(own)) if it]
 
 
-def verdict(output, edit):
-    """Returns what a check says of an edit: the goal that refuses it, or None where that is not told. It is one of the edit's own
-    function, or, where the edit is not of one body and so stands alone, of its judge or else of any."""
+def told(output, edit):
+    """Returns what a check tells of an edit's own function, by its path, or, where the edit is not of one body and so stands alone, of
+    its judge or else of all functions."""
     said = dict(TELLS.findall(output))
-    for path in [path_in(said, edit)] if edit.is_of_a_body else [it for it in said if it.endswith(edit.judge)]:
-        if path and (goal := goal_of(output, path, said[path], edit.goal)):
+    paths = [path_in(said, edit)] if edit.is_of_a_body else [it for it in said if it.endswith(edit.judge)]
+    return {it: said[it] for it in paths if it}
+
+
+def verdict(output, edit):
+    """Returns what a check says of an edit: the goal of its function, judge or any that refuses it, or None where that is not told."""
+    for path, why in told(output, edit).items():
+        if goal := goal_of(output, path, why, edit.goal):
             return f"{named(path, edit)}, goal {goal}"
     return None
 

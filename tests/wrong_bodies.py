@@ -273,6 +273,8 @@ class Trial:
         for edit in edits:
             if goal := verdicts.verdict(said, edit):
                 self.crates[edit.crate].failed[edit] = f"with nothing changed {goal} is not proved"
+            elif only(edits) and not verdicts.told(said, edit):
+                self.crates[edit.crate].failed[edit] = "with nothing changed no check tells its function"
             else:
                 self.crates[edit.crate].refused[edit] = ""
 
@@ -364,6 +366,8 @@ def main():
     manners.add_argument("--control", dest="manner", action="store_const", const="control", help="apply none, and see that no function is told as not proved")
     parser.add_argument("--over", metavar="FILE", help="over the libraries of the rt ci whose words go to FILE")
     asked = parser.parse_args()
+    if asked.over and asked.manner == "alone":
+        parser.error("--alone has rt must-fail judge over what this proves itself, so it takes no --over")
     return run(TOP, asked.crate, asked.manner, lambda it: print(it, flush=True), asked.over)
 
 

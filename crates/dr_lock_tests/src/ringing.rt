@@ -35,12 +35,12 @@ pub fn check_strokes(rt: &impl Abort, strokes: &Strokes, wanted: u64) {
     check(rt, strokes.count.load(Ordering::SeqCst), wanted);
 }
 
-// An end that hears how many strokes there were when it was last asked to publish or to complete.
+/// An end that hears how many strokes there were when it was last asked to publish or to complete.
 #[derive(Drop)]
-struct Hearer<'a, T> {
+pub struct Hearer<'a, T> {
     end: T,
     strokes: &'a Strokes,
-    heard: Option<u64>,
+    pub heard: Option<u64>,
 }
 
 impl<'a, T> Model for Hearer<'a, T> {
@@ -49,7 +49,7 @@ impl<'a, T> Model for Hearer<'a, T> {
     ghost view = { λ hearer. hearer.end };
 }
 
-fn hearing<T>(end: T, strokes: &Strokes) -> Hearer<'_, T>
+pub fn hearing<T>(end: T, strokes: &Strokes) -> Hearer<'_, T>
     ensures { result ≡ end }
 {
     Hearer {

@@ -4,7 +4,7 @@ ghost use Rattle.std.specs.Prelude.{◌<◌};
 
 use crate::checks::check;
 use crate::histories::word;
-use crate::ringing::{check_strokes, no_strokes};
+use crate::ringing::{check_strokes, hearing, no_strokes};
 use dr_meaning::{Claimed, Handler, Inlet, Outlet, Polled, Refusal, Trouble};
 use dr_seq::{Event, Size};
 use dr_workers::{
@@ -350,13 +350,13 @@ fn consumers(rt: HostRuntime) {
     check_taken(&rt, &OpenGate, &mut [], NEVER, refused, [0, 0, 0]);
 }
 
-// The end hands out one event, two, and three, and each batch is completed once.
+// The end hands out one event, two, and three, and hears one stroke after each completion.
 #[test]
 fn a_served_handler_rings_with_each_completion(rt: HostRuntime) {
     let (strokes, shown) = (no_strokes(), AtomicU64::new(0));
     let mut adder = Adder::new(&shown);
-    let dealer = six_events(&shown, NEVER);
-    let (_dealer, fault) = serve(
+    let dealer = hearing(six_events(&shown, NEVER), &strokes);
+    let (dealer, fault) = serve(
         &rt,
         dealer,
         &OpenGate,
@@ -367,6 +367,7 @@ fn a_served_handler_rings_with_each_completion(rt: HostRuntime) {
     );
     check(&rt, fault, None);
     check(&rt, adder.seen(), [6, 1, 15]);
+    check(&rt, dealer.heard, Some(2));
     check_strokes(&rt, &strokes, 3);
 }
 
