@@ -7,8 +7,8 @@ import re
 import sys
 
 TOP = os.path.dirname(os.path.dirname(os.path.abspath(__file__)))
-FUNCTION = re.compile(r"( *)(?:pub(?:\([a-z]+\))? )?(?:const |unsafe |extern \"C\" )*fn (\w+)")
-LOOP = re.compile(r"^ *(?:'\w+: )?(?:for .* in .*|while .*|loop) \{$")
+FUNCTION = re.compile(r"( *)(?:pub(?:\([\w: ]+\))? )?(?:const |unsafe |extern \"C\" )*fn (\w+)")
+LOOP = re.compile(r"^ *(?:[^/]*(?:=|=>) )?(?:'\w+: )?(?:(?:for|while) .*|loop \{$)")
 LINES_OF_A_FUNCTION, LINES_OF_A_FILE, LETTERS, ONE_LONG_IN, UNDERSCORES = 39, 499, 160, 25, 7
 
 

@@ -283,6 +283,7 @@ def over_a_library(top):
             os.remove(f"{top}/crates/toy/wrong/{name}.edit")
     alone = {"takes_a_name_away": "NOT REFUSED: toy/takes_a_name_away: refused, as it must be (only"}
     failed += failures(top, {}, "1 left out, 0 not", manner="control")
+    failed += failures(top, {}, "1 left out, 0 not", "rt: toy proved\n", manner="control")
     return failed + failures(top, alone, "0 refused, 1 not", manner="alone")
 
 
