@@ -169,7 +169,7 @@ def line_picture(panels, x_label, x_ticks, y_label):
     logarithmic(grid[0][0].xaxis, x_ticks)
     width = x_ticks[-1] / x_ticks[0]
     longest = max(len(LOOKS[program].name) for _, lines in panels for program in lines)
-    grid[0][0].set_xlim(x_ticks[0] / width**0.05, x_ticks[-1] * width ** (0.04 * longest - 0.16))
+    grid[0][0].set_xlim(x_ticks[0] / width**0.05, x_ticks[-1] * width ** (0.032 * longest))
     for axes in grid[-1]:
         axes.set_xlabel(x_label)
     for axes in grid[:, 0]:
