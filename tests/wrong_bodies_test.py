@@ -282,9 +282,29 @@ def over_a_library(top):
         if name != "takes_a_name_away":
             os.remove(f"{top}/crates/toy/wrong/{name}.edit")
     alone = {"takes_a_name_away": "NOT REFUSED: toy/takes_a_name_away: refused, as it must be (only"}
-    failed += failures(top, {}, "1 left out, 0 not", manner="control")
-    failed += failures(top, {}, "1 left out, 0 not", "rt: toy proved\n", manner="control")
+    failed += over_nothing_applied(top)
     return failed + failures(top, alone, "0 refused, 1 not", manner="alone")
+
+
+def over_nothing_applied(top):
+    """Sees that a control applies no edit, by itself and over `rt ci`, and fails where its checks say nothing."""
+    of_rt, applied, failed = wrong_bodies.Libraries.check, [], 0
+
+    def noting(*given, is_applied=True, **how):
+        applied.append(is_applied)
+        return of_rt(*given, is_applied=is_applied, **how)
+
+    wrong_bodies.Libraries.check = noting
+    for words in (None, "rt: toy proved\n"):
+        failed += failures(top, {}, "1 left out, 0 not", words, manner="control")
+    if applied != [False, False]:
+        failed += 1
+        print(f"FAILED: of two checks of controls {applied} applied an edit")
+    silent = {"takes_a_name_away": "NOT REFUSED: toy/takes_a_name_away: with nothing changed no check tells its function"}
+    wrong_bodies.Libraries.check = lambda *_, **__: ""
+    failed += failures(top, silent, "0 left out, 1 not", manner="control")
+    wrong_bodies.Libraries.check = of_rt
+    return failed
 
 
 def over_answers(top):
