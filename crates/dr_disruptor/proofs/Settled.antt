@@ -23,7 +23,7 @@ use Rattle.dr_threads.specs.Serving.{endings_from, given_end, given_handler}
 use Rattle.dr_threads.proofs.Settled.{end_back, last_ending, many_back}
 use Rattle.dr_threads.proofs.Settled as threads
 use Rattle.dr_disruptor.specs.Running.{IsRan, Ran, new_receiver, receivers_in, sender_in}
-use Rattle.dr_disruptor.specs.Serving.{AreKept, Served, Worker, is_told, received_by}
+use Rattle.dr_disruptor.specs.Serving.{GaveBack, Served, Worker, is_told, received_by}
 use Rattle.dr_disruptor.proofs.Polled.{polled, saw_published}
 
 -- a sender that stays at its place has the same ends beside it
@@ -51,7 +51,7 @@ fresh_at k t a (suc n) (suc h) below =
 answers : AnswersWork receiver_does received_by
 answers = record { polls = ring.polls; takes = ring.takes; fits = ring.fits; completes = ring.completes; completed = ring.completed }
 
-module _ {A : Type 0} (goes : Relation Event A) (s : SenderEnd) (ws : List (Worker A)) (ss : List (Served A)) (kept : AreKept goes ws ss) where
+module _ {A : Type 0} (goes : Relation Event A) (s : SenderEnd) (ws : List (Worker A)) (ss : List (Served A)) (kept : GaveBack goes ws ss) where
   abbrev receivers : List ReceiverEnd
   receivers = map (λ (b : Served A). b.outlet) ss
 

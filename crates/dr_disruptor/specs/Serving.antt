@@ -31,8 +31,8 @@ abbrev pub Serving : {A : Type 0} → Relation Event A → A → ReceiverEnd →
 Serving goes start given back = serving.Serving receiver_place receiver_does (λ e. Some (received_by e)) is_told goes start given back
 
 -- each worker gave back what it promised, in their order
-abbrev pub AreKept : {A : Type 0} → Relation Event A → List (Worker A) → List (Served A) → Type 0
-AreKept goes workers served = serving.AreKept receiver_place receiver_does (λ e. Some (received_by e)) is_told goes workers served
+abbrev pub GaveBack : {A : Type 0} → Relation Event A → List (Worker A) → List (Served A) → Type 0
+GaveBack goes workers served = serving.GaveBack receiver_place receiver_does (λ e. Some (received_by e)) is_told goes workers served
 
 -- a ring of a graph and so many slots, for as many sequences as there may be
 abbrev pub shape_of : List (List ℕ) → ℕ → Shape

@@ -8,7 +8,7 @@ ghost use Rattle.dr_ring.specs.Meaning.Moments.{fresh_sender};
 ghost use Rattle.dr_threads.specs.Serving.{endings_from, given_end, given_handler};
 ghost use Rattle.dr_threads.specs.declared.fault.RunFault.TheVariants as fault;
 ghost use Rattle.dr_disruptor.specs.Refused.{LeavesUnsent, refusal_of};
-ghost use Rattle.dr_disruptor.specs.Serving.{AreKept, shape_of};
+ghost use Rattle.dr_disruptor.specs.Serving.{GaveBack, shape_of};
 
 use dr_graph::Graph;
 use dr_meaning::{Handler, MAX_LIMIT};
@@ -127,7 +127,7 @@ pub(crate) fn joined<R: Threads, H: Handler<Event> + Drop>(
     workers: Vec<Worker<H>>,
 ) -> Result<Vec<Served<Receiver, H>>, AllocError>
     ensures closes { ClosesOnceDone sender.old sender.new }
-    ensures kept { IfOk result (λ served. AreKept H.goes workers.items served.items) }
+    ensures kept { IfOk result (λ served. GaveBack H.goes workers.items served.items) }
 {
     let _done = sender.call(|end| end.close());
     join(rt, workers)

@@ -84,7 +84,7 @@ module _ {L R A : Type 0} (begun : History Event) (goes : Relation Event A) wher
 
   -- so all did the jobs that they were given
   pub are_served : (workers : List (Worker L R A)) (backs : List (Served (LockedOutlet Event L R) (Watching A))) (served : List (Returned A))
-      → threads.AreKept number does shows told (Watches goes) workers backs → served ≡ map with_end backs → AreServed begun goes (map given_job workers) served
+      → threads.GaveBack number does shows told (Watches goes) workers backs → served ≡ map with_end backs → AreServed begun goes (map given_job workers) served
   are_served workers backs served kept is = record {
     many = ap length is ∙ length-map backs with_end ∙ kept.many ∙ sym (length-map workers given_job);
     each = λ h one at.

@@ -29,7 +29,7 @@ use Rattle.dr_disruptor_senders.specs.declared.sending.FeedsPromise.{FeedsPromis
 use Rattle.dr_disruptor_senders.specs.declared.sending.SendsPromise.{SendsPromise}
 use Rattle.dr_disruptor_senders.specs.declared.sending.Sent.{Sent}
 use Rattle.dr_disruptor_senders.specs.Running.{IsJoined, JoinsAll, Ran}
-use Rattle.dr_disruptor_senders.specs.Serving.{AreGiven, AreKept, AreSent, Feeder, HaltsOnly, LeavesSender, Producer, Sending, SendsFeed, SendsScript, Served, Worker, fed_sender, given_feed, given_script, given_sender, given_size, is_told, received_by}
+use Rattle.dr_disruptor_senders.specs.Serving.{AreGiven, GaveBack, AreSent, Feeder, HaltsOnly, LeavesSender, Producer, Sending, SendsFeed, SendsScript, Served, Worker, fed_sender, given_feed, given_script, given_sender, given_size, is_told, received_by}
 use Rattle.dr_threads.specs.Endings.{refusal_of}
 
 -- each sender's worker gave its end back
@@ -54,7 +54,7 @@ senders_back sends ss rs t sent stay are all = record {
 
 -- so are what handlers' workers gave back
 pub receivers_back : {A : Type 0} (goes : Relation Event A) (ss : List (SenderEnd Event)) (t : HalterStand Event) (ws : List (Worker A))
-    (served : List (Served A)) → AreKept goes ws served → AreAllEnds ss (map given_end ws) t → AreAllEnds ss (map (λ (b : Served A). b.outlet) served) t
+    (served : List (Served A)) → GaveBack goes ws served → AreAllEnds ss (map given_end ws) t → AreAllEnds ss (map (λ (b : Served A). b.outlet) served) t
 receivers_back goes ss t ws served kept all = record {
   senders = all.senders;
   receivers = many_back receiver_place receiver_does (λ e. Some (received_by e)) is_told goes ws served kept ∙ all.receivers;

@@ -24,7 +24,7 @@ use Rattle.dr_threads.specs.declared.ran.Ran as threads
 use Rattle.dr_threads.specs.Handlers.{AreServed}
 use Rattle.dr_threads.specs.Serving.{endings_from}
 use Rattle.dr_disruptor_senders.specs.declared.sending.Sent.{Sent}
-use Rattle.dr_disruptor_senders.specs.Serving.{AreKept, HaltsOnly, Sending, Served, Worker, is_told, received_by, sender_endings}
+use Rattle.dr_disruptor_senders.specs.Serving.{GaveBack, HaltsOnly, Sending, Served, Worker, is_told, received_by, sender_endings}
 
 -- what came of a run over a ring
 abbrev pub Ran : Type 0 → Type 0
@@ -93,7 +93,7 @@ IsRan goes shape scripts starts ran = (strip : Ptr) × IsRanOver (PublishesScrip
 pub record IsJoined {A : Type 0} (goes : Relation Event A) (workers : List (Worker A)) (sent : List Sent) (halter : HalterStand Event)
     (ran : Ran A) : Type 0 where
   pub served : List (Served A)
-  pub kept : AreKept goes workers served
+  pub kept : GaveBack goes workers served
   pub after : HalterStand Event
   pub halts : HaltsOnly halter after
   pub ends : AreSettled ran (map (λ s. s.sender) sent) (map (λ s. s.outlet) served) after

@@ -54,8 +54,8 @@ abbrev pub Worker : Type 0 → Type 0
 Worker A = serving.Worker (ReceiverEnd Event) A
 
 -- each worker gave back what it promised, in their order
-abbrev pub AreKept : {A : Type 0} → Relation Event A → List (Worker A) → List (Served A) → Type 0
-AreKept goes workers served = serving.AreKept receiver_place receiver_does (λ e. Some (received_by e)) is_told goes workers served
+abbrev pub GaveBack : {A : Type 0} → Relation Event A → List (Worker A) → List (Served A) → Type 0
+GaveBack goes workers served = serving.GaveBack receiver_place receiver_does (λ e. Some (received_by e)) is_told goes workers served
 
 -- The senders.
 

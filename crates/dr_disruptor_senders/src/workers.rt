@@ -8,7 +8,7 @@ ghost use Rattle.dr_plain_senders.specs.Calls.Making.{AreFreshEnds};
 ghost use Rattle.dr_plain_senders.specs.Calls.Settling.{AreAllEnds};
 ghost use Rattle.dr_plain_senders.specs.Meaning.Shape.{IsShape};
 ghost use Rattle.dr_threads.specs.Serving.{given_end, given_handler};
-ghost use Rattle.dr_disruptor_senders.specs.Serving.{AreGiven, AreKept, AreSent, HaltsOnly, SendsFeed, SendsScript, fed_sender, given_feed, given_script, given_sender, given_size, sender_endings, shape_of};
+ghost use Rattle.dr_disruptor_senders.specs.Serving.{AreGiven, GaveBack, AreSent, HaltsOnly, SendsFeed, SendsScript, fed_sender, given_feed, given_script, given_sender, given_size, sender_endings, shape_of};
 ghost use Rattle.dr_threads.specs.Endings.{refusal_of};
 
 use crate::sending::{Feed, FeedsPromise, SendsPromise, Sent, send, send_by};
@@ -253,7 +253,7 @@ pub(crate) fn joined<R: Threads, H: Handler<Event> + Drop>(
     workers: Vec<Worker<H>>,
 ) -> Result<Vec<Served<Receiver<Event>, H>>, AllocError>
     ensures halts { HaltsOnly halter.old halter.new }
-    ensures kept { IfOk result (λ served. AreKept H.goes workers.items served.items) }
+    ensures kept { IfOk result (λ served. GaveBack H.goes workers.items served.items) }
 {
     halter.call(|end| end.halt());
     join(rt, workers)

@@ -30,7 +30,7 @@ use Rattle.dr_plain.specs.Calls.Sending.{gate_looks, FoundRoom, LooksToClaim, Tr
 use Rattle.dr_plain.specs.Inside.Scans.{sender_saw, more_claimed, LooksAtFinals, IsEnough, IsShort}
 use Rattle.dr_plain.specs.Inside.Fits.{IsSeenLeast, SenderFields, SenderFits, TokensFit, no_lents, open_slots}
 use Rattle.dr_plain.specs.Inside.Hands.{with_hand}
-use Rattle.dr_plain.specs.Inside.Lending.{lanes, laid_between, AreKept, AreWhole, SameBut}
+use Rattle.dr_plain.specs.Inside.Lending.{lanes, laid_between, TokensFitBetween, AreWhole, SameBut}
 use Rattle.dr_plain.specs.Inside.Noted.{Noted, writes_from}
 use Rattle.dr_plain.specs.Inside.Seats.{Hand, taken_by_claim}
 use Rattle.dr_plain.specs.Inside.Views.{sender_end}
@@ -142,7 +142,7 @@ module _ {T : Type 0} where
   -- what is to be collected is kept
   pub kept_claimed : (r : SenderRecord T) (n : ℕ) (seen : List Look) (tokens : List (Token T)) → claimed r + n ≤ r.plan.size + length r.published
       → TokensFit r tokens
-      → AreKept (more_claimed (sender_saw r seen) n) (claimed r) (claimed r + n) tokens
+      → TokensFitBetween (more_claimed (sender_saw r seen) n) (claimed r) (claimed r + n) tokens
   kept_claimed r n seen tokens near F s t low lt at =
       let all = laid_count r in let l = there (laid r) s (omega arith) in (l.0, l.1, F.others s l.0 t low l.1 at)
 
@@ -205,9 +205,9 @@ module _ {T : Type 0} {e : SenderStand T} (e' : SenderStand T) {f : SenderFields
   to_is : claimed before + q ≡ upto
   to_is = let next = F.next in omega arith
 
-  pub collect_kept : AreKept e'.knows lo upto f.tokens
+  pub collect_kept : TokensFitBetween e'.knows lo upto f.tokens
   collect_kept =
-      subst (λ (x : SenderRecord T × ℕ × ℕ). AreKept x.0 x.1 x.2 f.tokens) (λ i. (sym is i, from_is i, to_is i))
+      subst (λ (x : SenderRecord T × ℕ × ℕ). TokensFitBetween x.0 x.1 x.2 f.tokens) (λ i. (sym is i, from_is i, to_is i))
       (kept_claimed before q (look halt_word 0 ∷ []) f.tokens near F.tokens)
 
   pub collect_hand : e'.hand ≡ taken_by_claim before q 0 ++ e.hand

@@ -24,7 +24,7 @@ use Rattle.dr_plain.specs.Inside.Stations.{sender_stand, receiver_stand, halter_
 use Rattle.dr_plain.specs.Inside.Views.{sender_end, receiver_end}
 use Rattle.dr_plain.specs.Inside.Fits.{SenderFields, SenderFits, TokensFit}
 use Rattle.dr_plain.specs.Inside.Gathering.{sender_known, receiver_known, halter_known}
-use Rattle.dr_plain.specs.Inside.Finishing.{first_lent, left_of, HasAllEnds, AreHandsOf, AreKept, AreLanes}
+use Rattle.dr_plain.specs.Inside.Finishing.{first_lent, left_of, HasAllEnds, AreHandsOf, EndsKeep, AreLanes}
 use Rattle.dr_plain.specs.Inside.Leaving.{BelongsSender}
 use Rattle.dr_plain.proofs.Gathering.{Together, all_stand}
 use Rattle.dr_plain.proofs.Ending.{own_sender, own_halter}
@@ -78,7 +78,7 @@ module _ {T : Type 0} where
   pub kept_of : (e : SenderStand T) (f : SenderFields T) (s : SenderEnd T) (es : List (ReceiverEnd T))
       (counts : List HandlerCounts) (hands : List (List (Token T)))
       → SenderFits e f → e.knows ≡ s.knows → counts ≡ map (λ (x : ReceiverEnd T). handler_counts x.knows) es → AreHandsOf es hands
-      → AreKept s es f.claimed_to f.published_to f.tokens counts hands
+      → EndsKeep s es f.claimed_to f.published_to f.tokens counts hands
   kept_of e f s es counts hands F same counted handed = record {
     next = F.next ∙ ap (λ (r : SenderRecord T). claimed r) same;
     front = F.front ∙ ap (λ (r : SenderRecord T). length r.published) same;
@@ -91,7 +91,7 @@ module _ {T : Type 0} where
   -- where all parts are then
   pub lanes_kept : (k plan : Shape) (v : View (EndRecord T) (Step T)) (s : SenderEnd T) (es : List (ReceiverEnd T)) (t : HalterStand T) (upto published : ℕ)
       (tokens : List (Token T)) (counts : List HandlerCounts) (hands : List (List (Token T))) (hand others : Hand T)
-      → HasAllEnds v s es t → AreKept s es upto published tokens counts hands → ViewRan (exchange k) v → plan ≡ s.knows.plan → hand ≡ left_of s es ++ others
+      → HasAllEnds v s es t → EndsKeep s es upto published tokens counts hands → ViewRan (exchange k) v → plan ≡ s.knows.plan → hand ≡ left_of s es ++ others
       → AreLanes plan counts (upto - plan.size) published s.knows.published hand hands tokens
   lanes_kept k plan v s es t upto published tokens counts hands hand others H A ran same is =
       let near = A.near in let next = A.next in let front = A.front in

@@ -17,7 +17,7 @@ ghost use Rattle.dr_plain.specs.Calls.Ends.{SenderEnd, ReceiverEnd, HalterStand}
 ghost use Rattle.dr_plain.specs.Inside.Fits.{PartsFit};
 ghost use Rattle.dr_plain.specs.Inside.Seats.{IsAtTable, ring_ends, exchange};
 ghost use Rattle.dr_plain.specs.Inside.Gathering.{AreOfRing, receiver_known};
-ghost use Rattle.dr_plain.specs.Inside.Finishing.{AreHandsOf, AreKept, HasAllEnds};
+ghost use Rattle.dr_plain.specs.Inside.Finishing.{AreHandsOf, EndsKeep, HasAllEnds};
 
 use crate::body::RingBody;
 use crate::laws::{Halter, RingSeat, Words, moments, settling};
@@ -97,7 +97,7 @@ pub(crate) fn take_back<T>(
 ) -> Row<T>
     requires table { (seat.table_id ≡ words.now.table_id) × (0 < words.now.table_id.words) }
     requires cells { cells.ptr ≡ plan.now.strip }
-    requires together { (s : SenderEnd T) × (es : List (ReceiverEnd T)) × (t : HalterStand T) × (plan.now ≡ s.knows.plan) × HasAllEnds seat.me.0 s es t × AreKept s es claimed published tokens.items counts.now.items (map (λ hand. hand.items) hands.items) }
+    requires together { (s : SenderEnd T) × (es : List (ReceiverEnd T)) × (t : HalterStand T) × (plan.now ≡ s.knows.plan) × HasAllEnds seat.me.0 s es t × EndsKeep s es claimed published tokens.items counts.now.items (map (λ hand. hand.items) hands.items) }
     ensures ran { ViewRan (exchange words.now.key) seat.me.0 }
     ensures all { IsAll cells.ptr (length tokens.items) result }
     ensures events { map (λ event. Some event) result.items ≡ cells_of tokens.items }

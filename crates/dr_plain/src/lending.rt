@@ -8,7 +8,7 @@ ghost use Rattle.dr_plain.specs.Inside.Fits.{Keeps, no_lents};
 ghost use Rattle.dr_plain.specs.Inside.Hands.{with_hand, row, lent_by};
 ghost use Rattle.dr_plain.specs.Inside.Seats.{Hand, lent_all, given_by_publication};
 ghost use Rattle.dr_plain.specs.Meaning.Records.{claimed};
-ghost use Rattle.dr_plain.specs.Inside.Lending.{lanes, laid_between, lents_of, IsKept, AreKept, IsLending, AreLent, AreWhole, SameBut, HasPublished};
+ghost use Rattle.dr_plain.specs.Inside.Lending.{lanes, laid_between, lents_of, TokenFits, TokensFitBetween, IsLending, AreLent, AreWhole, SameBut, HasPublished};
 
 use crate::laws::{Lends, SenderStation};
 use dr_cells::Token;
@@ -74,7 +74,7 @@ impl<T> SenderStation<T> {
 
     // The same at a claim of a sequence: in the first round nothing is lent.
     fn collect_one(&mut self, sequence: u64, kept: &mut Token<T>)
-        requires kept { IsKept self.old.knows sequence kept.old }
+        requires kept { TokenFits self.old.knows sequence kept.old }
         requires hand { (others : Hand T) × (self.old.hand ≡ row self.old.knows.plan sequence (lent_by kept.old.hold) ++ others) }
         ensures hand { self.new ≡ with_hand self.old (drop (handlers_of self.old.knows.plan) self.old.hand ++ row self.old.knows.plan sequence None) }
         ensures whole { Keeps self.old.knows.plan sequence None kept.new }
@@ -92,7 +92,7 @@ impl<T> SenderStation<T> {
     pub(crate) fn collect(&mut self, first: u64, upto: u64, tokens: &mut Vec<Token<T>>)
         requires order { (first ≤ upto) × (upto ≤ length self.old.knows.published + self.old.knows.plan.size) × (upto ≤ first + self.old.knows.plan.size) }
         requires room { length tokens.old.items ≡ self.old.knows.plan.size }
-        requires kept { AreKept self.old.knows first upto tokens.old.items }
+        requires kept { TokensFitBetween self.old.knows first upto tokens.old.items }
         requires hand { (others : Hand T) × (self.old.hand ≡ lanes self.old.knows.plan first (laid_between self.old.knows first upto) ++ others) }
         ensures hand { self.new ≡ with_hand self.old (drop (handlers_of self.old.knows.plan * (upto - first)) self.old.hand ++ lanes self.old.knows.plan first (no_lents (upto - first))) }
         ensures whole { AreWhole self.old.knows.plan first upto tokens.new.items }

@@ -17,7 +17,7 @@ use Rattle.dr_runs.proofs.Elements.{there, at_below, value_at}
 use Rattle.dr_runs.proofs.Lists.{at_map, map_there}
 use Rattle.dr_threads.specs.declared.served.Served.{Served}
 use Rattle.dr_threads.specs.Handlers.{AreServed, IsPolled, WentThrough}
-use Rattle.dr_threads.specs.Serving.{AreKept, Serving, Worker, endings_from, given_end, given_handler}
+use Rattle.dr_threads.specs.Serving.{GaveBack, Serving, Worker, endings_from, given_end, given_handler}
 use Rattle.dr_threads.proofs.Untroubled.{no_trouble}
 
 -- How they ended.
@@ -98,7 +98,7 @@ pub record Place {O A K : Type 0} (kept : O → K) (does : O → OutletCall Even
       → WentThrough goes start back.handler events
 
 module _ {O A K : Type 0} (kept : O → K) (does : O → OutletCall Event → O → Type 0) (received : O → Option (Received Event)) (told : O → Bool)
-    (goes : Relation Event A) (ws : List (Worker O A)) (served : List (Served O A)) (are : AreKept kept does received told goes ws served) where
+    (goes : Relation Event A) (ws : List (Worker O A)) (served : List (Served O A)) (are : GaveBack kept does received told goes ws served) where
   -- as many ends came back as were given, each in the place of one of them
   pub many_back : length (map (λ (s : Served O A). s.outlet) served) ≡ length (map given_end ws)
   many_back = length-map served (λ (s : Served O A). s.outlet) ∙ are.many ∙ sym (length-map ws given_end)
@@ -111,7 +111,7 @@ module _ {O A K : Type 0} (kept : O → K) (does : O → OutletCall Event → O 
       (given_end w, map_there given_end ws h w at_w, ap kept (sym same) ∙ serving.place)
 
 module _ {O A K : Type 0} (kept : O → K) (does : O → OutletCall Event → O → Type 0) (shown : O → Received Event) (told : O → Bool) (answers : AnswersWork does shown)
-    (goes : Relation Event A) (ws : List (Worker O A)) (served : List (Served O A)) (are : AreKept kept does (λ e. Some (shown e)) told goes ws served)
+    (goes : Relation Event A) (ws : List (Worker O A)) (served : List (Served O A)) (are : GaveBack kept does (λ e. Some (shown e)) told goes ws served)
     (new_end : ℕ → O) (begins : (h : ℕ) → BeginsAt shown (new_end h)) (ends : (h : ℕ) (e : O) → get_elem? (map given_end ws) h ≡ some e → e ≡ new_end h)
     (starts : List A) (begun : map given_handler ws ≡ starts) where
   pub many_served : length served ≡ length starts

@@ -37,7 +37,7 @@ abbrev pub given_handler : {O A : Type 0} → Worker O A → A
 given_handler w = w.promise.start.value
 
 -- each worker gave back what it promised, in their order
-pub record AreKept {O A K : Type 0} (kept : O → K) (does : O → OutletCall Event → O → Type 0) (received : O → Option (Received Event)) (told : O → Bool)
+pub record GaveBack {O A K : Type 0} (kept : O → K) (does : O → OutletCall Event → O → Type 0) (received : O → Option (Received Event)) (told : O → Bool)
     (goes : Relation Event A) (workers : List (Worker O A)) (served : List (Served O A)) : Type 0 where
   pub many : length served ≡ length workers
   pub each : (h : ℕ) (back : Served O A) → get_elem? served h ≡ some back

@@ -1,7 +1,7 @@
 //! Handlers' threads: how they are started, and what they give back.
 
 ghost use Rattle.std.specs.Prelude.{◌≡◌, [], IfOk, OnOk, length, map};
-ghost use Rattle.dr_threads.specs.Serving.{AreKept, endings_from, given_end, given_handler};
+ghost use Rattle.dr_threads.specs.Serving.{GaveBack, endings_from, given_end, given_handler};
 
 use crate::served::{Served, ServesPromise, serve};
 use crate::strategy::WaitStrategy;
@@ -94,7 +94,7 @@ pub fn join<R: Threads, O: Outlet<Event> + Drop, H: Handler<Event> + Drop>(
     rt: &R,
     workers: Vec<Worker<O, H>>,
 ) -> Result<Vec<Served<O, H>>, AllocError>
-    ensures { IfOk result (λ served. AreKept O.kept O.does O.received O.told H.goes workers.items served.items) }
+    ensures { IfOk result (λ served. GaveBack O.kept O.does O.received O.told H.goes workers.items served.items) }
 {
     match join_promised(rt, workers) {
         Ok(served) => Ok(served),

@@ -62,7 +62,7 @@ module _ {T : Type 0} where
     pub each : (h : ℕ) (e : ReceiverEnd T) (parts : List (Token T)) → get_elem? es h ≡ some e → get_elem? hands h ≡ some parts → PartsFit e.knows parts
 
   -- what the ends keep, once their seats are together: the sender's numbers and tokens, and the receivers' counts and tokens
-  pub record AreKept (s : SenderEnd T) (es : List (ReceiverEnd T)) (claimed_to published_to : ℕ) (tokens : List (Token T)) (counts : List HandlerCounts) (hands : List (List (Token T))) : Type 0 where
+  pub record EndsKeep (s : SenderEnd T) (es : List (ReceiverEnd T)) (claimed_to published_to : ℕ) (tokens : List (Token T)) (counts : List HandlerCounts) (hands : List (List (Token T))) : Type 0 where
     pub next : claimed_to ≡ claimed s.knows
     pub front : published_to ≡ length s.knows.published
     pub near : claimed_to ≤ s.knows.plan.size + published_to

@@ -29,12 +29,12 @@ module _ {T : Type 0} where
   laid_between r first upto = take (upto - first) (drop first (laid r))
 
   -- the token is what the sender keeps of what lies in the cell of a sequence
-  abbrev pub IsKept : SenderRecord T → ℕ → Token T → Type 0
-  IsKept r s t = (l : Option (Lent T)) × (get_elem? (laid r) s ≡ some l) × Keeps r.plan s l t
+  abbrev pub TokenFits : SenderRecord T → ℕ → Token T → Type 0
+  TokenFits r s t = (l : Option (Lent T)) × (get_elem? (laid r) s ≡ some l) × Keeps r.plan s l t
 
   -- and so is each of some sequences
-  abbrev pub AreKept : SenderRecord T → ℕ → ℕ → List (Token T) → Type 0
-  AreKept r first upto tokens = (s : ℕ) (t : Token T) → first ≤ s → s < upto → get_elem? tokens (cell_of r.plan s) ≡ some t → IsKept r s t
+  abbrev pub TokensFitBetween : SenderRecord T → ℕ → ℕ → List (Token T) → Type 0
+  TokensFitBetween r first upto tokens = (s : ℕ) (t : Token T) → first ≤ s → s < upto → get_elem? tokens (cell_of r.plan s) ≡ some t → TokenFits r s t
 
   -- all parts of a lending are out
   abbrev pub IsLending : Shape → ℕ → Token T → Type 0

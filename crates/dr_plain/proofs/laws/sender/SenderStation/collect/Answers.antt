@@ -6,7 +6,7 @@ use Rattle.dr_plain.specs.Meaning.Words.{cell_of}
 use Rattle.dr_plain.specs.Calls.Ends.{SenderStand}
 use Rattle.dr_plain.specs.Inside.Fits.{no_lents, Keeps}
 use Rattle.dr_plain.specs.Inside.Hands.{row, with_hand}
-use Rattle.dr_plain.specs.Inside.Lending.{laid_between, lanes, IsKept}
+use Rattle.dr_plain.specs.Inside.Lending.{laid_between, lanes, TokenFits}
 use Rattle.dr_plain.specs.Inside.Seats.{Hand}
 use Rattle.dr_plain.proofs.Collecting.{between_count, between_at, blanks_count, blanks_more, keeps_by, same_none, same_more, same_next, whole_none, whole_more}
 use Rattle.dr_plain.proofs.Rowing.{rowed_none, rowed_row, rowed_next, rowed_all, others_of}
@@ -28,7 +28,7 @@ loop-sequence-init g c =
     )
 
 -- the token that goes out is what the sender keeps of the next sequence
-kept_now : (g : _) (c : After-put_at-kept g) → IsKept c.args.self.now.knows c.loop-sequence.sequence c.put_at-kept.result
+kept_now : (g : _) (c : After-put_at-kept g) → TokenFits c.args.self.now.knows c.loop-sequence.sequence c.put_at-kept.result
 kept_now g c =
     let inv = c.loop-sequence.invariant in let k = c.args.self.now.knows.plan in let s = c.loop-sequence.sequence in let lt = c.loop-sequence-test.true in let low = inv.1 in
     let round = c.requires.order.2 in
@@ -37,7 +37,7 @@ kept_now g c =
 
 pub collect_one-requires-clause-kept : goal.collect_one-requires-clause-kept
 collect_one-requires-clause-kept g c =
-    subst (λ (e : SenderStand g.row.T.Denot). IsKept e.knows c.loop-sequence.sequence c.put_at-kept.result) (sym c.loop-sequence.invariant.0)
+    subst (λ (e : SenderStand g.row.T.Denot). TokenFits e.knows c.loop-sequence.sequence c.put_at-kept.result) (sym c.loop-sequence.invariant.0)
     (kept_now g (goal.at.collect_one-requires-clause-kept g c).After-put_at-kept)
 
 pub collect_one-requires-clause-hand : goal.collect_one-requires-clause-hand
