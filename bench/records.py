@@ -1,13 +1,15 @@
 """Files of what was measured: the other scripts here write them, and `bench/plots.py` draws them.
 
 Such a file begins with lines `# key: value`, which say on what machine, on what date, at what load and in
-what manner it was measured. The columns' names follow, and then a record a line.
+what manner it was measured. The load is how many processors other work took meanwhile, that of the host's
+other guests among it. The columns' names follow, and then a record a line.
 """
 
 import csv
 import datetime
 import os
 import platform
+import time
 
 RATES = ("topology", "size", "program", "million_events_a_second")
 SECONDS = ("tool", "size", "records", "program", "seconds", "peak_kilobytes")
@@ -25,6 +27,19 @@ def machine():
     return f"{os.cpu_count()} processors, {names[0] if names else platform.machine()}"
 
 
+def taken():
+    """How many processor seconds all work of this machine took since it began, with what its host took from it."""
+    with open("/proc/stat") as file:
+        user, nice, system, _, _, irq, softirq, stolen = map(int, file.readline().split()[1:9])
+    return (user + nice + system + irq + softirq + stolen) / os.sysconf("SC_CLK_TCK")
+
+
+def taken_by_others():
+    """How many of them neither this script took nor what it ran."""
+    own = os.times()
+    return taken() - own.user - own.system - own.children_user - own.children_system
+
+
 class Records:
     """What is measured, kept until the run is over. Without a path nothing is written."""
 
@@ -33,10 +48,11 @@ class Records:
         self.head = {
             "machine": machine(),
             "date": datetime.date.today().isoformat(),
-            "load": f"{os.getloadavg()[0]:.0f}",
+            "load": None,
             "manner": manner,
         }
         self.rows = [columns]
+        self.begun = time.monotonic(), taken_by_others()
 
     def add(self, *values):
         self.rows.append(values)
@@ -44,6 +60,8 @@ class Records:
     def save(self):
         if self.path is None:
             return
+        clock, others = self.begun
+        self.head["load"] = f"{max(0, taken_by_others() - others) / (time.monotonic() - clock):.1f}"
         with open(self.path, "w", newline="") as file:
             file.writelines(f"# {key}: {value}\n" for key, value in self.head.items())
             csv.writer(file, lineterminator="\n").writerows(self.rows)
