@@ -7,3 +7,4 @@ pub mod OpenedSeveral
 pub mod Crossing
 pub mod Placed
 pub mod Troubles
+pub mod Names

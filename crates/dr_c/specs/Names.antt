@@ -1,5 +1,11 @@
 -- The name of each number that C is told; no other number has one.
-use Rattle.std.specs.Prelude.{ℕ, ◌==◌, if◌then◌else◌, List, [], codes}
+use Rattle.std.specs.Prelude.{ℕ, ◌≡◌, ◌≢◌, ◌==◌, if◌then◌else◌, List, [], codes}
+use Rattle.dr_graph.specs.declared.fault.GraphFault.{GraphFault}
+use Rattle.dr_graph.specs.Calls.Fault.{fault_number, fault_name}
+use Rattle.dr_meaning.specs.declared.open_fault.OpenFault.{OpenFault}
+use Rattle.dr_meaning.specs.Calls.OpenFault as open_fault
+use Rattle.dr_plain_senders.specs.declared.claiming.ClaimFault.{ClaimFault}
+use Rattle.dr_plain_senders.specs.Calls.ClaimFault as claim_fault
 
 -- those of handles, and of opening a ring
 unfoldable pub opening_name : ℕ → List ℕ
@@ -35,3 +41,9 @@ name_by n =
     if n == 16 then codes "contended" else
     if n == 41 then codes "open-claim" else
     opening_name n
+
+-- a number of the library's that has a name here has it from the library
+pub record AreOfTheLibrary (named : ℕ → List ℕ) : Type 0 where
+  pub calls : (fault : ClaimFault) → named (claim_fault.number_of fault) ≢ [] → named (claim_fault.number_of fault) ≡ claim_fault.name_of fault
+  pub graphs : (fault : GraphFault) → named (fault_number fault) ≢ [] → named (fault_number fault) ≡ fault_name fault
+  pub opening : (fault : OpenFault) → named (open_fault.number_of fault) ≡ open_fault.name_of fault

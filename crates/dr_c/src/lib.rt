@@ -9,7 +9,7 @@
 ghost use Rattle.std.specs.Prelude.{◌≡◌, ◌==◌, ◌&&◌, ◌++◌, None, length, take, drop, replicate};
 ghost use Rattle.dr_c.specs.Calls.{ClaimsBy, WritesBy, WritesBytesBy, PublishesBy, ClosesBy, PollsBy, PollsBytesBy, ReadsBytesBy, CompletesBy, HaltsBy, TellsBy};
 ghost use Rattle.dr_c.specs.Handles.{OnHandle};
-ghost use Rattle.dr_c.specs.Names.{name_by};
+ghost use Rattle.dr_c.specs.Names.{name_by, AreOfTheLibrary};
 ghost use Rattle.dr_c.specs.Numbers.{bad_pointer, not_open};
 ghost use Rattle.dr_c.specs.Opening.{OpenedBy, ends_in};
 ghost use Rattle.dr_c.specs.OpeningBytes.{OpenedBy as OpenedBytesBy};
@@ -286,8 +286,10 @@ pub extern "C" fn disruptor_free_at(alloc: Global, handles: &mut [Handle])
 }
 
 /// Puts the name of a number to the front of `text`, as far as there is room, and gives how many bytes it has.
+#[tactic(auto, using(crate::proofs::Names::of_the_library))]
 #[unsafe(no_mangle)]
 pub extern "C" fn disruptor_name_at(number: u32, text: &mut [u8]) -> usize
+    ensures library { AreOfTheLibrary name_by }
     ensures length { result ≡ length (name_by number) }
     ensures text { text.new ≡ take (length text.old) (name_by number) ++ drop (length (name_by number)) text.old }
 {
