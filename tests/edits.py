@@ -17,6 +17,8 @@ TYPE = re.compile(r"^(?:pub(?:\([\w: ]+\))? )?(?:struct|enum|union|trait) (\w+)"
 NOWHERE = "\nno-offers : nowhere\nno-offers = nothing\n"
 # What an edit may not touch if it is to be one of a body.
 STATED = re.compile(r"\b(requires|ensures|ghost|struct|enum|fn|impl|trait|const|use|mod)\b")
+# What gives a check goals to name: branches and ends, names that are bound, and calls.
+MAKES = re.compile(r"\b(?:if|else|match|while|for|loop|return|let(?: mut)? \w+)\b|\?|=>|\w+!?(?=\()")
 
 
 @dataclass
@@ -76,6 +78,11 @@ def fault_of(edit, folder):
             return f"its old text stands in {file} {texts[file].count(old)} times, and not once"
         texts[file] = texts[file].replace(old, new)
     return None if edit.pairs else "it has no pair of lines `old:` and `new:`"
+
+
+def may_make_goals(edit):
+    """Whether an edit's texts tell that it may make the goal which refuses it: it brings what a check names goals by, and names none."""
+    return not edit.goal and any(Counter(MAKES.findall(new)) - Counter(MAKES.findall(old)) for file, old, new in edit.pairs if file.startswith("src/"))
 
 
 def in_one_check(edits):

@@ -16,7 +16,7 @@ sys.dont_write_bytecode = True
 sys.path[:0] = [f"{TOP}/tools", f"{TOP}/tests"]
 import prove  # noqa: E402
 import together  # noqa: E402
-from wrong_bodies import Libraries  # noqa: E402
+from libraries import Libraries  # noqa: E402
 
 NAME = "dr_c"
 

@@ -14,6 +14,8 @@ NAMES = re.compile(
     r"^(?:``: )*(?:(?:record )?`` has no field\b|(?:module|data type) `` has no `|(?:``(?:, | and )?)+ (?:is|are) not in scope\b"
     r"|`` (?:is|names) no(?:thing| module)\b|`` has no function ``|\d+ declarations? that depends? on `)"
 )
+# A `prove!` of a constant, which a check evaluates before it asks for proofs.
+FALSE = re.compile(r"^(?:\./)?src/\S+: error\[failed-constant-evaluation\]: evaluation reached a false `prove!`", re.M)
 JUDGED = re.compile(r"^rt: must-fail [^/\s]+/(\S+)\.edit: (.*)$", re.M)
 
 
@@ -38,14 +40,8 @@ def path_in(said, edit):
     return paths[0] if len(paths) == 1 else None
 
 
-def goal_of(output, path, why, wanted):
-    """Returns the goal of its own for which a function is not proved, the wanted one if one is, or None. That it calls one that is
-    not proved is no such goal."""
-    goals = goals_of(output, path, why)
-    return (goals[-1] if goals else None) if not wanted else wanted if wanted in goals else None
-
-
 def goals_of(output, path, why):
+    """Returns the goals of its own for which a function is not proved, as they are told. That it calls one that is not proved is none."""
     if match := SOUGHT.match(why):
         return [match[1]]
     if not why.startswith("not proved"):
@@ -54,26 +50,34 @@ def goals_of(output, path, why):
     before = output[: output.index(f"\nfn {path}: ")].split("\n")
     lines = itertools.takewhile(lambda it: it.startswith(("note: ", "help: ", " ")), reversed(before))
     if goals := [it[1] for it in map(OPEN.match, lines) if it]:
-        return goals
+        return goals[::-1]
     folder = "proofs/" + "/".join(path.split("::")[1:]) + "/"
     own = [text for file, text in ERROR.findall(output) if file.startswith(folder) and not is_of_a_name(text)]
-    return [it[1] for it in (re.match(r"`([^`]+)`", one) for one in reversed(own)) if it]
+    return [it[1] for it in (re.match(r"`([^`]+)`", one) for one in own) if it]
 
 
 def told(output, edit):
     """Returns what a check tells of an edit's own function, by its path, or, where the edit is not of one body and so stands alone, of
     its judge or else of all functions."""
     said = dict(TELLS.findall(output))
-    paths = [path_in(said, edit)] if edit.is_of_a_body else [it for it in said if it.endswith(edit.judge)]
+    paths = [path_in(said, edit)] if edit.is_of_a_body else [it for it in said if it.endswith(f"::{edit.judge}" * bool(edit.judge))]
     return {it: said[it] for it in paths if it}
 
 
-def verdict(output, edit):
-    """Returns what a check says of an edit: the goal of its function, judge or any that refuses it, or None where that is not told."""
-    for path, why in told(output, edit).items():
-        if goal := goal_of(output, path, why, edit.goal):
-            return f"{named(path, edit)}, goal {goal}"
-    return None
+def refusals(output, edit):
+    """Returns what refuses an edit by what a check says: of its function, its judge or any the goals that do, each with the function's
+    path as the edit means it. Where the edit names its goal, that alone does."""
+    found = [(named(path, edit), goal) for path, why in told(output, edit).items() for goal in goals_of(output, path, why)]
+    return [it for it in found if edit.goal in ("", it[1])]
+
+
+def misses(output, edit):
+    """Returns how a check tells that the judge or the goal that an edit names does not refuse it, or None."""
+    said = told(output, edit)
+    if edit.judge and said and all(why.startswith("proved") for why in said.values()):
+        return f"its judge {edit.judge} is still proved"
+    others = [goal for path, why in said.items() for goal in goals_of(output, path, why)]
+    return f"its goal {edit.goal} is proved, and {others[0]} is not" if edit.goal and others and edit.goal not in others else None
 
 
 def named(path, edit):
@@ -90,8 +94,10 @@ def is_by_names(output):
 
 
 def of_all(output):
-    """Returns what a check of a whole crate says: why it refuses it, by its first error that is no name's or else its first goal, or
-    None; and else what is the matter."""
+    """Returns what a check of a whole crate says: why it refuses it, by a false `prove!`, by its first error that is no name's or else by
+    its first goal, or None; and else what is the matter."""
+    if match := FALSE.search(output):
+        return match[0], ""
     last = output.rstrip().rpartition("\n")[2]
     errors = [f"{file}: {text}" for file, text in ERROR.findall(output) if not is_of_a_name(text)]
     goals = [f"goal {it}" for it in [*re.findall(OPEN.pattern, output, re.M), *SOUGHT.findall(output)]]

@@ -1,31 +1,33 @@
 #!/usr/bin/env python3
 """Tries the wrong bodies of `crates/*/wrong`: small edits, each of which the proof of its crate has to refuse.
 
-  tests/wrong_bodies.py                      those of all crates
+  tests/wrong_bodies.py                      those of all crates, but what an earlier run on this machine found refused
+  tests/wrong_bodies.py --anew ..            those too
   tests/wrong_bodies.py --crate dr_core ..   those of these crates
   tests/wrong_bodies.py --alone ..           each by itself, by `rt must-fail`
   tests/wrong_bodies.py --control ..         none applied: no function may be told as not proved, though others' proofs are open
   tests/wrong_bodies.py --over FILE          over the libraries of an `rt ci` that runs here, whose words go to FILE
+  tests/wrong_bodies.py --list ..            tries none, and lists those whose text may make the goal that refuses them
 
 A function is proved against its own contract and the contracts of what it calls, and never against a body. So wrong
 bodies of different functions can stand in one copy of a crate, and one check of these functions refuses each by its own.
 Of several of one function, each but the first goes to a copy of that function, under another name. An edit counts as refused
 where that function is told as not proved, for a goal of its own. What is not told so is tried once more, alone; and what that
 does not tell, nor that a proof file which cites a name is all that refuses it, is judged by a check of the whole crate. Each
-edit has a line that names the goal that refused it, and the last line is `N refused, M not`.
+edit has a line that names the goal that refused it, and the last line is `N refused, M not, of which K were tried in this run`: the
+others are kept (`kept.py`), and neither their crates nor those below are proved for them. Above it stand those that only a goal refuses
+which the untouched crate has not. A new branch or name makes one, and it may be open though the contract allows the body: an edit
+whose line `goal:` names it was looked at, and is not listed.
 
-First each crate is proved as it is, over what earlier runs kept. With `--over` that is `rt ci`'s part: a crate's edits are
+First each other crate is proved as it is, over what earlier runs kept. With `--over` that is `rt ci`'s part: a crate's edits are
 tried once `rt ci` has proved it. The libraries that it leaves hold statements alone, so a check of edits begins with no proof of the
 crate. It needs none either but those of the functions that it asks of: those of others, and of lemmas, are left open in its copy.
 """
 
 import argparse
-import contextlib
 import functools
-import json
 import os
 import re
-import shutil
 import sys
 import threading
 import time
@@ -33,12 +35,13 @@ import time
 TOP = os.path.dirname(os.path.dirname(os.path.abspath(__file__)))
 sys.dont_write_bytecode = True
 sys.path[:0] = [f"{TOP}/tools", f"{TOP}/tests"]
+import kept  # noqa: E402
 import prove  # noqa: E402
 import together  # noqa: E402
 import verdicts  # noqa: E402
-from edits import apply_all, companies, fault_of, in_one_check, offers_nothing, only, place, read_edit, seconds_of, shared_out  # noqa: E402
+from edits import companies, fault_of, in_one_check, may_make_goals, only, place, read_edit, seconds_of, shared_out  # noqa: E402
 from lanes import Lanes  # noqa: E402
-from openings import leave_open  # noqa: E402
+from libraries import Libraries  # noqa: E402
 
 # In a processor's seconds, how long a check takes before it comes to an edit, how long it is to take in all, and more than any does.
 BEGINS = 12
@@ -49,99 +52,7 @@ PROVED = re.compile(r"^rt: (\w+) (?:proved$|is kept: )", re.M)
 ENDED = re.compile(r"^\d+ passed, \d+ failed", re.M)
 # What a check says that took nothing of what is kept of its crate, and so proved its lemmas once more.
 TOOK_NOTHING = re.compile(r"^crate \w+: modules loaded=0 checked=[1-9]", re.M)
-# What it says where an edit leaves nothing to be dropped of which a proof was left open.
-NO_FUNCTION = re.compile(r"^\S*/Proof\.antt: error: `\w+` has no function .*\n", re.M)
 BY_A_NAME = "only a file of proofs refuses it, which cites a name that the edit took away: change a value and keep the names"
-
-
-def share(kept, keeps):
-    """Gives each module of a folder a second name in another one, unless that has it."""
-    for at, _, names in os.walk(kept):
-        to = os.path.join(keeps, os.path.relpath(at, kept))
-        os.makedirs(to, exist_ok=True)
-        for it in (it for it in names if it.endswith(".oantt")):
-            with contextlib.suppress(FileExistsError):
-                os.link(f"{at}/{it}", f"{to}/{it}")
-
-
-class Libraries:
-    """The libraries of the crates, as some `rt` built them, and how a crate is checked over them."""
-
-    def __init__(self, top, room):
-        self.top, self.room, self.uses, self.below, self.checks = top, room, prove.uses_of(top), prove.crates_of(top), set()
-        self.kit = os.path.dirname(together.said_by(["rt", "doc"], top)[1].strip())
-
-    def take(self, name):
-        """Gives the library that stands in the crate's folder `out` a second name, since an `rt` may replace it there."""
-        if os.path.isdir(f"{self.top}/crates/{name}/out/rlib"):
-            shutil.copytree(f"{self.top}/crates/{name}/out/rlib", f"{self.room}/{name}", copy_function=prove.link)
-
-    def functions(self, name):
-        """Returns the folders of the proofs of the functions of a crate's library, where there is one."""
-        try:
-            with open(f"{self.room}/{name}/{name}.rlib/toolchain/checked.json", encoding="utf-8") as lines:
-                modules = [it.partition(f"-{name}-proofs.")[2] for it, *_ in map(json.loads, lines)]
-        except (OSError, TypeError, ValueError):
-            return []
-        return [f"proofs/{it.removesuffix('.Code').replace('.', '/')}" for it in modules if it.endswith(".Code")]
-
-    def sizes(self, name):
-        """Returns the functions of a crate's library by their paths, with the size in MB of what the proof of each begins with."""
-        try:
-            with open(f"{self.room}/{name}/{name}.rlib/toolchain/checked.json", encoding="utf-8") as lines:
-                begun = [(module, length) for module, _, length in map(json.loads, lines) if module.endswith(".Lts")]
-        except (OSError, TypeError, ValueError):
-            return {}
-        return {it.partition("-proofs.")[2].removesuffix(".Lts").replace(".", "::"): length / 1e6 for it, length in begun}
-
-    def check(self, edits, kept, keeps=None, is_short=False, is_of_all=False, is_open=False, is_applied=True):
-        """Checks the functions of these edits in a copy of their crate to which it applies them, over what is kept, and returns what is
-        said. What it kept goes to keeps besides what that has, but nothing of a function that it changed. A short check offers no
-        answers; one of all looks at every function of the crate; and an open one takes other functions and lemmas as they are stated."""
-        name = edits[0].crate
-        with together.folder("wrong-") as room:
-            for it in prove.SOURCES:
-                if os.path.isdir(f"{self.top}/crates/{name}/{it}"):
-                    shutil.copytree(f"{self.top}/crates/{name}/{it}", f"{room}/{it}")
-            if kept and os.path.isdir(kept):
-                shutil.copytree(kept, f"{room}/kept", copy_function=prove.link)
-            if is_applied:
-                apply_all(edits, room)
-            if is_open:
-                leave_open(edits, room, self.functions(name))
-            if is_short:
-                offers_nothing(edits, room)
-            asked = [*([] if is_of_all else only(edits)), *["--allow-holes"] * is_open]
-            said = NO_FUNCTION.sub("", together.said_by([*self.words(name), *asked], room, self.checks)[1])
-            # (where a file of these is of no function that it knows)
-            if is_short and "error: rattle does not read this file" in said:
-                return self.check(edits, kept, keeps, is_open=is_open, is_applied=is_applied)
-            if keeps and os.path.isdir(f"{room}/kept"):
-                share(f"{room}/kept", keeps)
-        return said
-
-    def words(self, name, verb="check"):
-        libraries = [f"{it}={f'{self.room}/{it}' if it in self.below else f'{self.kit}/rlibs'}/{it}.rlib" for it in ("std", *self.uses[name])]
-        root = "main" if prove.is_program(self.top, name) else "lib"
-        words = ["rattle", verb, "--crate-name", name, f"src/{root}.rt", "--jobs", "1", "--incremental", "kept", "--links", f"{name}="]
-        words += [word for it in libraries for word in ("--extern", it)]
-        folders = [f"{self.kit}/rlibs", *(f"{self.room}/{it}" for it in self.below[name])]
-        words += [word for it in folders for word in ("-L", f"dependency={it}")]
-        return [*words, "--antt-project", f"{self.kit}/rattle/logic/antt-project.json", "--logic-built", f"{self.kit}/logic_built"]
-
-    def judged(self, name, edits, kept):
-        """Has `rt must-fail` judge edits one by one in a copy of the repository, over what is kept, and returns what it says."""
-        with together.folder("judged-") as room:
-            prove.copy_of(self.top, room, [], [])
-            for it in self.below[name]:
-                shutil.copytree(f"{self.room}/{it}", f"{room}/crates/{it}/out/rlib", copy_function=prove.link)
-            folder = f"{room}/crates/{name}"
-            if os.path.isdir(kept):
-                shutil.copytree(kept, f"{folder}/out/incremental", copy_function=prove.link)
-            os.mkdir(f"{folder}/must-fail")
-            for it in edits:
-                shutil.copy2(f"{self.top}/crates/{name}/wrong/{it.name}.edit", f"{folder}/must-fail")
-            return together.said_by(["rt", "must-fail", name], room)[1]
 
 
 class Crate:
@@ -149,6 +60,8 @@ class Crate:
 
     def __init__(self, top, name):
         self.refused, self.failed, self.bodies, self.others, self.untold = {}, {}, [], [], []
+        # Those that earlier runs found refused, and those that are refused at a goal which the untouched crate has not, or may not have.
+        self.known, self.made, self.untold_goals = [], {}, []
         # What is kept of it as it is proved, or, where that is nothing, with proofs left open.
         self.kept, self.is_open, self.sizes = "", False, {}
         folder = f"{top}/crates/{name}"
@@ -159,6 +72,21 @@ class Crate:
                 continue
             place(edit, folder)
             (self.bodies if edit.is_of_a_body else self.others).append(edit)
+
+    def take_known(self, store):
+        """Takes the edits of which the store has that an earlier run found them refused: they are not tried."""
+        for edit in [*self.bodies, *self.others]:
+            if found := store.find(edit):
+                self.note(edit, *found)
+                self.known.append(edit)
+        self.bodies, self.others = ([it for it in edits if it not in self.refused] for edits in (self.bodies, self.others))
+
+    def note(self, edit, why, is_made):
+        self.refused[edit] = why
+        if is_made:
+            self.made[edit] = why
+        elif is_made is None:
+            self.untold_goals.append(edit)
 
     def seconds(self, edit):
         return seconds_of(edit, self.sizes)
@@ -171,12 +99,15 @@ class Crate:
 class Trial:
     """The edits of some crates, each tried once its crate is proved."""
 
-    def __init__(self, top, names, room, told, manner="together"):
-        self.top, self.room, self.told, self.manner, self.below = top, room, told, manner, prove.crates_of(top)
+    def __init__(self, top, names, room, told, store, manner="together"):
+        self.top, self.room, self.told, self.store, self.manner, self.below = top, room, told, store, manner, prove.crates_of(top)
         os.mkdir(f"{room}/libraries")
         self.libraries = Libraries(top, f"{room}/libraries")
         self.crates = {it: Crate(top, it) for it in names}
-        self.all = [it for it in self.below if any(it in (one, *self.below[one]) for one in names)]
+        for it in self.crates.values() if manner != "control" else ():
+            it.take_known(store)
+        begun = [name for name, it in self.crates.items() if it.bodies or it.others]
+        self.all = [it for it in self.below if any(it in (one, *self.below[one]) for one in begun)]
         self.left, self.proved, self.changing, self.lanes = list(self.all), set(), threading.Lock(), Lanes(self.libraries.checks)
 
     def ready(self):
@@ -199,7 +130,8 @@ class Trial:
             return
         self.note_proved(name)
         self.prove_what_is_ready()
-        if crate := self.crates.get(name):
+        if name in self.crates:
+            crate = self.crates[name]
             crate.kept = f"{self.top}/crates/{name}/out/incremental"
             if self.manner == "alone":
                 crate.untold = [*crate.bodies, *crate.others]
@@ -258,10 +190,12 @@ class Trial:
         tried = in_one_check(edits)
         said = self.said_of(tried, crate.is_open and (is_short or edits[0].is_of_a_body), is_short=is_short)
         for edit, one in zip(edits, tried):
-            if goal := verdicts.verdict(said, one):
-                self.note(edit, goal)
-            elif is_short and (edit.functions or crate.is_open and only(edits)):
+            if found := verdicts.refusals(said, one):
+                self.note_goal(edit, found)
+            elif is_short and only([edit]):
                 self.add([[edit]], is_short=False)
+            elif why := verdicts.misses(said, one):
+                crate.failed[edit] = why
             elif verdicts.is_by_names(said) or not only(edits):
                 self.judge(edit, said)
             else:
@@ -271,8 +205,8 @@ class Trial:
         """Has a check with others' proofs open, as for these edits, but with none of them applied, tell nothing of their functions."""
         said = self.libraries.check(edits, None, is_short=True, is_open=True, is_applied=False) if only(edits) else ""
         for edit in edits:
-            if goal := verdicts.verdict(said, edit):
-                self.crates[edit.crate].failed[edit] = f"with nothing changed {goal} is not proved"
+            if found := verdicts.refusals(said, edit):
+                self.crates[edit.crate].failed[edit] = f"with nothing changed {found[0][0]}, goal {found[0][1]} is not proved"
             elif only(edits) and not verdicts.told(said, edit):
                 self.crates[edit.crate].failed[edit] = "with nothing changed no check tells its function"
             else:
@@ -301,8 +235,21 @@ class Trial:
         else:
             self.crates[edit.crate].failed[edit] = BY_A_NAME if verdicts.is_by_names(said) else text
 
-    def note(self, edit, why):
-        self.crates[edit.crate].refused[edit] = why
+    def note_goal(self, edit, found):
+        """Notes that goals refuse an edit, by the first of them that the untouched crate has, where it has one."""
+        had = [True if edit.goal else self.has_goal(edit.crate, *it) for it in found]
+        at = had.index(True) if True in had else 0
+        self.note(edit, "{}, goal {}".format(*found[at]), None if had[at] is None else not had[at])
+
+    def has_goal(self, name, path, goal):
+        """Whether the proof of a function of the untouched crate has a goal, by itself or as a clause of one, or None where nothing tells."""
+        crate = self.crates[name]
+        goals = self.libraries.goals(name, path, "" if crate.is_open else crate.kept)
+        return None if goals is None else not goals.isdisjoint({goal, goal.partition("-clause-")[0]})
+
+    def note(self, edit, why, is_made=False):
+        self.crates[edit.crate].note(edit, why, is_made)
+        self.store.keep(edit, why, is_made)
         self.told(f"{edit.label}: refused by {why}")
 
     def judge_alone(self, crate):
@@ -314,16 +261,16 @@ class Trial:
             why, text = found.get(edit.name, (None, said[-300:]))
             # Its first reason may be a name's, where a goal is another.
             if why is not None and verdicts.is_of_a_name(verdicts.ERROR.sub(r"\2", why)):
-                why = verdicts.verdict(self.libraries.check([edit], crate.kept), edit)
-                text = BY_A_NAME
+                found = verdicts.refusals(self.libraries.check([edit], crate.kept), edit)
+                why, text = "{}, goal {}".format(*found[0]) if found else None, BY_A_NAME
             if why is None:
                 crate.failed[edit] = text
             else:
                 self.note(edit, f"rt must-fail: {why[:200]}")
 
     def run(self, file=None):
-        """Tries all edits, tells what was not refused, and returns how many were refused, and how many not."""
-        if file:
+        """Tries all edits, tells what was not refused, and returns how many were refused, how many not, and how many were tried."""
+        if file and self.all:
             self.lanes.hold(True)
             threading.Thread(target=self.follow, args=(file,), daemon=True).start()
         else:
@@ -331,31 +278,68 @@ class Trial:
         self.lanes.run()
         for crate in [it for name, it in self.crates.items() if it.untold and name in self.proved]:
             self.judge_alone(crate)
-        refused, failed = 0, 0
         for name, crate in self.crates.items():
-            for edit in [*crate.bodies, *crate.others]:
-                if name not in self.proved:
-                    crate.refused.pop(edit, None)
-                    crate.failed[edit] = f"{name} is not proved as it is"
-                elif edit not in crate.refused:
-                    crate.failed.setdefault(edit, "no run reached it")
-            for edit, why in crate.failed.items():
-                self.told(f"NOT REFUSED: {edit.label}: {why[:300]}")
-            refused, failed = refused + len(crate.refused), failed + len(crate.failed)
-        return refused, failed
+            self.close(name, crate)
+        self.tell_goals()
+        crates = self.crates.values()
+        tried = sum(len(it.bodies) + len(it.others) for it in crates)
+        return sum(len(it.refused) for it in crates), sum(len(it.failed) for it in crates), tried
+
+    def close(self, name, crate):
+        """Tells which edits of a crate are kept, and which are not refused."""
+        for edit in [*crate.bodies, *crate.others]:
+            if name not in self.proved:
+                crate.refused.pop(edit, None)
+                crate.failed[edit] = f"{name} is not proved as it is"
+            elif edit not in crate.refused:
+                crate.failed.setdefault(edit, "no run reached it")
+        if crate.known and not self.store.reads.are_untouched(name):
+            for edit in crate.known:
+                crate.failed[edit] = f"files of {name}, or below it, were changed while this ran: {crate.refused.pop(edit)} is of others"
+        elif crate.known:
+            self.told(f"{name}: {len(crate.known)} of {len(crate.refused) + len(crate.failed)} edits were refused by an earlier run of the same files")
+        for edit, why in crate.failed.items():
+            self.told(f"NOT REFUSED: {edit.label}: {why[:300]}")
+
+    def tell_goals(self):
+        """Lists the edits that are refused at a goal which they made: it may be open for what a search does not find, and not for what it says."""
+        made = [f"  {edit.label}: {why}" for it in self.crates.values() for edit, why in it.made.items() if edit in it.refused]
+        for it in [f"{len(made)} edits are refused at a goal that they made, so look whether their bodies break the contract:"] * bool(made) + made:
+            self.told(it)
+        if untold := [name for name, it in self.crates.items() if it.untold_goals]:
+            self.told(f"no library tells which goals functions have that were changed in {' '.join(untold)}")
 
 
-def run(top, asked, manner, told, file=None):
-    """Tries the edits of the crates that are asked for, or of all, and returns the status."""
+def run(top, asked, manner, told, file=None, at=None, is_anew=False):
+    """Tries the edits of the crates that are asked for, or of all, but those that are kept in the folder `at`, and returns the status."""
     names = [it for it in prove.crates_of(top) if os.path.isdir(f"{top}/crates/{it}/wrong")]
     for it in asked or ():
         if it not in names:
             told(f"{it} is no crate with edits")
             return 2
+    kit = together.said_by(["rt", "version"], top)[1]
+    way = "alone" if manner == "alone" else "open" if file else "proved"
+    names = [it for it in names if not asked or it in asked]
+    if manner == "list":
+        return list_those_that_may_make_goals(top, names, told)
+    store = kept.Kept(at if manner != "control" else None, kept.Reads(top, names, kit, kept.scripts()), way, is_anew)
+    if at and not store.at:
+        told(f"{at} cannot be used, so nothing is kept")
     with together.folder("trial-") as room:
-        refused, failed = Trial(top, [it for it in names if not asked or it in asked], room, told, manner).run(file)
-    told(f"{refused} {'left out' if manner == 'control' else 'refused'}, {failed} not")
+        refused, failed, tried = Trial(top, names, room, told, store, manner).run(file)
+    store.prune()
+    told(f"{refused} {'left out' if manner == 'control' else 'refused'}, {failed} not, of which {tried} were tried in this run")
     return 1 if failed or not refused else 0
+
+
+def list_those_that_may_make_goals(top, names, told):
+    """Lists the edits that bring a branch, a name or a call, in whose place a goal may stand that the untouched crate has not."""
+    edits = [read_edit(name, f"{top}/crates/{name}/wrong/{it}") for name in names for it in sorted(os.listdir(f"{top}/crates/{name}/wrong"))]
+    found = [it for it in edits if may_make_goals(it)]
+    for it in found:
+        told(it.label)
+    told(f"{len(found)} of {len(edits)} edits may make the goal that refuses them")
+    return 0
 
 
 def main():
@@ -363,12 +347,15 @@ def main():
     parser.add_argument("--crate", nargs="+", metavar="NAME", help="try those of these crates alone")
     manners = parser.add_mutually_exclusive_group()
     manners.add_argument("--alone", dest="manner", action="store_const", const="alone", default="together", help="have rt must-fail judge each by itself")
+    manners.add_argument("--list", dest="manner", action="store_const", const="list", help="try none, and list those which may make the goal that refuses them")
     manners.add_argument("--control", dest="manner", action="store_const", const="control", help="apply none, and see that no function is told as not proved")
+    parser.add_argument("--anew", action="store_true", help="try those too that earlier runs found refused")
     parser.add_argument("--over", metavar="FILE", help="over the libraries of the rt ci whose words go to FILE")
     asked = parser.parse_args()
     if asked.over and asked.manner == "alone":
         parser.error("--alone has rt must-fail judge over what this proves itself, so it takes no --over")
-    return run(TOP, asked.crate, asked.manner, lambda it: print(it, flush=True), asked.over)
+    at = kept.folder_of(os.path.dirname(together.said_by(["rt", "doc"], TOP)[1].strip()))
+    return run(TOP, asked.crate, asked.manner, lambda it: print(it, flush=True), asked.over, at, asked.anew)
 
 
 if __name__ == "__main__":

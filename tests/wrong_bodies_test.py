@@ -3,7 +3,7 @@
 the library that `rt lib` built and beside an `rt ci` whose words are written here, and by `rt must-fail` alone. In which order it
 has which checks it shows without `rt`, by answers that stand here for those of checks. And of what it stands on: which errors are a
 name's, which edits one check tries, what such a check leaves open, that commands end with the process that started them, and that
-they stop and go on."""
+they stop and go on; and of what is kept from run to run (`kept_test.py`)."""
 
 import os
 import signal
@@ -14,6 +14,7 @@ import time
 
 sys.dont_write_bytecode = True
 sys.path.insert(0, os.path.dirname(os.path.abspath(__file__)))
+import kept_test  # noqa: E402
 import wrong_bodies  # noqa: E402
 from edits import Edit, companies, seconds_of, shared_out, with_a_copy  # noqa: E402
 from lanes import Lanes  # noqa: E402
@@ -23,6 +24,10 @@ from wrong_bodies import together, verdicts  # noqa: E402
 SOURCE = """#![tactic(auto)]
 
 ghost use Rattle.std.specs.Prelude.{◌≡◌, ◌≤◌, ◌+◌, ◌-◌};
+ghost use Rattle.toy.specs.Pairs.{pair};
+
+const MOST: u64 = 5;
+const _: () = prove!(MOST < 7);
 
 pub fn twice(n: u32) -> u64
     ensures { result ≡ n + n }
@@ -40,7 +45,7 @@ pub fn rest_of(n: u64, m: u64) -> u64
 }
 
 pub fn four_times(n: u16) -> u64
-    ensures { result ≡ n + n + (n + n) }
+    ensures { result ≡ pair n + pair n }
 {
     let half = twice(n as u32);
     half + half
@@ -60,6 +65,11 @@ pub fn same(n: u8) -> u8 ensures { result ≡ n } {
 
 #[cfg(test)]
 mod tests;
+"""
+PAIRS = """use Rattle.std.specs.Prelude.{ℕ, ◌+◌}
+
+abbrev pub pair : ℕ → ℕ
+pair n = n + n
 """
 TESTS = """use crate::twice;
 use std::test::Fail;
@@ -180,8 +190,11 @@ EDITS = {
     "leaves_all": ("src/lib.rt", "rest = n - m", "rest = n", "refused by rest_of, goal"),
     # Refused only in company, since its function calls another wrong body there.
     "means_the_same": ("src/lib.rt", "half + half", "2 * half", "NOT REFUSED: toy/means_the_same: the crate is still proved"),
-    "begins_with_a_return": ("src/lib.rt", "result ≡ n } {", "result ≡ n } { if n > 100 { return 0; }", "refused by same, goal"),
+    "begins_with_a_return": ("src/lib.rt", "result ≡ n } {", "result ≡ n } { if n > 100 { return 0; }", "same, goal returns-then-n"),
     "begins_with_a_name": ("src/lib.rt", "result ≡ n } {", "result ≡ n } { let n = n;", "NOT REFUSED: toy/begins_with_a_name: the crate is still proved"),
+    "defines_more": ("specs/Pairs.antt\njudge: four_times", "n + n", "n + n + 1", "refused by four_times, goal returns"),
+    "defines_less_for_another": ("specs/Pairs.antt\njudge: same", "n + n", "n", "NOT REFUSED: toy/defines_less_for_another: its judge same is still proved"),
+    "proves_what_is_false": ("src/lib.rt", "u64 = 5", "u64 = 8", "refused by a check of the crate: src/lib.rt:7:15: error[failed-constant-evaluation]"),
     "says_less": ("src/lib.rt\njudge: four_times", "    ensures { result ≡ n + n }", "    ensures { n ≤ result }", "refused by four_times, goal"),
     "takes_a_name_away": (
         "src/lib.rt",
@@ -236,6 +249,7 @@ def made_in(top, names):
     crate = f"{top}/crates/toy"
     files = {f"{top}/crates.txt": "toy:\n", f"{top}/HANDLES": "Handles allowed: none.\n"}
     files |= {f"{crate}/src/lib.rt": SOURCE, f"{crate}/src/tests.rt": TESTS}
+    files |= {f"{crate}/specs/Lib.antt": "pub mod Pairs\n", f"{crate}/specs/Pairs.antt": PAIRS}
     files |= {f"{crate}/proofs/Lib.antt": "mod Sums\n", f"{crate}/proofs/Sums.antt": LEMMAS, f"{crate}/proofs/six_times/Answers.antt": ANSWERS}
     for name in names:
         file, old, new, _ = (EDITS | MORE)[name]
@@ -251,8 +265,9 @@ def write(file, words, manner):
         it.write(words)
 
 
-def failures(top, wanted, last, words=None, manner="together"):
-    """Tries the crate's edits, and returns how much came otherwise: what is said of each edit, and the last line."""
+def failures(top, wanted, last, words=None, manner="together", made=()):
+    """Tries the crate's edits, and returns how much came otherwise: what is said of each edit, the list of those that made the goal
+    which refuses them, and the last line."""
     lines, failed, file = [], 0, f"{top}/words" if words else None
     end = threading.Timer(3, write, (file, "1 passed, 0 failed\n", "a"))
     if file:
@@ -267,7 +282,10 @@ def failures(top, wanted, last, words=None, manner="together"):
         if not said or text not in said[-1]:
             failed += 1
             print(f"FAILED: {name}: {text} was to come, and {said} came")
-    if bool(status) == last.endswith(" 0 not") or lines[-1] != last:
+    if (found := [it for it in lines if it.startswith("  toy/")]) != [f"  toy/{it}" for it in made]:
+        failed += 1
+        print(f"FAILED: these edits were told as refused at a goal that they made: {found}")
+    if bool(status) == (", 0 not," in last) or lines[-1] != last:
         failed += 1
         print(f"FAILED: status {status}, last line {lines[-1]}")
     return failed
@@ -277,13 +295,15 @@ def over_a_library(top):
     """Tries edits over a library, by checks and by `rt must-fail`, and sees that checks with none applied tell nothing."""
     made_in(top, EDITS)
     wrong_bodies.prove.prove(top, "toy", [], 1, 0, ["lib"])
-    failed = failures(top, {name: it[3] for name, it in EDITS.items()}, "6 refused, 5 not", "rt: toy proved\n")
+    made = ["begins_with_a_return: same, goal returns-then-n-gt100"]
+    last = "8 refused, 6 not, of which 12 were tried in this run"
+    failed = failures(top, {name: it[3] for name, it in EDITS.items()}, last, "rt: toy proved\n", made=made)
     for name in EDITS:
         if name != "takes_a_name_away":
             os.remove(f"{top}/crates/toy/wrong/{name}.edit")
     alone = {"takes_a_name_away": "NOT REFUSED: toy/takes_a_name_away: refused, as it must be (only"}
     failed += over_nothing_applied(top)
-    return failed + failures(top, alone, "0 refused, 1 not", manner="alone")
+    return failed + failures(top, alone, "0 refused, 1 not, of which 1 were tried in this run", manner="alone")
 
 
 def over_nothing_applied(top):
@@ -296,13 +316,13 @@ def over_nothing_applied(top):
 
     wrong_bodies.Libraries.check = noting
     for words in (None, "rt: toy proved\n"):
-        failed += failures(top, {}, "1 left out, 0 not", words, manner="control")
+        failed += failures(top, {}, "1 left out, 0 not, of which 1 were tried in this run", words, manner="control")
     if applied != [False, False]:
         failed += 1
         print(f"FAILED: of two checks of controls {applied} applied an edit")
     silent = {"takes_a_name_away": "NOT REFUSED: toy/takes_a_name_away: with nothing changed no check tells its function"}
     wrong_bodies.Libraries.check = lambda *_, **__: ""
-    failed += failures(top, silent, "0 left out, 1 not", manner="control")
+    failed += failures(top, silent, "0 left out, 1 not, of which 1 were tried in this run", manner="control")
     wrong_bodies.Libraries.check = of_rt
     return failed
 
@@ -318,8 +338,8 @@ def over_answers(top):
         return "\n" + "".join(ANSWERED[it.name] for it in edits if is_of_all or it.name != "means_the_same")
 
     of_rt, wrong_bodies.Libraries.check = wrong_bodies.Libraries.check, check
-    failed = failures(top, {it: (EDITS | MORE)[it][3] for it in names}, "3 refused, 2 not", "rt: toy proved\n")
-    failed += failures(top, {"leaves_all": "toy is not proved"}, "0 refused, 5 not", "rt: toy NOT PROVED\n")
+    failed = failures(top, {it: (EDITS | MORE)[it][3] for it in names}, "3 refused, 2 not, of which 5 were tried in this run", "rt: toy proved\n")
+    failed += failures(top, {"leaves_all": "toy is not proved"}, "0 refused, 5 not, of which 5 were tried in this run", "rt: toy NOT PROVED\n")
     wrong_bodies.Libraries.check = of_rt
     first = [(["leaves_all", "leaves_half", "means_the_same"], False, True, True, True, False)]
     rest = [([it], False, False, False, True, False) for it in ("changes_a_lemma", "is_of_a_test")]
@@ -425,7 +445,7 @@ def main():
     # Its body leaves open what it likes.
     inside = Edit("toy", "inside", is_of_a_body=False, is_of_its_clause=False, judge="middle", goal="returns-clause-more")
     for name, edit in clauses.items():
-        if bool(verdicts.verdict(f"\n{TWO_CLAUSES}", edit)) != (name in TWO_CLAUSES):
+        if bool(verdicts.refusals(f"\n{TWO_CLAUSES}", edit)) != (name in TWO_CLAUSES):
             failed += 1
             print(f"FAILED: whether the clause {name} is refused by its goal")
     apart = Edit("toy", "apart", is_of_a_body=False, judge="other", goal="returns-clause-least")
@@ -442,7 +462,7 @@ def main():
     if not is_copied():
         failed += 1
         print("FAILED: what a copy of a function has")
-    failed += lists_apart() + left_in()
+    failed += lists_apart() + left_in() + kept_test.failures()
     for tries in (over_answers, over_a_library):
         with together.folder("toy-") as top:
             failed += tries(top)
