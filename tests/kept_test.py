@@ -83,7 +83,7 @@ def over_changes(machine):
     machine.tries("an edit changed", ["adds_two"])
     for path, text in FILES.items():
         if not path.endswith(".edit") and "other" not in path:
-            new = text.replace("top: low", "top: low other") if path == "crates.txt" else f"{text}\n"
+            new = text.replace("top: low", "top: low core") if path == "crates.txt" else f"{text}\n"
             machine.write(path, new)
             machine.tries(f"{path} changed", BOTH)
             machine.write(path, text)
@@ -122,6 +122,15 @@ def over_what_happens(machine):
         machine.tries(f"{path} changed and changed back while the check ran", BOTH)
         machine.sees("what is kept then", machine.records(), [])
     machine.does = lambda: None
+    machine.tries("nothing changed while the check ran", BOTH)
+    machine.write("crates/top/wrong/adds_two.edit", EDIT.format(4))
+    machine.does = lambda: machine.write("script.py", "pass \n")
+    machine.tries("the script changed while one edit was tried", ["adds_two"], "1 refused, 1 not, of which 1 were tried in this run")
+    machine.does = machine.restore
+    machine.run()
+    machine.does = lambda: None
+    for it in machine.records():
+        os.remove(f"{machine.at}/{it}")
     leaves, kept.LEAVES = kept.LEAVES, 1 << 60
     machine.tries("no room", BOTH)
     kept.LEAVES = leaves

@@ -104,7 +104,7 @@ class Trial:
         os.mkdir(f"{room}/libraries")
         self.libraries = Libraries(top, f"{room}/libraries")
         self.crates = {it: Crate(top, it) for it in names}
-        for it in self.crates.values() if manner != "control" else ():
+        for it in self.crates.values():
             it.take_known(store)
         begun = [name for name, it in self.crates.items() if it.bodies or it.others]
         self.all = [it for it in self.below if any(it in (one, *self.below[one]) for one in begun)]
@@ -317,12 +317,12 @@ def run(top, asked, manner, told, file=None, at=None, is_anew=False):
         if it not in names:
             told(f"{it} is no crate with edits")
             return 2
-    kit = together.said_by(["rt", "version"], top)[1]
+    kit, at = together.said_by(["rt", "version"], top)[1], None if manner == "control" else at
     way = "alone" if manner == "alone" else "open" if file else "proved"
     names = [it for it in names if not asked or it in asked]
     if manner == "list":
         return list_those_that_may_make_goals(top, names, told)
-    store = kept.Kept(at if manner != "control" else None, kept.Reads(top, names, kit, kept.scripts()), way, is_anew)
+    store = kept.Kept(at, kept.Reads(top, names, kit, kept.scripts()), way, is_anew)
     if at and not store.at:
         told(f"{at} cannot be used, so nothing is kept")
     with together.folder("trial-") as room:
