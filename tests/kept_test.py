@@ -29,7 +29,7 @@ class Machine:
     """A repository with a store beside it, and what its runs try."""
 
     def __init__(self, top):
-        self.top, self.at, self.tried, self.lines, self.wrong = top, f"{top}/store/wrong-bodies", [], [], []
+        self.top, self.at, self.begun, self.tried, self.lines, self.wrong = top, f"{top}/store/wrong-bodies", [], [], [], []
         # What a check answers, and what else it does.
         self.proved, self.does = set(), lambda: None
         self.restore()
@@ -43,6 +43,11 @@ class Machine:
         with open(f"{self.top}/{path}", "w", encoding="utf-8") as it:
             it.write(text)
 
+    def prove(self, _, name, *given):
+        """Stands for a proof of a crate as it is."""
+        self.begun.append(name)
+        return 0, ""
+
     def check(self, _, edits, *given, is_short=False, **how):
         """Stands for a check of edits."""
         self.tried += [it.name for it in edits] * is_short
@@ -52,6 +57,7 @@ class Machine:
 
     def run(self, manner="together", is_anew=False, words=None):
         """Tries the edits, and returns those that were tried."""
+        self.begun.clear()
         self.tried.clear()
         self.lines.clear()
         wrong_bodies.run(self.top, ["top"], manner, self.lines.append, words, self.at, is_anew)
@@ -75,7 +81,9 @@ class Machine:
 def over_changes(machine):
     """Whatever a check reads and is changed has its edits tried anew, and nothing else has."""
     machine.tries("the first run", BOTH)
+    machine.sees("crates that it proves", machine.begun, ["low", "top"])
     machine.tries("nothing changed", [])
+    machine.sees("crates that it proves then", machine.begun, [])
     machine.tries("nothing changed, and all is asked for", BOTH, is_anew=True)
     machine.write("crates/other/src/lib.rt", BODY.format("besides"))
     machine.tries("a crate beside it changed", [])
@@ -187,7 +195,7 @@ def failures():
     for tries in (over_changes, over_damage, over_what_happens, over_manners, over_two_runs):
         with together.folder("kept-") as top:
             machine = Machine(top)
-            wrong_bodies.prove.prove, together.said_by = (lambda *_: (0, "")), (lambda *_: (0, "/kit/START-HERE.md"))
+            wrong_bodies.prove.prove, together.said_by = machine.prove, lambda *_: (0, "/kit/START-HERE.md")
             wrong_bodies.Libraries.check = lambda *given, **how: machine.check(*given, **how)
             kept.scripts = lambda: [f"{top}/script.py"]
             tries(machine)
