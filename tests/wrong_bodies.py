@@ -261,8 +261,8 @@ class Trial:
             why, text = found.get(edit.name, (None, said[-300:]))
             # Its first reason may be a name's, where a goal is another.
             if why is not None and verdicts.is_of_a_name(verdicts.ERROR.sub(r"\2", why)):
-                found = verdicts.refusals(self.libraries.check([edit], crate.kept), edit)
-                why, text = "{}, goal {}".format(*found[0]) if found else None, BY_A_NAME
+                goals = verdicts.refusals(self.libraries.check([edit], crate.kept), edit)
+                why, text = "{}, goal {}".format(*goals[0]) if goals else None, BY_A_NAME
             if why is None:
                 crate.failed[edit] = text
             else:
@@ -304,8 +304,8 @@ class Trial:
     def tell_goals(self):
         """Lists the edits that are refused at a goal which they made: it may be open for what a search does not find, and not for what it says."""
         made = [f"  {edit.label}: {why}" for it in self.crates.values() for edit, why in it.made.items() if edit in it.refused]
-        for it in [f"{len(made)} edits are refused at a goal that they made, so look whether their bodies break the contract:"] * bool(made) + made:
-            self.told(it)
+        if made:
+            self.told("\n".join([f"look whether these bodies break the contract, for what refuses them is a goal that they made, {len(made)} in all:", *made]))
         if untold := [name for name, it in self.crates.items() if it.untold_goals]:
             self.told(f"no library tells which goals functions have that were changed in {' '.join(untold)}")
 

@@ -282,7 +282,7 @@ def failures(top, wanted, last, words=None, manner="together", made=()):
         if not said or text not in said[-1]:
             failed += 1
             print(f"FAILED: {name}: {text} was to come, and {said} came")
-    if (found := [it for it in lines if it.startswith("  toy/")]) != [f"  toy/{it}" for it in made]:
+    if (found := [it for said in lines for it in said.split("\n") if it.startswith("  toy/")]) != [f"  toy/{it}" for it in made]:
         failed += 1
         print(f"FAILED: these edits were told as refused at a goal that they made: {found}")
     if bool(status) == (", 0 not," in last) or lines[-1] != last:
