@@ -1,4 +1,4 @@
-# `make` builds ./disruptor and runs the shipped example; `make test` proves and tests everything; `make help` lists the rest.
+# `make` shows the shipped example, proves and builds ./disruptor, and runs it; `make test` proves and tests everything; `make help` lists the rest.
 program := crates/disruptor
 log := make.log
 sources = $(shell find crates \( -name '*.rt' -o -name '*.antt' \) -not -path '*/out/*')
@@ -13,8 +13,9 @@ endif
 
 all: disruptor run
 
+# The first time it is also run before any proof.
 disruptor: crates.txt $(sources)
-	@tools/prove.py --log $(log) disruptor -- --help
+	@tools/prove.py --log $(log) $(if $(wildcard $@),,--try) disruptor -- drive $(CURDIR)/examples/first_event.csv
 	@cp $(program)/out/disruptor $@
 
 run: disruptor
@@ -68,8 +69,8 @@ clean:
 help:
 	@echo 'On a machine of four processors:'
 	@echo
-	@echo '  make                      proves and builds ./disruptor and runs the shipped example:'
-	@echo '                            up to twenty minutes from nothing, then seconds to minutes'
+	@echo '  make                      shows after a minute or two what the shipped example prints, proves and builds'
+	@echo '                            ./disruptor, and runs it: up to twenty minutes from nothing, then seconds to minutes'
 	@echo '  make try                  runs the shipped example before any proof: a minute or two'
 	@echo '  make check CRATE=dr_core  proves one crate over what is kept: seconds, 1 to 5 minutes from nothing'
 	@echo '  make test                 proves and tests everything, from nothing: some 45 minutes, twice that on slow processors or on two'

@@ -166,9 +166,9 @@ run 1 '' $'error: invalid value \'post\' for \'--by <WAY>\'\n*' replay --by post
 run 1 '' $'error: invalid value \'x\' for \'--size <N>\'*' replay --size x accounts.csv
 run 1 '' $'error: unexpected argument \'-1\' found\n*' replay --size -1 accounts.csv
 for size in 3 1000 131072; do
-    run 1 '' $'bad-size\n--size is a power of two from 1 to 65536\n' replay --size $size accounts.csv
+    run 1 '' $'bad-size\n' replay --size $size accounts.csv
 done
-run 1 '' $'bad-size\n--size is a power of two from 1 to 65536\n' replay --size 0 no-such-file.csv
+run 1 '' $'bad-size\n' replay --size 0 no-such-file.csv
 run 1 '' $'error: a word of the command line is not UTF-8\n' drive $'a\xff.csv'
 run 1 '' $'error: a word of the command line is not UTF-8\n' $'\xff'
 
@@ -221,12 +221,12 @@ for words in 'drive first_event.csv' "drive $room/many.csv" 'replay accounts.csv
     # shellcheck disable=SC2086
     run_closed 4 $'cannot write\n' $words
 done
-# Where the reader of its output has gone, it ends with 4 and says nothing.
+# So also where the reader of its output has gone.
 for words in "drive $room/many.csv" "replay $room/deposits.csv" 'check replay accounts.csv' --help; do
     # shellcheck disable=SC2086 # the words are apart
     { sleep 0.3; "$program" $words 2> "$room/err" < /dev/null; echo $? > "$room/status"; } | true
     : > "$room/out"
-    judge "$words | true" "$(cat "$room/status")" 4 '' ''
+    judge "$words | true" "$(cat "$room/status")" 4 '' $'cannot write\n'
 done
 
 # Output to a file, which is written whole or not at all, and leaves nothing beside it.

@@ -1,5 +1,5 @@
 #!/usr/bin/env python3
-"""Runs tools whose standard error is a terminal, and looks at the line there that says how far a long replay is.
+"""Runs tools whose standard error is a terminal, and looks at what comes there: how far a long replay is, and what a size is.
 
   tests/progress.py PROGRAM
 
@@ -7,6 +7,7 @@ The input comes by a pipe, in two halves with a pause between them, so that the 
 failure, and then a count; its status is 0 where none failed.
 """
 
+import contextlib
 import os
 import pty
 import subprocess
@@ -46,11 +47,13 @@ def run(program, words, records, pause, on_terminal=False):
     come = []
     reading = threading.Thread(target=lambda: come.append(read_from(ours)))
     reading.start()
-    ran.stdin.write(records[:half])
-    ran.stdin.flush()
-    time.sleep(pause)
-    ran.stdin.write(records[half:])
-    ran.stdin.close()
+    # (a refused command line is not followed by a read)
+    with contextlib.suppress(BrokenPipeError):
+        ran.stdin.write(records[:half])
+        ran.stdin.flush()
+        time.sleep(pause)
+        ran.stdin.write(records[half:])
+        ran.stdin.close()
     printed = b"" if on_terminal else ran.stdout.read()
     status = ran.wait()
     reading.join()
@@ -72,6 +75,8 @@ def cases(program):
     yield "report to the terminal", told, (0, b"", LINE + ALL + AWAY + report.decode())
     fault = subprocess.run([program, "replay", "-"], input=RECORDS + b"x\n", stderr=subprocess.PIPE, check=False).stderr.decode()
     yield "a fault", run(program, ["replay"], RECORDS + b"x\n", 1.2), (2, b"", LINE + ALL + AWAY + fault)
+    # (what a size is, is said to a terminal alone)
+    yield "a bad size", run(program, ["replay", "--size", "3"], b"\n\n", 0), (1, b"", "bad-size\n--size is a power of two from 1 to 65536\n")
     status, _, come = run(program, ["drive"], COMMANDS, 1.2)
     yield "drive", (status, come), (0, "")
     words = [program, "replay", "-"]

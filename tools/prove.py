@@ -1,8 +1,9 @@
 #!/usr/bin/env python3
 """Proves crates and all that they stand on, those that do not stand on each other side by side, over what earlier runs kept.
 
-  tools/prove.py [--log FILE] CRATE..            libraries are proved and built
-  tools/prove.py [--log FILE] PROGRAM -- WORD..  a program too, by a run with these words
+  tools/prove.py [--log FILE] CRATE..                    libraries are proved and built
+  tools/prove.py [--log FILE] [--try] PROGRAM -- WORD..  a program too, by a run with these words; with --try it also
+                                                         runs before any proof, beside the first ones, and is shown
 
 `rt` keeps two commands out of a crate's folder, and of those below it, at the same time. So each crate is proved in a
 copy of its own, made of links, whose folder `out` then takes the place of the crate's. All that `rt` says goes to the log.
@@ -100,6 +101,18 @@ def prove(top, name, below, jobs, priority, words):
     return status, said
 
 
+def show(top, name, words, told):
+    """Runs a program before any proof, in a copy of its own, and tells what it prints. Returns what was said if it failed, or None."""
+    with together.folder("try-") as room:
+        copy_of(top, room, [], [])
+        ran = together.run(["rt", "try", "--", *words], cwd=f"{room}/crates/{name}", capture_output=True, text=True)
+    if ran.returncode:
+        told(f"{name}: FAILED before any proof")
+        return ran.stdout + ran.stderr
+    line = " ".join(it.removeprefix(f"{top}/") for it in words)
+    return told(f"\n$ ./{name} {line}\n{ran.stdout}\nThe program runs. Nothing of it is proved yet: the proofs go on.\n")
+
+
 def size_of(top, name):
     """Returns about how long a crate's proof takes, beside those of others: by its lines."""
     found = 500
@@ -141,12 +154,16 @@ class Work:
         return (time.time() - self.began) / 60 * (whole - done) / max(done, 1)
 
 
-def prove_all(top, names, words=lambda name: ["lib"], told=print, log=None):
-    """Proves the crates and those below them, and returns what `rt` said of the first that was not proved, or None."""
+def prove_all(top, names, words=lambda name: ["lib"], told=print, log=None, beside=None):
+    """Proves the crates and those below them, and returns what `rt` said of the first that was not proved, or None.
+
+    What is to be done beside the first proofs ends all where it returns anything.
+    """
     work, most, running = Work(top, names), lanes(), {}
     together.begun()
-    with ThreadPoolExecutor(2 * most) as pool:
-        while work.left or running:
+    with ThreadPoolExecutor(2 * most + 1) as pool:
+        first = {pool.submit(beside)} if beside else set()
+        while work.left or running or first:
             for name in work.ready():
                 # The longest chain has every processor, and first; others have what it leaves.
                 is_longest = work.is_longest(name)
@@ -158,7 +175,12 @@ def prove_all(top, names, words=lambda name: ["lib"], told=print, log=None):
                 work.left.remove(name)
                 run = pool.submit(prove, top, name, work.below[name], max(jobs, 1), 0 if is_longest else 5, words(name))
                 running[run] = name, jobs, time.time()
-            for it in wait(running, return_when=FIRST_COMPLETED).done:
+            for it in wait([*running, *first], return_when=FIRST_COMPLETED).done:
+                if it in first:
+                    first.remove(it)
+                    if it.result() is not None:
+                        return it.result()
+                    continue
                 name, _, began = running.pop(it)
                 status, said = it.result()
                 if log:
@@ -178,6 +200,7 @@ def main():
     cut = given.index("--") if "--" in given else len(given)
     parser = argparse.ArgumentParser(description=__doc__, formatter_class=argparse.RawDescriptionHelpFormatter)
     parser.add_argument("--log", default=os.devnull)
+    parser.add_argument("--try", dest="is_tried", action="store_true")
     parser.add_argument("crates", nargs="+", metavar="CRATE")
     asked = parser.parse_args(given[:cut])
     unknown = [it for it in asked.crates if it not in crates_of(TOP)]
@@ -187,8 +210,14 @@ def main():
     def words(name):
         return ["run", "--", *given[cut + 1 :]] if is_program(TOP, name) else ["lib"]
 
+    def told(text):
+        print(text, flush=True)
+
+    def first():
+        return show(TOP, asked.crates[0], given[cut + 1 :], told)
+
     with open(asked.log, "w", encoding="utf-8") as log:
-        said = prove_all(TOP, asked.crates, words, lambda it: print(it, flush=True), log)
+        said = prove_all(TOP, asked.crates, words, told, log, first if asked.is_tried else None)
     if said is not None:
         shown = [it for it in said.splitlines() if not QUIET.search(it)]
         print(*shown[:30], f"all that rt said stands in {asked.log}", sep="\n")

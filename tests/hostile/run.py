@@ -33,8 +33,6 @@ Ran = namedtuple("Ran", "status out err")
 NO_MEMORY = Ran(3, b"", b"no-memory\n")
 CANNOT_READ = Ran(4, b"", b"cannot read\n")
 CANNOT_WRITE = Ran(4, b"", b"cannot write\n")
-# Where the reader of its output has gone, it says nothing.
-GONE = Ran(4, b"", b"")
 
 
 def text_of(lines):
@@ -212,7 +210,7 @@ def run_into_pipe(bench, name, words, taken):
             os.close(reader)
         err = program.stderr.read()
         ran = Ran(program.wait(timeout=60), b"", err)
-    bench.judge(f"{name} into a pipe whose reader takes {taken} bytes", ran, GONE)
+    bench.judge(f"{name} into a pipe whose reader takes {taken} bytes", ran, CANNOT_WRITE)
 
 
 def run_into_pipes(bench):

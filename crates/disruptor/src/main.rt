@@ -9,13 +9,13 @@ mod output;
 mod progress;
 mod watched;
 
-use crate::output::{Printed, is_gone, part_of, put_in_place};
+use crate::output::{part_of, put_in_place};
 use crate::progress::Progress;
 use crate::watched::{Input, Output};
 use dr_check::{CheckFault, check_drive, check_replay};
-use dr_command_line::{By, LineFault, Request, Tool, request};
-use dr_drive::{Cause, drive};
-use dr_replay::{Counted, FileFault, ReplayFault, replay_lock, replay_plain, replay_ring};
+use dr_command_line::{By, LineFault, Plan, Tool, plan};
+use dr_drive::{DriveFault, drive};
+use dr_replay::{Counted, ReplayFault, replay_lock, replay_plain, replay_ring};
 use dr_seq::Size;
 use dr_workers::OpenGate;
 use std::alloc::Global;
@@ -27,14 +27,14 @@ use std::thread::Threads;
 use std::{env, fmt, io};
 
 /// Why the program ends early. Its text is the line that the program prints.
-#[derive(Debug, Drop)]
+#[derive(Drop)]
 enum Fault {
     /// The command line is refused.
     Line(LineFault),
     /// A file is not well, or could not be checked.
     Check(CheckFault),
     /// A run over a file of commands ended early.
-    Drive(FileFault<Cause>),
+    Drive(DriveFault),
     /// A run over a file of operations ended early.
     Replay(ReplayFault),
     /// There is no memory for the output's buffer, or for the name of the file beside it.
@@ -43,8 +43,6 @@ enum Fault {
     Read,
     /// A text, or what a tool says, could not be written where it is asked for.
     Write,
-    /// The reader of standard output has gone. Nothing is printed of it.
-    Gone,
 }
 
 impl fmt::Display for Fault {
@@ -59,7 +57,6 @@ impl fmt::Display for Fault {
             Fault::Memory => write!(f, "no-memory"),
             Fault::Read => write!(f, "cannot read"),
             Fault::Write => write!(f, "cannot write"),
-            Fault::Gone => Ok(()),
         }
     }
 }
@@ -77,22 +74,11 @@ impl Fault {
             Fault::Memory => 3,
             Fault::Read => 4,
             Fault::Write => 4,
-            Fault::Gone => 4,
         }
-    }
-
-    // Whether it is a failed write, of a tool or of the program.
-    fn is_write(&self) -> bool {
-        matches!(
-            self,
-            Fault::Write
-                | Fault::Drive(FileFault::Write)
-                | Fault::Replay(ReplayFault::File(FileFault::Write))
-        )
     }
 }
 
-fn read_request(rt: &HostRuntime) -> Result<Request, LineFault> {
+fn read_plan(rt: &HostRuntime) -> Result<Plan, LineFault> {
     let words = match env::args(rt) {
         Ok(words) => words,
         Err(error) if error.kind() == io::ErrorKind::OutOfMemory => {
@@ -101,7 +87,7 @@ fn read_request(rt: &HostRuntime) -> Result<Request, LineFault> {
         Err(_) => return Err(LineFault::NotUtf8),
     };
     let words: Vec<String> = words.collect(rt.alloc())?;
-    request(rt.alloc(), words.as_slice())
+    plan(rt.alloc(), words.as_slice())
 }
 
 /// What is run over a file.
@@ -129,9 +115,7 @@ fn run_over<R: Read + Drop, W: Write + Drop, T: Threads + Wait + Sync>(
     let ran = match task {
         Task::Drive => drive(alloc, &mut reader, &mut writer).map_err(Fault::Drive),
         Task::Replay { size, by } => match by {
-            By::Plain => {
-                replay_plain(alloc, &mut reader, &mut writer, size).map_err(ReplayFault::File)
-            }
+            By::Plain => replay_plain(alloc, &mut reader, &mut writer, size),
             By::Lock => replay_lock(workers, alloc, &mut reader, &mut writer, size, &OpenGate),
             By::Ring => replay_ring(workers, alloc, &mut reader, &mut writer, size, &OpenGate),
         }
@@ -169,12 +153,8 @@ fn print_run<R: Read + Drop, T: Threads + Wait + Sync>(
     input: R,
     task: Task,
 ) -> Result<(), Fault> {
-    let mut output = Printed::new(rt);
     let is_terminal = rt.stdout().is_terminal();
-    match run_watched(rt, workers, input, &mut output, is_terminal, task) {
-        Err(fault) if fault.is_write() && output.is_gone() => Err(Fault::Gone),
-        ended => ended,
-    }
+    run_watched(rt, workers, input, io::writer(rt), is_terminal, task)
 }
 
 // Runs a tool over an input, and writes what it says to a file beside the named one, which takes its
@@ -236,11 +216,7 @@ fn run_file<T: Threads + Wait + Sync>(
 
 // Prints a text, and nothing else.
 fn print<D: fmt::Display + Drop>(rt: &HostRuntime, text: D) -> Result<(), Fault> {
-    match rt.print(text) {
-        Ok(()) => Ok(()),
-        Err(error) if is_gone(&error) => Err(Fault::Gone),
-        Err(_) => Err(Fault::Write),
-    }
+    rt.print(text).map_err(|_| Fault::Write)
 }
 
 fn check_over<R: Read + Drop>(alloc: Global, tool: Tool, input: R) -> Result<u64, CheckFault> {
@@ -270,11 +246,11 @@ fn check_file(rt: &HostRuntime, tool: Tool, file: &str) -> Result<(), Fault> {
 }
 
 fn run<T: Threads + Wait + Sync>(rt: &HostRuntime, workers: &T) -> Result<(), Fault> {
-    let (file, output, task) = match read_request(rt).map_err(Fault::Line)? {
-        Request::Help(text) => return print(rt, text),
-        Request::Check { tool, file } => return check_file(rt, tool, file.as_str()),
-        Request::Drive { file, output } => (file, output, Task::Drive),
-        Request::Replay {
+    let (file, output, task) = match read_plan(rt).map_err(Fault::Line)? {
+        Plan::Help(text) => return print(rt, text),
+        Plan::Check { tool, file } => return check_file(rt, tool, file.as_str()),
+        Plan::Drive { file, output } => (file, output, Task::Drive),
+        Plan::Replay {
             file,
             size,
             by,
@@ -284,13 +260,21 @@ fn run<T: Threads + Wait + Sync>(rt: &HostRuntime, workers: &T) -> Result<(), Fa
     run_file(rt, workers, file.as_str(), output, task)
 }
 
+// Says a fault's line, and on a terminal also what a size is where the command line has none.
+fn tell(rt: &HostRuntime, fault: &Fault) -> io::Result<()> {
+    rt.eprintln(fault)?;
+    if matches!(fault, Fault::Line(LineFault::BadSize)) && rt.stderr().is_terminal() {
+        rt.eprintln("--size is a power of two from 1 to 65536")?;
+    }
+    Ok(())
+}
+
 fn main(rt: HostRuntime) -> ExitCode {
     match run(&rt, &rt) {
         Ok(()) => ExitCode::SUCCESS,
-        Err(Fault::Gone) => ExitCode::from(Fault::Gone.status()),
         Err(fault) => {
             // Where even this cannot be written, the exit status alone says what went wrong.
-            let _printed = rt.eprintln(&fault);
+            let _told = tell(&rt, &fault);
             ExitCode::from(fault.status())
         }
     }

@@ -1,46 +1,8 @@
-//! Where a tool's output goes.
+//! Files that take the place of others.
 
 use std::alloc::{AllocError, Global};
 use std::fs::{self, File};
-use std::io::{self, Write};
-
-/// Standard output, and whether a write to it found that its reader has gone.
-#[derive(Drop)]
-pub(crate) struct Printed<'a> {
-    to: &'a HostRuntime,
-    is_gone: bool,
-}
-
-impl<'a> Printed<'a> {
-    pub(crate) fn new(to: &'a HostRuntime) -> Printed<'a> {
-        Printed { to, is_gone: false }
-    }
-
-    pub(crate) fn is_gone(&self) -> bool {
-        self.is_gone
-    }
-}
-
-impl Write for Printed<'_> {
-    fn write(&mut self, buf: &[u8]) -> io::Result<usize> {
-        match io::writer(self.to).write(buf) {
-            Ok(count) => Ok(count),
-            Err(error) => {
-                self.is_gone = is_gone(&error);
-                Err(error)
-            }
-        }
-    }
-
-    fn flush(&mut self) -> io::Result<()> {
-        Ok(())
-    }
-}
-
-/// Whether a write failed since nobody reads any longer.
-pub(crate) fn is_gone(error: &io::Error) -> bool {
-    error.kind() == io::ErrorKind::BrokenPipe
-}
+use std::io;
 
 /// The file that is written before it takes the place of another, and stands beside it.
 pub(crate) fn part_of(alloc: Global, path: &str) -> Result<String, AllocError> {

@@ -1,10 +1,6 @@
 pub mod Entries
-pub mod Graphs
 pub mod Hexadecimal
 pub mod Moving
 pub mod Parts
 pub mod Reports
-pub mod Rounds
-pub mod Sending
 pub mod Shown
-pub mod Refusing

@@ -4,7 +4,7 @@ use Rattle.std.specs.Prelude.{◌==◌, is_some}
 use Rattle.std.proofs.lemmas.Bool.{cases_Bool, cases_eq, eq-eqb, ltb-false, ne_eqb}
 use Rattle.dr_accounts.specs.Handlers.{MovedAt, added, balance_in, refused_in, taken}
 use Rattle.dr_accounts.specs.declared.business.Account.{Account}
-use Rattle.dr_accounts.specs.declared.operation.Movement.TheVariants.{Deposit, Withdraw, Transfer}
+use Rattle.dr_operations.specs.declared.operation.Movement.TheVariants.{Deposit, Withdraw, Transfer}
 
 abbrev Kept : Type 0
 Kept = ℕ → Option Account

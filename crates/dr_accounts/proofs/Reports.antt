@@ -18,7 +18,7 @@ use Rattle.dr_accounts.specs.declared.journal.Journal.{Journal}
 use Rattle.dr_accounts.specs.declared.replica.Replica.{Replica}
 use Rattle.dr_accounts.specs.Accounts.{account_bound, accounts, balance_of, is_account, names, refusals_of}
 use Rattle.dr_accounts.specs.Handlers.{HasBusiness, HasJournal, HasReplica, account_lines, balance_in, business_text, journal_text, refused_in, replica_text}
-use Rattle.dr_accounts.specs.Operations.{account_of, code_of, movement_of}
+use Rattle.dr_operations.specs.Operations.{account_of, code_of, movement_of}
 use Rattle.dr_accounts.specs.Report.{account_line, business_part, heading, journal_part, replica_part}
 
 -- the line of an account, if there is one

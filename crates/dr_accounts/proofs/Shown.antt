@@ -14,9 +14,8 @@ use Rattle.dr_accounts.specs.declared.journal.Journal.{Journal}
 use Rattle.dr_accounts.specs.declared.replica.Replica.{Replica}
 use Rattle.dr_accounts.specs.Accounts.{balance_by, balance_of, balances_after, is_account, movement_at, names, refusal_by, refusals_after, refusals_of}
 use Rattle.dr_accounts.specs.Handlers.{Books, Copies, Goes, IsBusinessOf, IsJournalOf, IsReplicaOf, Journals, balance_in, kept}
-use Rattle.dr_accounts.specs.Operations.{movement_of}
+use Rattle.dr_operations.specs.Operations.{movement_of}
 use Rattle.dr_accounts.specs.Report.{journal_from, journal_line, replica_line}
-use Rattle.dr_core.proofs.Passing.{funext}
 
 -- what one call keeps, a batch keeps
 pub along : {A : Type 0} (goes : Relation Event A) (Has : A → List Event → Type 0)
@@ -127,7 +126,7 @@ pub business_goes : (a b : Business) (es : List Event) (e : Event) (s : ℕ) (en
 business_goes a b es e s end has goes = λ fine.
     let t = took (λ x. x.failed) _ a b goes fine in
     let h = has t.0 in
-    let before : (λ x. balance_in (kept a x)) ≡ balance_of es = funext (λ x. balance_in (kept a x)) (balance_of es) h.balances in
+    let before : (λ x. balance_in (kept a x)) ≡ balance_of es = (λ i. λ x. h.balances x i) in
     record {
       balances = λ x. (t.1.moved x).balance ∙ ap (λ f. balance_by (movement_of e) f x) before ∙ ap (λ f. f x) (sym (balance_of-push es e));
       refusals = λ x. (t.1.moved x).refused ∙ ap (λ n. n + refusal_by (movement_of e) (λ y. balance_in (kept a y)) x) (h.refusals x)

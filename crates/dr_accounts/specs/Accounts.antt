@@ -3,9 +3,9 @@ use Rattle.std.specs.Prelude.{ℕ, suc, zero, ◌+◌, ◌-◌, ◌^◌, Bool, f
 use Rattle.std.specs.List.{list_any, range_with_len}
 use Rattle.dr_seq.specs.declared.event.Event.{Event}
 use Rattle.dr_seq.specs.Event.{no_event}
-use Rattle.dr_accounts.specs.declared.operation.Movement.{Movement}
-use Rattle.dr_accounts.specs.declared.operation.Movement.TheVariants.{Deposit, Withdraw, Transfer}
-use Rattle.dr_accounts.specs.Operations.{movement_of}
+use Rattle.dr_operations.specs.declared.operation.Movement.{Movement}
+use Rattle.dr_operations.specs.declared.operation.Movement.TheVariants.{Deposit, Withdraw, Transfer}
+use Rattle.dr_operations.specs.Operations.{movement_of}
 
 -- of each account, a number
 abbrev pub Numbers : Type 0

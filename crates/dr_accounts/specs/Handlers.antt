@@ -7,9 +7,9 @@ use Rattle.dr_accounts.specs.declared.journal.Journal.{Journal}
 use Rattle.dr_accounts.specs.declared.replica.Replica.{Replica}
 use Rattle.dr_accounts.specs.declared.business.Account.{Account}
 use Rattle.dr_accounts.specs.declared.business.Business.{Business}
-use Rattle.dr_accounts.specs.declared.operation.Movement.{Movement}
+use Rattle.dr_operations.specs.declared.operation.Movement.{Movement}
 use Rattle.dr_accounts.specs.Accounts.{balance_by, balance_of, is_account, names, refusal_by, refusals_of}
-use Rattle.dr_accounts.specs.Operations.{movement_of}
+use Rattle.dr_operations.specs.Operations.{movement_of}
 use Rattle.dr_accounts.specs.Report.{account_line, heading, journal_from, journal_line, replica_line}
 
 -- one that failed stays as it is; one that has not failed after a call has taken the event

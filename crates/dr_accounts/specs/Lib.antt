@@ -1,8 +1,5 @@
-pub mod Operations
 pub mod Accounts
 pub mod Report
 pub mod Parts
 pub mod Handlers
-pub mod Passing
-pub mod Turns
-pub mod Keeping
+pub mod ReplayText

@@ -3,7 +3,7 @@ use Rattle.std.specs.Prelude.{ℕ, ◌+◌, ◌-◌, ◌==◌, if◌then◌else�
 use Rattle.std.specs.Fmt.{digits}
 use Rattle.dr_seq.specs.declared.event.Event.{Event}
 use Rattle.dr_accounts.specs.Accounts.{accounts, balance_of, is_account, refusals_of}
-use Rattle.dr_accounts.specs.Operations.{code_of, operation_of, operation_text}
+use Rattle.dr_operations.specs.Operations.{code_of, operation_of, operation_text}
 
 abbrev pub Line : Type 0
 Line = List ℕ

@@ -7,8 +7,8 @@ ghost use Rattle.dr_accounts.specs.Handlers.{Booked, IsBusinessOf, Moved, Puts, 
 ghost use Rattle.dr_accounts.specs.Report.{account_line};
 
 use crate::heading::headed;
-use crate::operation::{Movement, Operation};
 use dr_meaning::Handler;
+use dr_operations::{Movement, Operation};
 use dr_seq::Event;
 use std::alloc::{AllocError, Global};
 use std::collections::BTreeMap;

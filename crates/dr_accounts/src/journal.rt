@@ -2,12 +2,12 @@
 
 ghost use Rattle.std.specs.Prelude.{◌≡◌, ◌+◌, ◌++◌, [], false, IfOk, OnOk, decimal, string_bytes};
 ghost use Rattle.dr_accounts.specs.Handlers.{IsJournalOf, journal_text};
-ghost use Rattle.dr_accounts.specs.Operations.{movement_text, operation_text};
+ghost use Rattle.dr_operations.specs.Operations.{movement_text, operation_text};
 ghost use Rattle.dr_accounts.specs.Report.{journal_line};
 
 use crate::heading::headed;
-use crate::operation::{Movement, Operation};
 use dr_meaning::Handler;
+use dr_operations::{Movement, Operation};
 use dr_seq::Event;
 use itoa::Buffer;
 use std::alloc::{AllocError, Global};

@@ -5,8 +5,8 @@ ghost use Rattle.dr_accounts.specs.Handlers.{IsReplicaOf, replica_text};
 ghost use Rattle.dr_accounts.specs.Report.{hexadecimal, replica_line};
 
 use crate::heading::headed;
-use crate::operation::{Movement, Operation};
 use dr_meaning::Handler;
+use dr_operations::{Movement, Operation};
 use dr_seq::Event;
 use hex::encode_to_slice;
 use std::alloc::{AllocError, Global};

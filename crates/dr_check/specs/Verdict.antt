@@ -8,8 +8,8 @@ use Rattle.dr_files.specs.declared.streams.ReadFault.TheVariants as read
 use Rattle.dr_records.specs.Records.{Record}
 use Rattle.dr_drive.specs.Meaning.Causes.{cause_name as drive_name}
 use Rattle.dr_drive.specs.declared.fault.Cause.{Cause as DriveCause}
-use Rattle.dr_replay.specs.Calls.ReplayFaults.{cause_name as replay_name}
-use Rattle.dr_replay.specs.declared.fault.Cause.{Cause as ReplayCause}
+use Rattle.dr_operations.specs.Reading.{cause_name as replay_name}
+use Rattle.dr_operations.specs.declared.cause.Cause.{Cause as ReplayCause}
 use Rattle.dr_check.specs.declared.fault.Cause.{Cause}
 use Rattle.dr_check.specs.declared.fault.Cause.TheVariants as tool
 use Rattle.dr_check.specs.declared.fault.CheckFault.{CheckFault}

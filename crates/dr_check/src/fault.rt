@@ -5,8 +5,8 @@ ghost use Rattle.dr_check.specs.Verdict.{cause_name, check_line, check_status};
 
 use dr_files::{Named, ReadFault};
 use std::alloc::AllocError;
-use std::error::Error;
 use std::fmt;
+use thiserror::Error;
 
 /// Why a record is at fault: a cause of the tool whose file it stands in.
 #[derive(Clone, Copy, Debug, PartialEq, Eq)]
@@ -14,7 +14,7 @@ pub enum Cause {
     /// In a file of commands.
     Drive(dr_drive::Cause),
     /// In a file of operations.
-    Replay(dr_replay::Cause),
+    Replay(dr_operations::Cause),
 }
 
 impl Named for Cause {
@@ -30,7 +30,7 @@ impl Named for Cause {
 
 /// Why a file is not well, or could not be checked. Its text is what a program prints, without its
 /// end: for a record the line of the tool's own fault, and below it where the fault stands.
-#[derive(Debug, Drop)]
+#[derive(Debug, Drop, Error)]
 pub enum CheckFault {
     /// The record `k`, counted from 1, is at fault. The text says in which line and at which field,
     /// and what may stand there.
@@ -68,8 +68,6 @@ impl fmt::Display for CheckFault {
         }
     }
 }
-
-impl Error for CheckFault {}
 
 impl From<AllocError> for CheckFault {
     ghost use Rattle.std.specs.Prelude.{◌≡◌};

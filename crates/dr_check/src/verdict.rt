@@ -5,16 +5,17 @@ ghost use Rattle.dr_files.specs.Counting.{faults_of, inner_of};
 ghost use Rattle.dr_files.specs.Outcome.{RunWrites};
 ghost use Rattle.dr_records.specs.Records.{records_of};
 ghost use Rattle.dr_drive.specs.Meaning.DriveText.{drive_text};
-ghost use Rattle.dr_replay.specs.Calls.Replayed.{FileIs, replay_text};
-ghost use Rattle.dr_replay.specs.Meaning.EventFile.{events_of as events_in};
+ghost use Rattle.dr_accounts.specs.ReplayText.{replay_text};
+ghost use Rattle.dr_operations.specs.Reading.{FileIs};
+ghost use Rattle.dr_operations.specs.EventFile.{events_of as events_in};
 ghost use Rattle.dr_check.specs.Verdict.{CheckCounts, Verdict, drive_cause, replay_cause};
 
 use crate::fault::{Cause, CheckFault};
 use crate::told::{drive_told, replay_told};
 use dr_drive::drive;
 use dr_files::{Counted, FileFault, read_all};
+use dr_operations::read_events;
 use dr_records::Rows;
-use dr_replay::read_events;
 use dr_seq::Event;
 use std::alloc::{AllocError, Global};
 use std::io;
@@ -44,7 +45,7 @@ fn driven(alloc: Global, text: &[u8]) -> Result<(), FileFault<dr_drive::Cause>>
 }
 
 // Reads the events of a text, as a replay does.
-fn events(alloc: Global, text: &[u8]) -> Result<Vec<Event>, FileFault<dr_replay::Cause>>
+fn events(alloc: Global, text: &[u8]) -> Result<Vec<Event>, FileFault<dr_operations::Cause>>
     ensures { FileIs result (events_in text.now) }
 {
     let mut reader = Counted::new(text);

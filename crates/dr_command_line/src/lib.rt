@@ -1,8 +1,8 @@
 //! The command line of the program `disruptor`: what it asks for, or why it is refused.
 #![tactic(auto)]
 
-mod requests;
+mod plans;
 mod words;
 
-pub use requests::{By, LineFault, Request, Tool};
-pub use words::request;
+pub use plans::{By, LineFault, Plan, Tool};
+pub use words::plan;

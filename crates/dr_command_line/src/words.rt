@@ -1,6 +1,6 @@
 //! The words of a command line, read.
 
-use crate::requests::{By, LineFault, Request, Tool};
+use crate::plans::{By, LineFault, Plan, Tool};
 use clap::error::ErrorKind;
 use clap::{Arg, ArgMatches, Command, Error, value_parser};
 use dr_seq::Size;
@@ -232,10 +232,10 @@ fn usage(alloc: Global, error: &Error) -> Result<String, AllocError> {
     String::from_str(alloc, text.as_str().trim_end())
 }
 
-fn refused(alloc: Global, error: &Error) -> Result<Request, LineFault> {
+fn refused(alloc: Global, error: &Error) -> Result<Plan, LineFault> {
     match error.kind() {
         ErrorKind::OutOfMemory => Err(LineFault::Memory),
-        ErrorKind::DisplayHelp | ErrorKind::DisplayVersion => Ok(Request::Help(error.to_string(
+        ErrorKind::DisplayHelp | ErrorKind::DisplayVersion => Ok(Plan::Help(error.to_string(
             alloc,
         )?)),
         _ => Err(LineFault::Usage(usage(alloc, error)?)),
@@ -258,7 +258,7 @@ fn output_of(alloc: Global, matches: &ArgMatches<'_>) -> Result<Option<String>, 
     }
 }
 
-fn replay_request(alloc: Global, matches: &ArgMatches<'_>) -> Result<Request, LineFault> {
+fn replay_plan(alloc: Global, matches: &ArgMatches<'_>) -> Result<Plan, LineFault> {
     let slots: Option<u64> = matches.get_one("size");
     let Ok(size) = Size::new(slots.unwrap_or(USUAL_SIZE)) else {
         return Err(LineFault::BadSize);
@@ -270,7 +270,7 @@ fn replay_request(alloc: Global, matches: &ArgMatches<'_>) -> Result<Request, Li
         _ => By::Plain,
     };
     let output = output_of(alloc, matches)?;
-    Ok(Request::Replay {
+    Ok(Plan::Replay {
         file,
         size,
         by,
@@ -278,31 +278,31 @@ fn replay_request(alloc: Global, matches: &ArgMatches<'_>) -> Result<Request, Li
     })
 }
 
-fn check_request(alloc: Global, matches: &ArgMatches<'_>) -> Result<Request, AllocError> {
+fn check_plan(alloc: Global, matches: &ArgMatches<'_>) -> Result<Plan, AllocError> {
     let tool = match matches.get_str("tool") {
         Some("replay") => Tool::Replay,
         _ => Tool::Drive,
     };
     let file = file_of(alloc, matches)?;
-    Ok(Request::Check { tool, file })
+    Ok(Plan::Check { tool, file })
 }
 
-fn drive_request(alloc: Global, matches: &ArgMatches<'_>) -> Result<Request, AllocError> {
+fn drive_plan(alloc: Global, matches: &ArgMatches<'_>) -> Result<Plan, AllocError> {
     let file = file_of(alloc, matches)?;
     let output = output_of(alloc, matches)?;
-    Ok(Request::Drive { file, output })
+    Ok(Plan::Drive { file, output })
 }
 
-fn request_of(alloc: Global, matches: &ArgMatches<'_>) -> Result<Request, LineFault> {
+fn plan_of(alloc: Global, matches: &ArgMatches<'_>) -> Result<Plan, LineFault> {
     if let Some(matches) = matches.subcommand_matches("replay") {
-        return replay_request(alloc, matches);
+        return replay_plan(alloc, matches);
     }
     if let Some(matches) = matches.subcommand_matches("check") {
-        return Ok(check_request(alloc, matches)?);
+        return Ok(check_plan(alloc, matches)?);
     }
     match matches.subcommand_matches("drive") {
-        Some(matches) => Ok(drive_request(alloc, matches)?),
-        None => Ok(Request::Drive {
+        Some(matches) => Ok(drive_plan(alloc, matches)?),
+        None => Ok(Plan::Drive {
             file: String::new(alloc),
             output: None,
         }),
@@ -310,9 +310,9 @@ fn request_of(alloc: Global, matches: &ArgMatches<'_>) -> Result<Request, LineFa
 }
 
 /// Reads a command line, of which the first word is the program's own name.
-pub fn request(alloc: Global, words: &[String]) -> Result<Request, LineFault> {
+pub fn plan(alloc: Global, words: &[String]) -> Result<Plan, LineFault> {
     match command(alloc)?.try_get_matches_from(words) {
-        Ok(matches) => request_of(alloc, &matches),
+        Ok(matches) => plan_of(alloc, &matches),
         Err(error) => refused(alloc, &error),
     }
 }

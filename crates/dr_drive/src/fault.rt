@@ -58,6 +58,9 @@ impl fmt::Display for Cause {
     }
 }
 
+/// Why a run over a file of commands ended early.
+pub type DriveFault = FileFault<Cause>;
+
 /// Why a record is not taken.
 #[derive(Clone, Copy, Debug, PartialEq, Eq)]
 pub enum RecordFault {
@@ -69,7 +72,7 @@ pub enum RecordFault {
 
 impl RecordFault {
     /// The fault of the file in which this is met at the record `k`, counted from 1.
-    pub fn at(self, k: u64) -> FileFault<Cause>
+    pub fn at(self, k: u64) -> DriveFault
         ensures { result ≡ fault_at k self }
     {
         match self {

@@ -14,6 +14,6 @@ mod setup;
 mod tool;
 
 pub use dr_files::{Counted, FileFault};
-pub use fault::Cause;
+pub use fault::{Cause, DriveFault};
 pub use lines::put_line;
 pub use tool::drive;

@@ -9,7 +9,7 @@ ghost use Rattle.dr_records.specs.Rows.{rows_left};
 ghost use Rattle.dr_drive.specs.Inside.Tells.{CommandTells, SetsUpAs, ShowsPhase};
 
 use crate::exchange::Exchange;
-use crate::fault::Cause;
+use crate::fault::DriveFault;
 use crate::setup::{Preparation, Prepared, missing, prepare};
 use csv::ByteRecord;
 use dr_files::{Counted, FileFault, read_all, write_text};
@@ -25,7 +25,7 @@ struct Opened {
 }
 
 // Takes the records of the setup, and leaves those that come after it.
-fn set_up(alloc: Global, rows: &mut Rows<'_>) -> Result<Opened, FileFault<Cause>>
+fn set_up(alloc: Global, rows: &mut Rows<'_>) -> Result<Opened, DriveFault>
     requires { length (rows_left rows.old) + 1 < 2 ^ 64 }
     ensures { SetsUpAs result (rows_left rows.old) (rows_left rows.new) }
 {
@@ -52,7 +52,7 @@ fn command<W: Write>(
     row: &ByteRecord,
     line: &mut String,
     writer: &mut Counted<W>,
-) -> Result<(), FileFault<Cause>>
+) -> Result<(), DriveFault>
     requires { faults_of writer.old < 2 ^ 64 - 1 }
     ensures bytes { (phase : Phase) → ShowsPhase exchange.old phase → CommandTells result exchange.new k (taken phase (fields_of row.now)) (W.contents (inner_of writer.old)) (W.contents (inner_of writer.new)) }
     ensures counted { CountsFaults result 0 0 (faults_of writer.old) (faults_of writer.new) }
@@ -70,7 +70,7 @@ fn commands<W: Write>(
     mut k: u64,
     rows: &mut Rows<'_>,
     writer: &mut Counted<W>,
-) -> Result<(), FileFault<Cause>>
+) -> Result<(), DriveFault>
     requires faults { faults_of writer.old < 2 ^ 64 - 1 }
     requires fits { k + length (rows_left rows.old) < 2 ^ 64 }
     ensures bytes { (phase : Phase) → ShowsPhase exchange.old phase → RunWrites result (W.contents (inner_of writer.old)) (W.contents (inner_of writer.new)) (text_from k phase (rows_left rows.old)) }
@@ -91,7 +91,7 @@ pub fn drive<R: Read, W: Write>(
     alloc: Global,
     reader: &mut Counted<R>,
     writer: &mut Counted<W>,
-) -> Result<(), FileFault<Cause>>
+) -> Result<(), DriveFault>
     requires reads { faults_of reader.old < 2 ^ 64 - 1 }
     requires writes { faults_of writer.old < 2 ^ 64 - 1 }
     // Where the input's bytes are known, what is written is the drive text, up to the fault that is answered.

@@ -5,8 +5,8 @@ ghost use Rattle.dr_files.specs.Faults.{fault_line, fault_status};
 
 use crate::streams::{ReadFault, WriteFault};
 use std::alloc::{AllocError, AllocFailed};
-use std::error::Error;
 use std::fmt;
+use thiserror::Error;
 
 /// What a record may be at fault by: each tool has causes of its own.
 pub trait Named {
@@ -19,7 +19,7 @@ pub trait Named {
 }
 
 /// Why a run over a file ended early. Its text is the line that a program prints, without its end.
-#[derive(Debug, Drop)]
+#[derive(Debug, Drop, Error)]
 pub enum FileFault<C> {
     /// The record `k`, counted from 1, is at fault.
     Input { k: u64, cause: C },
@@ -60,8 +60,6 @@ impl<C: Named> fmt::Display for FileFault<C> {
         }
     }
 }
-
-impl<C: Named + fmt::Debug + Drop> Error for FileFault<C> {}
 
 impl<C> From<AllocError> for FileFault<C> {
     ghost use Rattle.std.specs.Prelude.{◌≡◌};

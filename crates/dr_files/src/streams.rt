@@ -7,12 +7,12 @@ ghost use Rattle.dr_files.specs.Outcome.{ReadFaultTells, WriteTells};
 
 use crate::counted::Counted;
 use std::alloc::Global;
-use std::error::Error;
 use std::fmt;
 use std::io::{Read, Write};
+use thiserror::Error;
 
 /// Why a text is not read whole. Its text is that of the file's fault.
-#[derive(Clone, Copy, Debug, PartialEq, Eq)]
+#[derive(Clone, Copy, Debug, PartialEq, Eq, Error)]
 pub enum ReadFault {
     /// There is no memory for it.
     Memory,
@@ -31,10 +31,8 @@ impl fmt::Display for ReadFault {
     }
 }
 
-impl Error for ReadFault {}
-
 /// A write failed. Its text is that of the file's fault.
-#[derive(Clone, Copy, Debug, PartialEq, Eq)]
+#[derive(Clone, Copy, Debug, PartialEq, Eq, Error)]
 pub struct WriteFault;
 
 impl fmt::Display for WriteFault {
@@ -44,8 +42,6 @@ impl fmt::Display for WriteFault {
         write!(f, "cannot write")
     }
 }
-
-impl Error for WriteFault {}
 
 /// All bytes that a reader has left, read to its end.
 pub fn read_all<R: Read>(alloc: Global, reader: &mut Counted<R>) -> Result<Vec<u8>, ReadFault>

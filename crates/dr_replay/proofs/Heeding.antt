@@ -20,7 +20,7 @@ use Rattle.dr_workers.specs.Meaning.Work.{Dealt, HandsOut, Part, accepted_in, ba
 use Rattle.dr_workers.specs.declared.producer.Produced.{Produced}
 use Rattle.dr_workers.specs.declared.fault.WorkFault.{WorkFault}
 use Rattle.dr_workers.specs.declared.fault.WorkFault.TheVariants.{Memory, Stopped}
-use Rattle.dr_accounts.specs.Keeping.{AnswersFor, IsServed}
+use Rattle.dr_reports.specs.Keeping.{AnswersFor, IsServed}
 use Rattle.dr_replay.specs.declared.given_back.Delivered.{Delivered}
 use Rattle.dr_replay.specs.declared.lock_workers.Joined.{Joined}
 use Rattle.dr_replay.specs.declared.ring.Ran.{Ran}

@@ -2,7 +2,6 @@ pub mod Asking
 pub mod Coming
 pub mod Crossing
 pub mod Endings
-pub mod EventFiles
 pub mod Heeding
 pub mod Listing
 pub mod LockRuns

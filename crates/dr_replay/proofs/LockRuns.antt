@@ -5,7 +5,7 @@ use Rattle.std.specs.Io.KnownBytes.{Appends}
 use Rattle.std.proofs.lemmas.List.{get_or-map, length-map}
 use Rattle.std.proofs.lemmas.List.FromFn.{get_or-map-range_with_len}
 use Rattle.dr_seq.specs.declared.event.Event.{Event}
-use Rattle.dr_accounts.specs.Keeping.{error_of}
+use Rattle.dr_reports.specs.Keeping.{error_of}
 use Rattle.dr_lock.specs.Calls.Lock.{no_calls}
 use Rattle.dr_workers.specs.Meaning.FirstFault.{first_fault}
 use Rattle.dr_lock.specs.Meaning.History.{History}

@@ -5,13 +5,14 @@ use Rattle.std.specs.Io.KnownBytes.{Appends, Keeps}
 use Rattle.dr_seq.specs.declared.event.Event.{Event}
 use Rattle.dr_accounts.specs.Report.{report_of}
 use Rattle.dr_files.specs.Outcome.{AppendsFront, AreCut, Begins}
-use Rattle.dr_replay.specs.Meaning.EventFile.{events_of}
+use Rattle.dr_operations.specs.EventFile.{events_of}
 use Rattle.dr_files.specs.declared.fault.FileFault.TheVariants as file
 use Rattle.dr_replay.specs.declared.fault.ReplayFault.{ReplayFault}
 use Rattle.dr_replay.specs.declared.fault.ReplayFault.TheVariants as fault
 use Rattle.dr_replay.specs.Calls.Workers.{IsOfMerge}
 use Rattle.dr_replay.specs.Meaning.Exchange.{IsOfReplay}
-use Rattle.dr_replay.specs.Calls.Replayed.{IsReportOfMerge, LockFaultWrites, ReplayFaultKeeps, replay_text, reported}
+use Rattle.dr_replay.specs.Calls.Replayed.{IsReportOfMerge, LockFaultWrites, ReplayFaultKeeps}
+use Rattle.dr_accounts.specs.ReplayText.{replay_text, reported}
 
 -- what holds where a fault is answered that came from a call
 pub at_exit : {A E : Type 0} (r : Result A E) (e : E) (P : Result A E → Type 0) → IsErrAnd r (λ y. y ≡ e) → P (Err e) → P r

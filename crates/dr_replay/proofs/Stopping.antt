@@ -11,7 +11,7 @@ use Rattle.dr_workers.specs.declared.ended.Ended.{Ended}
 use Rattle.dr_lock.specs.Meaning.History.{History}
 use Rattle.dr_workers.specs.declared.fault.WorkFault.{WorkFault}
 use Rattle.dr_workers.specs.declared.fault.WorkFault.TheVariants.{Refused, Stopped}
-use Rattle.dr_accounts.specs.Keeping.{error_of}
+use Rattle.dr_reports.specs.Keeping.{error_of}
 use Rattle.dr_replay.proofs.Unrefused.{sender_served}
 use Rattle.dr_replay.specs.declared.lock_workers.Joined.{Joined}
 use Rattle.dr_replay.specs.declared.ring.Ran.{Ran}

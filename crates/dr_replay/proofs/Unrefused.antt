@@ -27,11 +27,11 @@ not_refused true refusal is = cc
 not_refused false refusal is = cc
 
 pub sender_served : {may_stop must_stop : ℕ → Type 0} (k : Shape) (size : ℕ) (events : List Event) (given back : SenderEnd) (produced : Produced)
-    → IsSending (max (size / 4) 1) events may_stop must_stop given back produced → given.knows ≡ fresh_sender k → k.size ≡ size → k.limit ≡ 2 ^ 62
+    → IsSending size events may_stop must_stop given back produced → given.knows ≡ fresh_sender k → k.size ≡ size → k.limit ≡ 2 ^ 62
     → length events ≤ 2 ^ 62
     → FoundUnhalted back.knows → (refusal : Refusal) → produced.fault ≡ Some (Refused refusal) → ⊥
 sender_served k size events given back produced S fresh slots limit short unhalted refusal is =
-    let done = S.done in let calls = S.calls in let cut : ℕ = max (size / 4) 1 in
+    let done = S.done in let calls = S.calls in let cut : ℕ = size in let some : 0 < size = S.some in
     let before : given.knows.sent.pending ≡ [] = ap (λ (r : SenderRecord). r.sent.pending) fresh in
     let complete : done.knows.sent.pending ≡ [] = S.complete before in
     let found : FoundUnhalted done.knows = ring.unhalted_before done back S.closes unhalted in

@@ -1,4 +1,3 @@
--- What a file of operations says: the first to read.
-pub mod EventFile
+-- What a replay sends, and through what.
 pub mod Exchange
 pub mod Scripts

@@ -1,34 +1,18 @@
 //! Why a replay ends early.
 
 ghost use Rattle.std.specs.Prelude.{◌≡◌, Some};
-ghost use Rattle.dr_replay.specs.Calls.ReplayFaults.{cause_name, replay_line, replay_status};
+ghost use Rattle.dr_replay.specs.Calls.ReplayFaults.{replay_line, replay_status};
 
-use dr_files::{FileFault, Named, WriteFault};
+use dr_files::{FileFault, WriteFault};
 use dr_lock::AuditFault;
+use dr_operations::Cause;
 use dr_workers::WorkFault;
 use std::alloc::{AllocError, AllocFailed};
-use std::error::Error;
 use std::fmt;
+use thiserror::Error;
 
-/// Why a record of an event file is at fault.
-#[derive(Clone, Copy, Debug, PartialEq, Eq)]
-pub enum Cause {
-    /// The record is no operation.
-    BadRecord,
-}
-
-impl Named for Cause {
-    ghost name_of = { cause_name };
-
-    fn name(&self) -> &'static str {
-        match self {
-            Cause::BadRecord => "bad record",
-        }
-    }
-}
-
-/// Why a replay by workers ended early. Its text is the line that a program prints.
-#[derive(Debug, Drop)]
+/// Why a replay ended early. Its text is the line that a program prints.
+#[derive(Debug, Drop, Error)]
 pub enum ReplayFault {
     /// The file is at fault, or what reads and writes it.
     File(FileFault<Cause>),
@@ -65,8 +49,6 @@ impl fmt::Display for ReplayFault {
         }
     }
 }
-
-impl Error for ReplayFault {}
 
 impl From<FileFault<Cause>> for ReplayFault {
     ghost use Rattle.std.specs.Prelude.{◌≡◌};

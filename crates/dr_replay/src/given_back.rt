@@ -1,7 +1,7 @@
 //! What the workers of a replay behind a lock give back, and what they promise of it.
 
 ghost use Rattle.std.specs.Prelude.{◌≡◌, ◌+◌};
-ghost use Rattle.dr_accounts.specs.Keeping.{error_of};
+ghost use Rattle.dr_reports.specs.Keeping.{error_of};
 ghost use Rattle.dr_replay.specs.Calls.LockWorkers.{HasHandled, HasSent, list_of};
 
 use crate::part::Part;

@@ -1,13 +1,12 @@
 //! The replays of a file of operations: one core on one thread, a core behind a lock, or the ring.
 //!
-//! Begin with `specs/Meaning/EventFile`, the operations of a file, and `dr_accounts/specs/Report`,
-//! what is reported of their events. [`replay_plain`] reads a file of operations and writes the
-//! report of its events, and so does [`replay_ring`], with a thread for each handler;
-//! [`replay_lock`] has a thread for each producer too, and reports a merge. What a run leaves
-//! written, and when it fails, is one definition for all tools: `dr_files/specs/Outcome`.
+//! [`replay_plain`] reads a file of operations and writes the report of its events, and so does
+//! [`replay_ring`], with a thread for each handler; [`replay_lock`] has a thread for each producer too,
+//! and reports a merge. Begin with `dr_accounts/specs/ReplayText`, what a file has a replay write, and
+//! `specs/Meaning`, what each producer is to send. What a run leaves written, and when it fails, is one
+//! definition for all tools: `dr_files/specs/Outcome`.
 #![tactic(auto)]
 
-mod event_file;
 mod fault;
 mod given_back;
 mod lock;
@@ -19,8 +18,8 @@ mod ring;
 mod scripts;
 
 pub use dr_files::{Counted, FileFault};
-pub use event_file::read_events;
-pub use fault::{Cause, ReplayFault};
+pub use dr_operations::Cause;
+pub use fault::ReplayFault;
 pub use lock::replay_lock;
 pub use one_thread::replay_plain;
 pub use ring::replay_ring;

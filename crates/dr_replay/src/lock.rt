@@ -3,8 +3,8 @@
 ghost use Rattle.std.specs.Prelude.{◌≡◌, ◌+◌, ◌-◌, ◌*◌, ◌++◌, ◌^◌, ◌<◌, ◌≤◌, [], All, IfErr, IfOk, IfSome, List, None, OnOk, length, map};
 ghost use Rattle.dr_seq.specs.declared.event.Event.{Event};
 ghost use Rattle.dr_files.specs.Counting.{faults_of, inner_of};
-ghost use Rattle.dr_replay.specs.Meaning.EventFile.{events_of as events_in};
-ghost use Rattle.dr_accounts.specs.Keeping.{error_of};
+ghost use Rattle.dr_operations.specs.EventFile.{events_of as events_in};
+ghost use Rattle.dr_reports.specs.Keeping.{error_of};
 ghost use Rattle.dr_accounts.specs.Parts.{text_of};
 ghost use Rattle.dr_workers.specs.Meaning.FirstFault.{first_fault as first_of};
 ghost use Rattle.dr_workers.specs.Calls.Stops.{MayStop};
@@ -15,17 +15,18 @@ ghost use Rattle.dr_replay.specs.Inside.LockWorkers.{SaidOfLock, endings_in, end
 ghost use Rattle.dr_replay.specs.Meaning.Exchange.{CameTo, GoesOnBy, IsOfReplay, lock_setup, setup_for};
 ghost use Rattle.dr_replay.specs.Meaning.Scripts.{scripts_in};
 
-use crate::event_file::read_events;
 use crate::fault::ReplayFault;
 use crate::given_back::Delivered;
 use crate::lock_workers::{Around, Joined, exchange, make_ends};
 use crate::outcome::{audit_fault, ended, lock_fault, write_report};
 use crate::part::{Agreed, report_of_list};
 use crate::scripts::{scripts, views};
-use dr_accounts::{BUSINESS, JOURNAL, REPLICA, Report, graph};
+use dr_accounts::Report;
 use dr_files::Counted;
 use dr_lock::{End, Exchange, Recorded, Shared, audit, finish};
 use dr_meaning::{MAX_LIMIT, Mode};
+use dr_operations::read_events;
+use dr_reports::{BUSINESS, JOURNAL, REPLICA, graph};
 use dr_seq::{Event, Size};
 use dr_workers::{Bell, Ended, Gate, SENDER, WorkFault, first_fault};
 use std::alloc::{AllocError, Global};

@@ -1,8 +1,8 @@
 //! The workers of a replay behind a lock: a thread for each producer, and one for each handler.
 
-ghost use Rattle.std.specs.Prelude.{◌≡◌, ◌+◌, ◌/◌, ◌^◌, ◌≤◌, All, IfOk, length, max};
+ghost use Rattle.std.specs.Prelude.{◌≡◌, ◌+◌, ◌^◌, ◌≤◌, All, IfOk, length};
 ghost use denote.Param.Send.{IsSync};
-ghost use Rattle.dr_accounts.specs.Keeping.{error_of};
+ghost use Rattle.dr_reports.specs.Keeping.{error_of};
 ghost use Rattle.dr_lock.specs.Calls.Lock.{HasHalted, no_calls};
 ghost use Rattle.dr_replay.specs.Calls.LockWorkers.{HasHandled, HasSent, list_of};
 ghost use Rattle.dr_replay.specs.Inside.LockWorkers.{AreSent, AreUnused, ComesBack, halter_of};
@@ -10,8 +10,9 @@ ghost use Rattle.dr_replay.specs.Meaning.Exchange.{IsHalters};
 
 use crate::given_back::{Delivered, Handled, HandledBy, SentBy};
 use crate::part::Listing;
-use dr_accounts::{BUSINESS, Business, JOURNAL, Journal, REPLICA, Replica, Reporter};
+use dr_accounts::{Business, Journal, Replica, Reporter};
 use dr_lock::{End, Exchange, LockedInlet, LockedOutlet, Shared, halt};
+use dr_reports::{BUSINESS, JOURNAL, REPLICA};
 use dr_seq::{Event, Size};
 use dr_workers::{BATCH, Bell, Gate, Parking, Ringing, SENDER, WorkFault, produce_with, serve};
 use std::alloc::{AllocError, Global};
@@ -159,24 +160,17 @@ fn handle<L: Exchange<Event>, R: Wait, G: Gate, P: Reporter>(
     Handled { end, part }
 }
 
-// How many events a claim has: with less than the ring in it the handlers have events meanwhile.
-fn quarter(size: Size) -> u64
-    ensures { result ≡ max (size / 4) 1 }
-{
-    (size.get() / 4).max(1)
-}
-
-// Sends a producer's script. It parks where there is no room, and rings the bell with each publication.
+// Sends a producer's script, in claims of as many events as the core has slots. It parks where there is no room, and rings the bell with each publication.
 fn send<L: Exchange<Event>, R: Wait, G: Gate>(
     around: &Around<'_, L, R, G>,
     task: Task<'_, L>,
 ) -> Delivered<L>
     requires few { task.p ≤ 2 ^ 62 }
     requires unused { task.end ≡ no_calls }
-    ensures { HasSent L.begun task.entry.p (max (around.now.size / 4) 1) task.entry.script.now (G.may_stop around.now.gate.now (16 + task.entry.p)) (G.must_stop around.now.gate.now (16 + task.entry.p)) result.end result.fault }
+    ensures { HasSent L.begun task.entry.p around.now.size task.entry.script.now (G.may_stop around.now.gate.now (16 + task.entry.p)) (G.must_stop around.now.gate.now (16 + task.entry.p)) result.end result.fault }
 {
     let Task { p, end, script } = task;
-    let (rt, gate, bell, cut) = (around.rt, around.gate, around.bell, quarter(around.size));
+    let (rt, gate, bell, cut) = (around.rt, around.gate, around.bell, around.size.get());
     let locked = LockedInlet::new(rt, around.shared, end, p as u64);
     let mut inlet = Ringing::new(locked, bell);
     let mut parking = Parking::new(rt, bell, cut);
@@ -213,7 +207,7 @@ fn send_all<L: Exchange<Event> + Send + Sync, R: Threads + Wait + Sync, G: Gate 
             requires unused { All (λ end. end ≡ no_calls) ends.items }
             ensures { IfOk result (λ sent. AreSent L.begun (G.may_stop around.entry.now.gate.now) (G.must_stop around.entry.now.gate.now) around.entry.now.size scripts.entry.now sent.items) }
         {
-            let cut = quarter(around.size);
+            let cut = around.size.get();
             let mut started = Vec::with_capacity(around.alloc, scripts.len())?;
             for end in ends {
                 let p = started.len();

@@ -1,6 +1,6 @@
 //! The replay over the ring, a thread a handler.
 
-ghost use Rattle.std.specs.Prelude.{◌≡◌, ◌++◌, ◌-◌, ◌/◌, ◌^◌, ◌∷◌, ◌<◌, [], IfErr, IfOk, IfSome, List, None, Some, false, length, max, take, true};
+ghost use Rattle.std.specs.Prelude.{◌≡◌, ◌++◌, ◌-◌, ◌^◌, ◌∷◌, ◌<◌, [], IfErr, IfOk, IfSome, List, None, Some, false, length, take, true};
 ghost use Rattle.dr_seq.specs.declared.event.Event.{Event};
 ghost use Rattle.dr_ring.specs.Calls.Ends.{sender_place};
 ghost use Rattle.dr_ring.specs.Calls.Sending.{ClosesOnceDone};
@@ -9,26 +9,26 @@ ghost use Rattle.dr_ring.specs.Meaning.Settling.{FoundUnhalted};
 ghost use Rattle.dr_ring.specs.Calls.Telling.{sender_does};
 ghost use Rattle.dr_meaning.specs.Calls.Calling.{SomeCalls};
 ghost use Rattle.dr_files.specs.Counting.{faults_of, inner_of};
-ghost use Rattle.dr_replay.specs.Calls.Replayed.{ReplayCounts, ReplayFaultKeeps, ReplayWrites, replay_text};
+ghost use Rattle.dr_replay.specs.Calls.Replayed.{ReplayCounts, ReplayFaultKeeps, ReplayWrites};
 ghost use Rattle.dr_accounts.specs.Parts.{text_of};
+ghost use Rattle.dr_accounts.specs.ReplayText.{replay_text};
 ghost use Rattle.dr_accounts.specs.Report.{report_of};
 ghost use Rattle.dr_workers.specs.Calls.Serving.{Sends};
 ghost use Rattle.dr_workers.specs.Calls.Stops.{MayStop};
 ghost use Rattle.dr_workers.specs.Meaning.FirstFault.{first_fault as first_of};
 ghost use Rattle.dr_workers.specs.Meaning.Work.{LeavesNothingOpen};
 ghost use Rattle.dr_workers.specs.declared.fault.WorkFault.TheVariants.{Stopped};
-ghost use Rattle.dr_replay.specs.Meaning.EventFile.{events_of as events_in};
+ghost use Rattle.dr_operations.specs.EventFile.{events_of as events_in};
 ghost use Rattle.dr_replay.specs.Calls.RingRuns.{CameOf};
 ghost use Rattle.dr_replay.specs.Calls.Workers.{AreThrough, CameTogether, ComesOf, IsFirstOf, IsFirstOfSome, IsOfWorkers, IsSending, NoneHadToStop, Says, UnlessMemory, endings_of, ends_of, ring_workers};
 
-use crate::event_file::read_events;
 use crate::fault::ReplayFault;
 use crate::outcome::{replay_fault, write_report};
-use dr_accounts::{
-    BUSINESS, Business, JOURNAL, Journal, PartOf, REPLICA, Replica, Report, Worked, graph, work,
-};
+use dr_accounts::{Business, Journal, Replica, Report};
 use dr_files::{Counted, FileFault};
 use dr_meaning::MAX_LIMIT;
+use dr_operations::read_events;
+use dr_reports::{BUSINESS, JOURNAL, PartOf, REPLICA, Worked, graph, work};
 use dr_ring::{Halter, Receiver, Sender, ring, settle};
 use dr_seq::{Event, Size};
 use dr_workers::{
@@ -84,7 +84,7 @@ fn abandoned(mut sender: Sender, bell: &Bell) -> Sender
     sender
 }
 
-// Sends the events, in claims of a quarter of the ring.
+// Sends the events, in claims of as many as the ring has slots.
 fn sent<R: Wait, G: Gate>(
     rt: &R,
     gate: &G,
@@ -93,16 +93,16 @@ fn sent<R: Wait, G: Gate>(
     sender: &mut Ringing<Sender, &Bell>,
     bell: &Bell,
 ) -> Produced
+    ensures some { 0 < size }
     ensures place { sender_place sender.new ≡ sender_place sender.old }
     ensures published { sender.new.knows.sent.published ≡ sender.old.knows.sent.published ++ take result.sent events.now }
     ensures open { LeavesNothingOpen sender.old.knows.sent sender.new.knows.sent }
     ensures all { result.fault ≡ None → result.sent ≡ length events.now }
     ensures stopped { result.fault ≡ Some Stopped → MayStop G.may_stop gate.now 16 }
-    ensures calls { SomeCalls sender_does sender.old sender.new (Sends (max (size / 4) 1) events.now (G.may_stop gate.now 16) (G.must_stop gate.now 16) result) }
+    ensures calls { SomeCalls sender_does sender.old sender.new (Sends size events.now (G.may_stop gate.now 16) (G.must_stop gate.now 16) result) }
 {
-    // With less than the ring in a claim the handlers have events while the sender writes.
-    let cut = (size.get() / 4).max(1);
-    let mut parking = Parking::new(rt, bell, size.get());
+    let cut = size.get();
+    let mut parking = Parking::new(rt, bell, cut);
     produce_with(rt, sender, gate, SENDER, events, cut, &mut parking)
 }
 
@@ -121,7 +121,7 @@ fn served<R: Threads + Wait, G: Gate, J: Promise<Worked>, K: Promise<Worked>, B:
         PromisedHandle<Worked, B>,
     ),
 ) -> Ran
-    ensures sending { IsSending (max (size / 4) 1) events.now (G.may_stop gate.now 16) (G.must_stop gate.now 16) sender result.sender result.produced }
+    ensures sending { IsSending size events.now (G.may_stop gate.now 16) (G.must_stop gate.now 16) sender result.sender result.produced }
     ensures closed { sender.knows.sent.pending ≡ [] → result.sender.knows.closed ≡ true }
     ensures journal { J.kept_by handles.0.promise result.journal }
     ensures replica { K.kept_by handles.1.promise result.replica }

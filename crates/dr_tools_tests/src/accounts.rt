@@ -1,7 +1,8 @@
 //! What no clause says: that a report over memory succeeds, and its text, by the rules of the format.
 
 use crate::checks::check;
-use dr_accounts::{Movement, Operation, report_by_core};
+use dr_operations::{Movement, Operation};
+use dr_reports::report_by_core;
 use dr_seq::{Event, Size};
 use std::alloc::Global;
 use std::process::Abort;

@@ -157,6 +157,30 @@ fn workers_that_are_stopped(rt: HostRuntime) {
     }
 }
 
+fn check_claims(
+    rt: &(impl Threads + Wait + Sync + Abort),
+    alloc: Global,
+    by: Way,
+    slots: u64,
+    claims: u64,
+) {
+    let size = Size::new(slots).expect(rt, "a size");
+    let gate = stops_at(16, u64::MAX);
+    let (_, result) = replay_text(rt, alloc, by, TEN, size, &gate);
+    assert!(rt; result.is_ok() && gate.has_passed(claims));
+}
+
+// How many claims the ten deposits take, by how many slots there are.
+const CLAIMS: [(u64, u64); 4] = [(1, 10), (2, 5), (4, 3), (16, 1)];
+
+#[test]
+fn claims_of_all_slots(rt: HostRuntime) {
+    for (slots, claims) in &CLAIMS {
+        check_claims(&rt, rt.alloc(), Way::Lock, *slots, *claims);
+        check_claims(&rt, rt.alloc(), Way::Ring, *slots, *claims);
+    }
+}
+
 // A gate that stops all workers from a number on.
 #[derive(Drop)]
 struct StopsFrom(usize);

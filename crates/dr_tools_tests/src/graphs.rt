@@ -142,6 +142,28 @@ fn group_of(alloc: Global, names: &[&str]) -> Result<Group, GraphFault> {
     GraphBuilder::new(alloc).handle_with(names)
 }
 
+/// Calls of a builder that refuses the first of them.
+const FIRST_REFUSED: [(Call, Option<GraphFault>); 7] = [
+    (Call::With(&["a", "a"]), Some(GraphFault::Duplicate)),
+    (Call::With(&["a"]), None),
+    (Call::With(&[]), Some(GraphFault::EmptyGroup)),
+    (Call::With(&["a b"]), Some(GraphFault::BadName)),
+    (
+        Call::With(&["abcdefghijklmnopqrstuvwxyzabcdefg"]),
+        Some(GraphFault::BadName),
+    ),
+    (Call::Edge("a", "z"), Some(GraphFault::Stranger)),
+    (Call::Edge("a", "a"), None),
+];
+
+#[test]
+fn takes_a_name_that_it_refused_at_first(rt: HostRuntime) {
+    let mut builder = GraphBuilder::new(rt.alloc());
+    let mut current = group_of(rt.alloc(), &["y"]).expect(&rt, "a group");
+    make_all(&rt, &mut builder, &mut current, &FIRST_REFUSED);
+    check(&rt, builder.build().err(), Some(GraphFault::Cycle));
+}
+
 fn follow(builder: &mut GraphBuilder, group: &Group) -> Result<(), GraphFault> {
     builder.then(group, &["h0"])?;
     Ok(())

@@ -45,9 +45,14 @@ fn a_stretch_is_copied_round_the_end(rt: HostRuntime) -> Result<(), Fail> {
 #[test]
 fn a_mark_counts_in_its_own_round(rt: HostRuntime) -> Result<(), Fail> {
     let mut rounds = Rounds::new(rt.alloc(), Size::new(4)?)?;
+    check(&rt, rounds.front(0, 4), 0);
+    rounds.mark(0);
     rounds.mark(1);
     rounds.mark(3);
+    check(&rt, rounds.front(0, 4), 2);
+    check(&rt, rounds.is_marked(4), false);
     rounds.mark(4);
+    check(&rt, (rounds.is_marked(4), rounds.is_marked(0)), (true, false));
     check(&rt, rounds.front(1, 5), 2);
     rounds.mark(2);
     check(&rt, rounds.front(1, 5), 5);

@@ -1,7 +1,7 @@
 //! The tools over streams: `drive`, and a replay by each of its ways.
 
-use dr_drive::{Cause, drive};
-use dr_files::{Counted, FileFault};
+use dr_drive::{DriveFault, drive};
+use dr_files::Counted;
 use dr_replay::{ReplayFault, replay_lock, replay_plain, replay_ring};
 use dr_seq::Size;
 use dr_workers::Gate;
@@ -22,7 +22,7 @@ pub enum Way {
 // Why a run ended early.
 #[derive(Drop)]
 pub enum Failed {
-    Drive(FileFault<Cause>),
+    Drive(DriveFault),
     Replay(ReplayFault),
 }
 
@@ -48,9 +48,7 @@ pub fn run_streams<R: Threads + Wait + Sync, I: Read + Drop, O: Write + Drop, G:
     let mut writer = Counted::new(output);
     let result = match by {
         Way::Drive => drive(alloc, &mut reader, &mut writer).map_err(Failed::Drive),
-        Way::Plain => replay_plain(alloc, &mut reader, &mut writer, size).map_err(
-            |fault| Failed::Replay(ReplayFault::File(fault)),
-        ),
+        Way::Plain => replay_plain(alloc, &mut reader, &mut writer, size).map_err(Failed::Replay),
         Way::Lock => replay_lock(rt, alloc, &mut reader, &mut writer, size, gate).map_err(
             Failed::Replay,
         ),

@@ -43,7 +43,7 @@ pub record JoinedOver (may_stop must_stop : ℕ → ℕ → Type 0) (size : ℕ)
   pub many : length senders ≡ producers_in events
   pub all : length of_senders ≡ producers_in events
   pub each_sent : (p : ℕ) → p < producers_in events
-      → HasSent begun p (max (size / 4) 1) (script_in events p) (may_stop (16 + p)) (must_stop (16 + p)) (slice_index_or senders p no_calls) (slice_index_or of_senders p None)
+      → HasSent begun p size (script_in events p) (may_stop (16 + p)) (must_stop (16 + p)) (slice_index_or senders p no_calls) (slice_index_or of_senders p None)
 
 -- how its workers ended
 abbrev pub endings_over : {may_stop must_stop : ℕ → ℕ → Type 0} {size : ℕ} {events : List Event} → JoinedOver may_stop must_stop size events → List Ended

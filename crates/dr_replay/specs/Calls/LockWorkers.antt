@@ -9,7 +9,7 @@ use Rattle.dr_lock.specs.Calls.Asking.{InletAsks, OutletAsks}
 use Rattle.dr_lock.specs.Calls.Lock.{EndView, no_calls}
 use Rattle.dr_workers.specs.Calls.Serving.{Sends, Serves}
 use Rattle.dr_lock.specs.Meaning.History.{History}
-use Rattle.dr_accounts.specs.Keeping.{AnswersFor}
+use Rattle.dr_reports.specs.Keeping.{AnswersFor}
 use Rattle.dr_replay.specs.Calls.Listing.{Listed, Lists}
 
 -- the list of a part of the report, where a worker gives one back

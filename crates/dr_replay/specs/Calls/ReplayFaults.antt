@@ -3,13 +3,9 @@ use Rattle.std.specs.Prelude.{ℕ, List, ◌++◌, codes, decimal}
 use Rattle.dr_workers.specs.Calls.Fault.{name_of}
 use Rattle.dr_lock.specs.declared.audit_fault.AuditFault.TheVariants as audit
 use Rattle.dr_files.specs.Faults.{fault_line, fault_status}
-use Rattle.dr_replay.specs.declared.fault.Cause.{Cause}
-use Rattle.dr_replay.specs.declared.fault.Cause.TheVariants.{BadRecord}
+use Rattle.dr_operations.specs.Reading.{cause_name}
 use Rattle.dr_replay.specs.declared.fault.ReplayFault.{ReplayFault}
 use Rattle.dr_replay.specs.declared.fault.ReplayFault.TheVariants as fault
-
-abbrev pub cause_name : Cause → List ℕ
-cause_name BadRecord = codes "bad record"
 
 abbrev pub replay_line : ReplayFault → List ℕ
 replay_line (fault.File f) = fault_line cause_name f

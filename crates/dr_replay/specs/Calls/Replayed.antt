@@ -1,5 +1,5 @@
 -- What a replay writes, and what it answers.
-use Rattle.std.specs.Prelude.{◌≡◌, ℕ, Result, Ok, Err, List, [], ◌∷◌, Option, None, Some, Vec}
+use Rattle.std.specs.Prelude.{◌≡◌, ℕ, Result, Ok, Err, List, Option, None}
 use Rattle.std.specs.Io.KnownBytes.{Appends, Keeps}
 use Rattle.dr_seq.specs.declared.event.Event.{Event}
 use Rattle.dr_meaning.specs.Meaning.Machine.{handlers}
@@ -8,47 +8,16 @@ use Rattle.dr_lock.specs.Meaning.History.{History, transcript}
 use Rattle.dr_accounts.specs.Report.{report_of}
 use Rattle.dr_files.specs.Lines.{joined}
 use Rattle.dr_files.specs.Outcome.{AppendsFront, FaultCounts, FaultKeeps, FaultWrites, Said}
-use Rattle.dr_files.specs.declared.fault.FileFault.{FileFault}
 use Rattle.dr_files.specs.declared.fault.FileFault.TheVariants as file
-use Rattle.dr_replay.specs.Meaning.EventFile.{events_in, events_of}
-use Rattle.dr_records.specs.Records.{Record}
+use Rattle.dr_accounts.specs.ReplayText.{reported}
 use Rattle.dr_replay.specs.Meaning.Exchange.{IsOfReplay}
 use Rattle.dr_replay.specs.Meaning.Scripts.{scripts_in}
 use Rattle.dr_replay.specs.Calls.Workers.{AuditFinds, IsOfMerge}
-use Rattle.dr_replay.specs.declared.fault.Cause.{Cause}
-use Rattle.dr_replay.specs.declared.fault.Cause.TheVariants.{BadRecord}
+use Rattle.dr_operations.specs.declared.cause.Cause.{Cause}
 use Rattle.dr_replay.specs.declared.fault.ReplayFault.{ReplayFault}
 use Rattle.dr_replay.specs.declared.fault.ReplayFault.TheVariants as fault
 
--- a file of operations says the report of its events, as one line of text, or is at fault at its first bad record
-abbrev pub reported : Result (List Event) ℕ → Said Cause
-reported (Ok events) = record { lines = report_of events ∷ []; fault = None }
-reported (Err k) = record { lines = []; fault = Some (record { k = k; cause = BadRecord }) }
-
-abbrev pub replay_text : List ℕ → Said Cause
-replay_text input = reported (events_of input)
-
--- records that have events, or a first bad one; of memory nothing is said
-abbrev pub ReadFails : FileFault Cause → List Record → Type 0
-ReadFails (file.Input k cause) rs = (events_in rs ≡ Err k) × (cause ≡ BadRecord)
-ReadFails file.Memory rs = Unit {0}
-ReadFails other rs = ⊥
-
-abbrev pub ReadsAs : {Z : Type 0} → Result (Vec Event Z) (FileFault Cause) → List Record → Type 0
-ReadsAs (Ok events) rs = events_in rs ≡ Ok events.items
-ReadsAs (Err e) rs = ReadFails e rs
-
--- the events of a file, or its first bad record; of memory and of a failed read nothing is said
-abbrev pub FileFaultIs : FileFault Cause → Result (List Event) ℕ → Type 0
-FileFaultIs (file.Input k cause) events = (events ≡ Err k) × (cause ≡ BadRecord)
-FileFaultIs file.Write events = ⊥
-FileFaultIs other events = Unit {0}
-
-abbrev pub FileIs : {Z : Type 0} → Result (Vec Event Z) (FileFault Cause) → Result (List Event) ℕ → Type 0
-FileIs (Ok found) events = events ≡ Ok found.items
-FileIs (Err e) events = FileFaultIs e events
-
--- What a replay by workers does: as any run over a file, and at a fault of a worker or of an audit nothing is written, of a file without a fault.
+-- What a replay does: as any run over a file, and at a fault of a worker or of an audit nothing is written, of a file without a fault.
 
 abbrev pub ReplayFaultWrites : ReplayFault → Option (List ℕ) → Option (List ℕ) → Said Cause → Type 0
 ReplayFaultWrites (fault.File f) old new said = FaultWrites f old new said
@@ -58,6 +27,11 @@ ReplayFaultWrites (fault.Audit f) old new said = (said.fault ≡ None) × Keeps 
 abbrev pub ReplayWrites : {A : Type 0} → Result A ReplayFault → Option (List ℕ) → Option (List ℕ) → Said Cause → Type 0
 ReplayWrites (Ok done) old new said = (said.fault ≡ None) × Appends old new (joined said.lines)
 ReplayWrites (Err e) old new said = ReplayFaultWrites e old new said
+
+-- the fault of a run without workers: that of the file, or one of memory, reading or writing
+abbrev pub IsOfFile : ReplayFault → Type 0
+IsOfFile (fault.File f) = Unit {0}
+IsOfFile other = ⊥
 
 abbrev pub ReplayFaultKeeps : ReplayFault → Option (List ℕ) → Option (List ℕ) → Type 0
 ReplayFaultKeeps (fault.File f) old new = FaultKeeps f old new

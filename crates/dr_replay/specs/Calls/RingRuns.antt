@@ -4,7 +4,7 @@ use Rattle.dr_seq.specs.declared.event.Event.{Event}
 use Rattle.dr_ring.specs.Calls.Ends.{SenderEnd, ReceiverEnd, HalterEnd}
 use Rattle.dr_ring.specs.Calls.Making.{AreFreshEnds}
 use Rattle.dr_ring.specs.Calls.Settling.{HasRun}
-use Rattle.dr_accounts.specs.Passing.{replay_graph}
+use Rattle.dr_reports.specs.Passing.{replay_graph}
 use Rattle.dr_replay.specs.Calls.Workers.{AreThrough, IsFirstOf, IsRun, endings_of, ends_of}
 use Rattle.dr_files.specs.declared.fault.FileFault.TheVariants as file
 use Rattle.dr_replay.specs.declared.ring.Ran.{Ran}

@@ -24,17 +24,18 @@ use Rattle.dr_files.specs.declared.fault.FileFault.{FileFault}
 use Rattle.dr_files.specs.declared.fault.FileFault.TheVariants as file
 use Rattle.dr_replay.specs.Meaning.Exchange.{IsOfReplay}
 use Rattle.dr_replay.specs.Meaning.Scripts.{producers_in, script_in, scripts_in}
-use Rattle.dr_replay.specs.declared.fault.Cause.{Cause}
+use Rattle.dr_operations.specs.declared.cause.Cause.{Cause}
 use Rattle.dr_replay.specs.declared.fault.ReplayFault.{ReplayFault}
 use Rattle.dr_replay.specs.declared.fault.ReplayFault.TheVariants as fault
-use Rattle.dr_accounts.specs.Keeping.{Keeps, error_of}
+use Rattle.dr_reports.specs.Keeping.{Keeps, error_of}
 use Rattle.dr_replay.specs.declared.ring.Ran.{Ran}
 use Rattle.dr_accounts.specs.Handlers.{Books, Copies, IsBusinessOf, IsJournalOf, IsReplicaOf, Journals}
-use Rattle.dr_accounts.specs.declared.worker.Worked.{Worked}
+use Rattle.dr_reports.specs.declared.worker.Worked.{Worked}
 use Rattle.dr_accounts.specs.Report.{journal_part, replica_part, business_part}
 
--- a sender sent the first of some events in such claims, came to its gate with each, left none open, and answers what these calls came to; after them, and not before, it closed the ring
+-- a sender sent the first of some events in such claims, of one or more, came to its gate with each, left none open, and answers what these calls came to; after them, and not before, it closed the ring
 pub record IsSending (cut : ℕ) (events : List Event) (may_stop must_stop : ℕ → Type 0) (given back : SenderEnd) (produced : Produced) : Type 0 where
+  pub some : 0 < cut
   pub place : sender_place back ≡ sender_place given
   pub published : back.knows.sent.published ≡ given.knows.sent.published ++ take produced.sent events
   pub all : produced.fault ≡ None → produced.sent ≡ length events
@@ -57,7 +58,7 @@ KeepsBusiness may_stop must_stop given back = Keeps (λ old event s end new. Boo
 
 -- what came of an exchange: the sender published the first of the events, all of them where it has no fault, and closed, and each worker keeps its promise
 pub record IsRun (may_stop must_stop : ℕ → ℕ → Type 0) (size : ℕ) (events : List Event) (s : SenderEnd) (j r b : ReceiverEnd) (ran : Ran) : Type 0 where
-  pub sending : IsSending (max (size / 4) 1) events (may_stop 16) (must_stop 16) s ran.sender ran.produced
+  pub sending : IsSending size events (may_stop 16) (must_stop 16) s ran.sender ran.produced
   pub closed : s.knows.sent.pending ≡ [] → ran.sender.knows.closed ≡ true
   pub journal : KeepsJournal (may_stop 0) (must_stop 0) j ran.journal
   pub replica : KeepsReplica (may_stop 1) (must_stop 1) r ran.replica

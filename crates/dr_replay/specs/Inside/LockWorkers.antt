@@ -4,7 +4,7 @@ use Rattle.dr_seq.specs.declared.event.Event.{Event}
 use Rattle.dr_lock.specs.Calls.Lock.{EndView, no_calls}
 use Rattle.dr_lock.specs.Meaning.History.{History}
 use Rattle.dr_workers.specs.declared.ended.Ended.{Ended}
-use Rattle.dr_accounts.specs.Keeping.{error_of}
+use Rattle.dr_reports.specs.Keeping.{error_of}
 use Rattle.dr_replay.specs.Calls.LockRuns.{CameOfLock}
 use Rattle.dr_replay.specs.Calls.LockWorkers.{HasHandled, HasSent, list_of}
 use Rattle.dr_replay.specs.Calls.Workers.{lock_endings}
@@ -13,11 +13,11 @@ use Rattle.dr_replay.specs.declared.given_back.Delivered.{Delivered}
 use Rattle.dr_replay.specs.declared.fault.ReplayFault.{ReplayFault}
 use Rattle.dr_replay.specs.declared.lock_workers.Joined.{Joined}
 
--- each producer's worker sent its script, in claims of a quarter of the slots; as workers they are numbered from 16 on
+-- each producer's worker sent its script, in claims of up to all slots; as workers they are numbered from 16 on
 pub record AreSent {L Z : Type 0} (begun : History Event) (may_stop must_stop : ℕ → ℕ → Type 0) (size : ℕ) (scripts : List (Vec Event Z)) (sent : List (Delivered L)) : Type 0 where
   pub many : length sent ≡ length scripts
   pub each : (p : ℕ) (s : Delivered L) (script : Vec Event Z) → p < length sent
-      → HasSent begun p (max (size / 4) 1) (slice_index_or scripts p script).items (may_stop (16 + p)) (must_stop (16 + p)) (slice_index_or sent p s).end (slice_index_or sent p s).fault
+      → HasSent begun p size (slice_index_or scripts p script).items (may_stop (16 + p)) (must_stop (16 + p)) (slice_index_or sent p s).end (slice_index_or sent p s).fault
 
 -- ends through which nobody has called
 pub record AreUnused (halter journal replica business : EndView Event) (producers : List (EndView Event)) : Type 0 where

@@ -4,7 +4,7 @@ use Rattle.dr_seq.specs.declared.event.Event.{Event}
 use Rattle.dr_meaning.specs.Calls.Calling.{SomeCalls}
 use Rattle.dr_meaning.specs.Meaning.Machine.{Setup, setup_of}
 use Rattle.dr_meaning.specs.declared.mode.Mode.TheVariants.{Multi}
-use Rattle.dr_accounts.specs.Passing.{replay_graph}
+use Rattle.dr_reports.specs.Passing.{replay_graph}
 use Rattle.dr_lock.specs.Calls.Asking.{InletAsks, OutletAsks}
 use Rattle.dr_lock.specs.Calls.Lock.{EndView, HasHalted, no_calls}
 use Rattle.dr_lock.specs.Meaning.History.{GoesOn, History, IsRecorded, entries_since, halts_in}

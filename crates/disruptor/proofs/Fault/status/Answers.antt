@@ -22,6 +22,3 @@ returns-in-Read c = ap program_status (sym c.in-Read.is)
 
 pub returns-in-Write : goal.returns-in-Write
 returns-in-Write c = ap program_status (sym c.in-Write.is)
-
-pub returns-in-Gone : goal.returns-in-Gone
-returns-in-Gone c = ap program_status (sym c.in-Gone.is)

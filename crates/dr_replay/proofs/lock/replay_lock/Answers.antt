@@ -3,7 +3,7 @@ use Rattle.std.proofs.lemmas.Result.{err_from_is_err_and}
 use Rattle.dr_accounts.specs.Parts.{text_of}
 use Rattle.dr_files.specs.Counting.{inner_of}
 use Rattle.dr_files.specs.declared.fault.FileFault.TheVariants as file
-use Rattle.dr_replay.specs.Meaning.EventFile.{events_of}
+use Rattle.dr_operations.specs.EventFile.{events_of}
 use Rattle.dr_replay.specs.Calls.Replayed.{LockWrites}
 use Rattle.dr_replay.specs.declared.fault.ReplayFault.TheVariants as fault
 use Rattle.dr_replay.specs.Calls.LockRuns.{LockRan}

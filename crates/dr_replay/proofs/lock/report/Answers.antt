@@ -2,7 +2,7 @@ use Rattle.std.proofs.Common.{◌∙◌, ap, length, map, subst, sym}
 use Rattle.std.proofs.lemmas.List.{length-map}
 use Rattle.dr_seq.specs.declared.event.Event.{Event}
 use Rattle.dr_lock.specs.Meaning.History.{History}
-use Rattle.dr_accounts.specs.Keeping.{error_of}
+use Rattle.dr_reports.specs.Keeping.{error_of}
 use Rattle.dr_accounts.specs.Parts.{text_of}
 use Rattle.dr_replay.specs.Meaning.Exchange.{CameTo}
 use Rattle.dr_replay.proofs.Coming.{came}

@@ -3,7 +3,7 @@ use Rattle.std.specs.Prelude.{IfOk, OnOk, false}
 use Rattle.dr_lock.specs.Calls.Asking.{OutletAsks}
 use Rattle.dr_lock.specs.Calls.Lock.{no_calls}
 use Rattle.dr_workers.specs.Calls.Serving.{Serves}
-use Rattle.dr_accounts.specs.Keeping.{AnswersFor, error_of}
+use Rattle.dr_reports.specs.Keeping.{AnswersFor, error_of}
 use Rattle.dr_lock.specs.declared.locked.LockedOutlet.{LockedOutlet}
 use Rattle.dr_replay.specs.Calls.Listing.{Listed, Lists}
 use Rattle.dr_replay.specs.Calls.LockWorkers.{GivesList, list_of}

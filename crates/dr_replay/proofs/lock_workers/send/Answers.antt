@@ -1,5 +1,6 @@
 use Rattle.std.proofs.Common.{◌≡◌, ◌+◌, refl, ap, subst, ◌∙◌}
 use Rattle.dr_seq.specs.declared.event.Event.{Event}
+use Rattle.dr_seq.proofs.Sizes.{size_positive}
 use Rattle.dr_lock.specs.Calls.Asking.{InletAsks}
 use Rattle.dr_lock.specs.Calls.Lock.{no_calls}
 use Rattle.dr_workers.specs.Calls.Serving.{Sends}
@@ -19,15 +20,18 @@ returns g c =
     let begins : c.new-inlet.result.end ≡ no_calls = ap (λ (inlet : LockedInlet _ _ _). inlet.end) c.new-inlet.ensures ∙ c.new-locked.ensures.end
     ∙ c.requires.unused in
     let ends : c.into_end-end.result ≡ run.new.inlet.end = c.into_end-end.ensures ∙ ap (λ (inlet : LockedInlet _ _ _). inlet.end) c.into_end-back.ensures in
-    let sent : HasSent begun task.p c.quarter-cut.result task.script.now may_stop must_stop c.into_end-end.result run.result.fault = record {
+    let sent : HasSent begun task.p c.get-cut.result task.script.now may_stop must_stop c.into_end-end.result run.result.fault = record {
       produced = run.result;
       calls = asked (λ (old : LockedInlet _ _ _) call (new : LockedInlet _ _ _). (new.p ≡ old.p) × InletAsks begun old.p old.end call new.end)
           (InletAsks begun task.p) (λ inlet. inlet.end) (λ inlet. inlet.p ≡ task.p)
           (λ old new call here is. (is.0 ∙ here, subst (λ n. InletAsks begun n old.end call new.end) here is.1))
-          {Holds = Sends {E = Event} c.quarter-cut.result task.script.now may_stop must_stop run.result}
+          {Holds = Sends {E = Event} c.get-cut.result task.script.now may_stop must_stop run.result}
           c.new-inlet.result run.new.inlet no_calls c.into_end-end.result number begins ends run.ensures.sends;
       answers = refl;
       stopped = run.ensures.stopped;
     }
     in
-    subst (λ n. HasSent begun task.p n task.script.now may_stop must_stop c.into_end-end.result run.result.fault) c.quarter-cut.ensures sent
+    subst (λ n. HasSent begun task.p n task.script.now may_stop must_stop c.into_end-end.result run.result.fault) c.get-cut.ensures.value sent
+
+pub produce_with-produced-requires-cut : goal.produce_with-produced-requires-cut
+produce_with-produced-requires-cut g c = size_positive c.get-cut.result c.get-cut.ensures.size

@@ -4,7 +4,7 @@ use Rattle.dr_ring.specs.Calls.Ends.{ReceiverEnd}
 use Rattle.dr_ring.specs.Meaning.Settling.{Settles}
 use Rattle.dr_workers.specs.Meaning.FirstFault.{first_fault}
 use Rattle.dr_workers.specs.declared.ended.Ended.{Ended}
-use Rattle.dr_accounts.specs.Keeping.{error_of}
+use Rattle.dr_reports.specs.Keeping.{error_of}
 use Rattle.dr_replay.specs.Calls.Workers.{AreThrough, Says, endings_of, ends_of}
 use Rattle.dr_replay.proofs.Settled.{joined_parts}
 use Rattle.dr_replay.proofs.ring.finish.Goals as goal

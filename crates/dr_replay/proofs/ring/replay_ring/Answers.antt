@@ -5,9 +5,10 @@ use Rattle.dr_accounts.specs.Report.{report_of}
 use Rattle.dr_accounts.specs.declared.report.Report.{Report}
 use Rattle.dr_files.specs.Counting.{inner_of}
 use Rattle.dr_files.specs.declared.fault.FileFault.TheVariants as file
-use Rattle.dr_replay.specs.Calls.Replayed.{ReplayWrites, replay_text}
+use Rattle.dr_accounts.specs.ReplayText.{replay_text}
+use Rattle.dr_replay.specs.Calls.Replayed.{ReplayWrites}
 use Rattle.dr_replay.specs.Calls.RingRuns.{CameOf}
-use Rattle.dr_replay.specs.Meaning.EventFile.{events_of}
+use Rattle.dr_operations.specs.EventFile.{events_of}
 use Rattle.dr_replay.specs.declared.fault.ReplayFault.TheVariants as fault
 use Rattle.dr_replay.proofs.Endings.{came_at_fault}
 use Rattle.dr_replay.proofs.Reporting.{all_kept, at_exit, cut_report, of_file}

@@ -1,4 +1,5 @@
-use Rattle.std.proofs.Common.{ℕ, ◌/◌, max, ap, subst, ◌∙◌}
+use Rattle.std.proofs.Common.{ℕ, ◌<◌, subst}
+use Rattle.dr_seq.proofs.Sizes.{size_positive}
 use Rattle.dr_seq.specs.declared.event.Event.{Event}
 use Rattle.dr_meaning.specs.Calls.Calling.{SomeCalls}
 use Rattle.dr_ring.specs.Calls.Telling.{sender_does}
@@ -19,11 +20,16 @@ returns-clause-stopped g c = c.produce_with.ensures.stopped
 
 pub returns-clause-calls : goal.returns-clause-calls
 returns-clause-calls g c =
-    let cut = c.max-cut.ensures ∙ ap (λ (n : ℕ). max (n / 4) 1) c.get.ensures.value in
     let gate = c.args.gate.now in
     subst (λ (n : ℕ). SomeCalls sender_does c.args.sender.now c.produce_with.new.inlet
-    (Sends {E = Event} n c.args.events.now (g.G.Gate.may_stop gate 16) (g.G.Gate.must_stop gate 16) c.produce_with.result)) cut
+    (Sends {E = Event} n c.args.events.now (g.G.Gate.may_stop gate 16) (g.G.Gate.must_stop gate 16) c.produce_with.result)) c.get-cut.ensures.value
     c.produce_with.ensures.sends
+
+pub returns-clause-some : goal.returns-clause-some
+returns-clause-some g c = subst (λ (n : ℕ). 0 < n) c.get-cut.ensures.value (size_positive c.get-cut.result c.get-cut.ensures.size)
+
+pub produce_with-requires-cut : goal.produce_with-requires-cut
+produce_with-requires-cut g c = size_positive c.get-cut.result c.get-cut.ensures.size
 
 pub returns-clause-all : goal.returns-clause-all
 returns-clause-all g c = λ none. rw none at c.produce_with.ensures.all

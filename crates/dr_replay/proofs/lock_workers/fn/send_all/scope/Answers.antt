@@ -39,17 +39,17 @@ loop-end-preserved g c =
     ∙ ap (λ (v : Vec Event Global). v.items) (script.is ∙ ap (λ (n : ℕ). get_or scripts n script.result) place
     ∙ same_at scripts (length c.loop-end.started.items) script.result d below) in
     let around = c.captures.around.now in
-    let quarter = max (around.size / 4) 1 in (
+    let size = around.size in (
       counts_more _ _ _ _ _ _ _ was.0 c.in_ok-push.ensures.items c.in-Some.ensures.steps.0,
       rest_unused _ _ _ c.in-Some.ensures.steps.0 was.1,
       promised_more
-          (λ (h : PromisedHandle (Delivered g.row.L.Denot) (SentBy g.row.G.Denot)) (p : ℕ). IsPromised around.gate.now quarter scripts h.promise p)
+          (λ (h : PromisedHandle (Delivered g.row.L.Denot) (SentBy g.row.G.Denot)) (p : ℕ). IsPromised around.gate.now size scripts h.promise p)
           c.loop-end.started.items c.push.new.self.items c.in_ok-spawn_with.field-0 c.in_ok-push.ensures.items was.2
           (record {
             gate = ap (λ (p : SentBy g.row.G.Denot). p.gate.value) promise ∙ of.gate;
             number = ap (λ (p : SentBy g.row.G.Denot). p.p) promise ∙ number;
             events = λ d. ap (λ (p : SentBy g.row.G.Denot). p.script.now) promise ∙ events d;
-            cut = ap (λ (p : SentBy g.row.G.Denot). p.cut) promise ∙ of.cut ∙ c.quarter-cut.ensures;
+            cut = ap (λ (p : SentBy g.row.G.Denot). p.cut) promise ∙ of.cut ∙ c.get-cut.ensures.value;
           }),
     )
 
@@ -62,7 +62,7 @@ returns g c =
     let joined = c.in_ok-join_promised.field-0.ok in
     let same = c.in_ok-join_promised.ensures.len in
     let around = c.captures.around.now in
-    let quarter = max (around.size / 4) 1 in
+    let size = around.size in
     let scripts = c.captures.scripts.now in
     record {
       many = omega arith;
@@ -70,7 +70,7 @@ returns g c =
           let kept = (c.in_ok-join_promised.ensures.each p s (omega arith)).1 in
           let place = c.loop-end.invariant.2 p kept.handle (omega arith) in
           let worker = get_or c.loop-end.started.items p kept.handle in
-          sent_by g.L.Exchange.begun g.G.Gate.may_stop g.G.Gate.must_stop around.gate.now quarter scripts kept.handle.promise p script _ _
-          (subst (λ (h : PromisedHandle (Delivered g.row.L.Denot) (SentBy g.row.G.Denot)). IsPromised around.gate.now quarter scripts h.promise p)
+          sent_by g.L.Exchange.begun g.G.Gate.may_stop g.G.Gate.must_stop around.gate.now size scripts kept.handle.promise p script _ _
+          (subst (λ (h : PromisedHandle (Delivered g.row.L.Denot) (SentBy g.row.G.Denot)). IsPromised around.gate.now size scripts h.promise p)
           {x = worker} {y = kept.handle} (sym {b = worker} kept.handle_is) place) kept.kept;
     }

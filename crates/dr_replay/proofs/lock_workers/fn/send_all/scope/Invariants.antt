@@ -9,4 +9,4 @@ abbrev pub invariant-loop-end : goal.invariant-loop-end
 invariant-loop-end g l =
     (length l.started.items + length l.end-iterator.rest.items ≡ length l.scripts)
     × All (λ (end : EndView Event). end ≡ no_calls) l.end-iterator.rest.items
-    × ((k : ℕ) (d : _) → k < length l.started.items → IsPromised l.around.gate.now (max (l.around.size / 4) 1) l.scripts (get_or l.started.items k d).promise k)
+    × ((k : ℕ) (d : _) → k < length l.started.items → IsPromised l.around.gate.now l.around.size l.scripts (get_or l.started.items k d).promise k)

@@ -1,6 +1,0 @@
-use Rattle.std.proofs.Common.{◌+◌}
-use Rattle.dr_accounts.proofs.Sending.{InHand}
-use Rattle.dr_accounts.proofs.through_core.send.Given as goal
-
-abbrev pub invariant-loop-s : goal.invariant-loop-s
-invariant-loop-s l = InHand l.fn.core.setup.size l.fn.events (l.fn.at + l.fn.n) l.s l.fn.at l.core

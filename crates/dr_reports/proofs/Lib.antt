@@ -1,0 +1,4 @@
+pub mod Graphs
+pub mod Refusing
+pub mod Rounds
+pub mod Sending

@@ -1,0 +1,3 @@
+pub mod Passing
+pub mod Turns
+pub mod Keeping

@@ -1,0 +1,80 @@
+//! The three handlers together.
+
+ghost use Rattle.std.specs.Prelude.{◌≡◌, ℕ, [], IfOk, List, false, take};
+ghost use Rattle.dr_seq.specs.declared.event.Event.{Event};
+ghost use Rattle.dr_accounts.specs.Parts.{HasParts, text_of};
+ghost use Rattle.dr_accounts.specs.Report.{report_of};
+ghost use Rattle.dr_reports.specs.Turns.{AreShown, AreWell, AreOffered, Turns};
+
+use dr_accounts::{Business, Journal, Replica, Report};
+use dr_core::Core;
+use dr_meaning::Refusal;
+use dr_seq::Event;
+use std::alloc::{AllocError, Global};
+
+/// The number of the journal in a replay's graph, and of its worker where it has one.
+pub const JOURNAL: usize = 0;
+
+/// The number of the replica, and of its worker.
+pub const REPLICA: usize = 1;
+
+/// The number of the business handler, which follows both others, and of its worker.
+pub const BUSINESS: usize = 2;
+
+/// Journal and replica, and the business handler that follows them.
+#[derive(Drop)]
+pub struct Handlers {
+    journal: Journal,
+    replica: Replica,
+    business: Business,
+}
+
+impl Handlers {
+    /// Handlers that were shown nothing yet.
+    pub fn new(alloc: Global) -> Handlers
+        ensures shown { AreShown result [] }
+        ensures well { AreWell result }
+    {
+        Handlers {
+            journal: Journal::new(alloc),
+            replica: Replica::new(alloc),
+            business: Business::new(alloc),
+        }
+    }
+
+    /// Whether one of them found no memory.
+    pub fn is_failed(&self) -> bool
+        ensures well { result ≡ false → AreWell self.now }
+        ensures failed { AreWell self.now → result ≡ false }
+    {
+        self.journal.is_failed() || self.replica.is_failed() || self.business.is_failed()
+    }
+
+    /// One turn of each, which is shown all that there is, where it lies.
+    pub fn turn(&mut self, core: &mut Core<Event>) -> Result<(), Refusal>
+        ensures { (size : ℕ) (events : List Event) (at sent : ℕ) → AreOffered size events at sent core.old → AreShown self.old (take at events) → Turns result size events sent core.new self.new }
+    {
+        core.turn_in_place(JOURNAL, &mut self.journal)?;
+        core.turn_in_place(REPLICA, &mut self.replica)?;
+        core.turn_in_place(BUSINESS, &mut self.business)?;
+        Ok(())
+    }
+
+    /// The report of the events that they were shown.
+    pub fn report(self, alloc: Global) -> Result<Report, AllocError>
+        requires { AreWell self }
+        ensures text { (events : List Event) → AreShown self events → IfOk result (λ report. text_of report ≡ report_of events) }
+        ensures parts { (events : List Event) → AreShown self events → IfOk result (HasParts events) }
+    {
+        let Handlers {
+            journal,
+            replica,
+            business,
+        } = self;
+        Ok(Report {
+            journal: journal.into_text(alloc)?,
+            replica: replica.into_text(alloc)?,
+            business: business.into_text(alloc)?,
+        })
+    }
+}
