@@ -15,6 +15,7 @@ import os
 import re
 import shutil
 import sys
+import threading
 import time
 from concurrent.futures import FIRST_COMPLETED, ThreadPoolExecutor, wait
 
@@ -102,15 +103,15 @@ def prove(top, name, below, jobs, priority, words):
 
 
 def show(top, name, words, told):
-    """Runs a program before any proof, in a copy of its own, and tells what it prints. Returns what was said if it failed, or None."""
+    """Runs a program before any proof, in a copy of its own, and tells what it prints. A failure ends all proofs too."""
     with together.folder("try-") as room:
         copy_of(top, room, [], [])
         ran = together.run(["rt", "try", "--", *words], cwd=f"{room}/crates/{name}", capture_output=True, text=True)
     if ran.returncode:
-        told(f"{name}: FAILED before any proof")
-        return ran.stdout + ran.stderr
+        told(f"{name}: FAILED before any proof\n{ran.stdout}{ran.stderr}")
+        os._exit(1)
     line = " ".join(it.removeprefix(f"{top}/") for it in words)
-    return told(f"\n$ ./{name} {line}\n{ran.stdout}\nThe program runs. Nothing of it is proved yet: the proofs go on.\n")
+    told(f"\n$ ./{name} {line}\n{ran.stdout}\nSo the program runs, but it is not proved yet: the proofs go on.\n")
 
 
 def size_of(top, name):
@@ -154,16 +155,12 @@ class Work:
         return (time.time() - self.began) / 60 * (whole - done) / max(done, 1)
 
 
-def prove_all(top, names, words=lambda name: ["lib"], told=print, log=None, beside=None):
-    """Proves the crates and those below them, and returns what `rt` said of the first that was not proved, or None.
-
-    What is to be done beside the first proofs ends all where it returns anything.
-    """
+def prove_all(top, names, words=lambda name: ["lib"], told=print, log=None):
+    """Proves the crates and those below them, and returns what `rt` said of the first that was not proved, or None."""
     work, most, running = Work(top, names), lanes(), {}
     together.begun()
-    with ThreadPoolExecutor(2 * most + 1) as pool:
-        first = {pool.submit(beside)} if beside else set()
-        while work.left or running or first:
+    with ThreadPoolExecutor(2 * most) as pool:
+        while work.left or running:
             for name in work.ready():
                 # The longest chain has every processor, and first; others have what it leaves.
                 is_longest = work.is_longest(name)
@@ -175,12 +172,7 @@ def prove_all(top, names, words=lambda name: ["lib"], told=print, log=None, besi
                 work.left.remove(name)
                 run = pool.submit(prove, top, name, work.below[name], max(jobs, 1), 0 if is_longest else 5, words(name))
                 running[run] = name, jobs, time.time()
-            for it in wait([*running, *first], return_when=FIRST_COMPLETED).done:
-                if it in first:
-                    first.remove(it)
-                    if it.result() is not None:
-                        return it.result()
-                    continue
+            for it in wait(running, return_when=FIRST_COMPLETED).done:
                 name, _, began = running.pop(it)
                 status, said = it.result()
                 if log:
@@ -213,15 +205,18 @@ def main():
     def told(text):
         print(text, flush=True)
 
-    def first():
-        return show(TOP, asked.crates[0], given[cut + 1 :], told)
-
+    first = threading.Thread(target=show, args=(TOP, asked.crates[0], given[cut + 1 :], told), daemon=True)
+    together.begun()
+    if asked.is_tried:
+        first.start()
     with open(asked.log, "w", encoding="utf-8") as log:
-        said = prove_all(TOP, asked.crates, words, told, log, first if asked.is_tried else None)
+        said = prove_all(TOP, asked.crates, words, told, log)
     if said is not None:
         shown = [it for it in said.splitlines() if not QUIET.search(it)]
         print(*shown[:30], f"all that rt said stands in {asked.log}", sep="\n")
         sys.exit(1)
+    if asked.is_tried:
+        first.join()
 
 
 if __name__ == "__main__":
