@@ -5,11 +5,11 @@ ghost use Rattle.dr_graph.specs.Calls.Fault.{fault_number, fault_name};
 ghost use Rattle.dr_graph.specs.declared.fault.GraphFault.TheVariants.{NoMemory};
 
 use std::alloc::{AllocError, AllocFailed};
-use std::error::Error;
 use std::fmt;
+use thiserror::Error;
 
 /// Why a call of a builder was refused. Numbers and names are this project's own.
-#[derive(Clone, Copy, Debug, PartialEq, Eq)]
+#[derive(Clone, Copy, Debug, PartialEq, Eq, Error)]
 pub enum GraphFault {
     /// A name has none or too many bytes, or a byte other than ASCII letters, digits, `_` and `-`.
     BadName,
@@ -72,8 +72,6 @@ impl fmt::Display for GraphFault {
         f.write_str(self.name())
     }
 }
-
-impl Error for GraphFault {}
 
 impl From<AllocError> for GraphFault {
     ghost from_gives = { λ _ fault. fault ≡ NoMemory };

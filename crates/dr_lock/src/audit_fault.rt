@@ -5,11 +5,11 @@ ghost use Rattle.dr_lock.specs.Calls.AuditFault.{number_of, name_of};
 ghost use Rattle.dr_lock.specs.declared.audit_fault.AuditFault.TheVariants.{NoMemory};
 
 use std::alloc::AllocError;
-use std::error::Error;
 use std::fmt;
+use thiserror::Error;
 
 /// What an audit finds amiss. Its three faults are this project's own.
-#[derive(Clone, Copy, Debug, PartialEq, Eq)]
+#[derive(Clone, Copy, Debug, PartialEq, Eq, Error)]
 pub enum AuditFault {
     /// The least producer whose published events are not its script.
     ScriptDiffers(u64),
@@ -50,8 +50,6 @@ impl fmt::Display for AuditFault {
         f.write_str(self.name())
     }
 }
-
-impl Error for AuditFault {}
 
 impl From<AllocError> for AuditFault {
     ghost from_gives = { λ _ fault. fault ≡ NoMemory };

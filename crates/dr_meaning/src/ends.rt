@@ -8,11 +8,11 @@ ghost use Rattle.dr_meaning.specs.declared.ends.Trouble.TheVariants.{Refused};
 
 use crate::command::{Claimed, Polled};
 use crate::refusal::Refusal;
-use std::error::Error;
 use std::fmt;
+use thiserror::Error;
 
 /// Why a call of an end did nothing.
-#[derive(Clone, Copy, Debug, PartialEq, Eq)]
+#[derive(Clone, Copy, Debug, PartialEq, Eq, Error)]
 pub enum Trouble {
     /// The exchange refused the call.
     Refused(Refusal),
@@ -49,8 +49,6 @@ impl fmt::Display for Trouble {
         f.write_str(self.name())
     }
 }
-
-impl Error for Trouble {}
 
 impl From<Refusal> for Trouble {
     ghost from_gives = { λ refusal trouble. trouble ≡ Refused refusal };

@@ -5,11 +5,11 @@ ghost use Rattle.dr_meaning.specs.Calls.OpenFault.{number_of, name_of};
 ghost use Rattle.dr_meaning.specs.declared.open_fault.OpenFault.TheVariants.{NoMemory};
 
 use std::alloc::{AllocError, AllocFailed};
-use std::error::Error;
 use std::fmt;
+use thiserror::Error;
 
 /// Why a core is not opened. Its graph is spent all the same.
-#[derive(Clone, Copy, Debug, PartialEq, Eq)]
+#[derive(Clone, Copy, Debug, PartialEq, Eq, Error)]
 pub enum OpenFault {
     /// There are no producers, or more than [`MAX_PRODUCERS`](crate::MAX_PRODUCERS).
     BadProducers,
@@ -50,8 +50,6 @@ impl fmt::Display for OpenFault {
         f.write_str(self.name())
     }
 }
-
-impl Error for OpenFault {}
 
 impl From<AllocError> for OpenFault {
     ghost from_gives = { λ _ fault. fault ≡ NoMemory };

@@ -3,11 +3,11 @@
 ghost use Rattle.std.specs.Prelude.{◌≡◌, Some};
 ghost use Rattle.dr_meaning.specs.Calls.Refusal.{number_of, name_of};
 
-use std::error::Error;
 use std::fmt;
+use thiserror::Error;
 
 /// Why an exchange refused a call. A refused call changes nothing.
-#[derive(Clone, Copy, Debug, PartialEq, Eq)]
+#[derive(Clone, Copy, Debug, PartialEq, Eq, Error)]
 pub enum Refusal {
     /// The slots of the claim are still in use: a final handler has not completed their events.
     NoRoom,
@@ -101,5 +101,3 @@ impl fmt::Display for Refusal {
         f.write_str(self.name())
     }
 }
-
-impl Error for Refusal {}

@@ -15,3 +15,5 @@ impl Event {
         second: 0,
     };
 }
+
+const _: () = prove!(Event::NONE.first == 0 && Event::NONE.second == 0);

@@ -3,9 +3,9 @@
 ghost use Rattle.std.specs.Prelude.{◌≡◌, ◌%◌, ◌/◌, IfOk, IsOk, IsErr, Some, codes};
 ghost use Rattle.dr_seq.specs.Size.{IsSize};
 
-use std::error::Error;
 use std::fmt;
 use std::marker::Model;
+use thiserror::Error;
 
 /// The number of a ring's slots: a power of two from 1 to [`Size::MAX`], as the LMAX library
 /// has it, so that the slot of a sequence is found by a mask.
@@ -28,7 +28,7 @@ impl Model for Size {
 }
 
 /// Refusal of a number that is no ring's size.
-#[derive(Clone, Copy, Debug, PartialEq, Eq)]
+#[derive(Clone, Copy, Debug, PartialEq, Eq, Error)]
 pub struct SizeFault;
 
 impl Size {
@@ -100,5 +100,3 @@ impl fmt::Display for SizeFault {
         f.write_str(self.name())
     }
 }
-
-impl Error for SizeFault {}

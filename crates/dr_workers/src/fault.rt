@@ -4,11 +4,11 @@ ghost use Rattle.std.specs.Prelude.{◌≡◌, Some};
 ghost use Rattle.dr_workers.specs.Calls.Fault.{name_of, number_of};
 
 use dr_meaning::Refusal;
-use std::error::Error;
 use std::fmt;
+use thiserror::Error;
 
 /// Why a worker did not do all of its work, or was told to do no more.
-#[derive(Clone, Copy, Debug, PartialEq, Eq)]
+#[derive(Clone, Copy, Debug, PartialEq, Eq, Error)]
 pub enum WorkFault {
     /// The exchange refused a call.
     Refused(Refusal),
@@ -49,5 +49,3 @@ impl fmt::Display for WorkFault {
         f.write_str(self.name())
     }
 }
-
-impl Error for WorkFault {}
