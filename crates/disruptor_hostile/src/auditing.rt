@@ -17,19 +17,15 @@ const SENDING: [Command<Event>; 7] = [
     Write {
         p: 1,
         s: 0,
-        event: FIVE,
+        v: FIVE,
     },
-    Write {
-        p: 1,
-        s: 1,
-        event: SIX,
-    },
+    Write { p: 1, s: 1, v: SIX },
     Publish { p: 1, lo: 0, hi: 1 },
     Claim { p: 0, n: 1 },
     Write {
         p: 0,
         s: 2,
-        event: FOUR,
+        v: FOUR,
     },
     Publish { p: 0, lo: 2, hi: 2 },
 ];

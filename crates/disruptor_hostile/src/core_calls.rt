@@ -80,19 +80,15 @@ const COMMANDS: [Command<Event>; 9] = [
     Write {
         p: 1,
         s: 1,
-        event: FIVE,
+        v: FIVE,
     },
-    Write {
-        p: 1,
-        s: 2,
-        event: SIX,
-    },
+    Write { p: 1, s: 2, v: SIX },
     Publish { p: 1, lo: 1, hi: 2 },
     Poll { h: 0, max: 8 },
     Write {
         p: 0,
         s: 0,
-        event: FOUR,
+        v: FOUR,
     },
     Publish { p: 0, lo: 0, hi: 0 },
     Poll { h: 0, max: 8 },

@@ -17,7 +17,7 @@ use dr_seq::{Event, Size};
 use std::alloc::Global;
 
 /// The room that a command asks for.
-fn room(command: Command<Event>) -> usize
+pub fn room(command: Command<Event>) -> usize
     ensures { result ≡ asked command }
 {
     match command {
@@ -27,7 +27,7 @@ fn room(command: Command<Event>) -> usize
 }
 
 /// Two handlers and two producers, over four slots, with room for so many entries and events.
-fn recorded(alloc: Global, entries: usize, events: usize) -> Result<Recorded<Event>, Fault> {
+pub fn recorded(alloc: Global, entries: usize, events: usize) -> Result<Recorded<Event>, Fault> {
     let size = Size::new(4)?;
     let graph = graph(alloc, &TWO, &[])?;
     let mode = Mode::Multi(2);
@@ -60,24 +60,20 @@ pub const COMMANDS: [Command<Event>; 17] = [
     Write {
         p: 1,
         s: 1,
-        event: FIVE,
+        v: FIVE,
     },
-    Write {
-        p: 1,
-        s: 2,
-        event: SIX,
-    },
+    Write { p: 1, s: 2, v: SIX },
     Publish { p: 1, lo: 1, hi: 2 },
     Poll { h: 0, max: 8 },
     Write {
         p: 0,
         s: 0,
-        event: FOUR,
+        v: FOUR,
     },
     Write {
         p: 0,
         s: 3,
-        event: FOUR,
+        v: FOUR,
     },
     Publish { p: 0, lo: 0, hi: 0 },
     Poll { h: 0, max: 2 },

@@ -59,7 +59,7 @@ fn tell_call<R: Print>(out: &Lines<R>, core: &mut Core<Event>, command: Command<
     let mut events = [Event::NONE; 4];
     match command {
         Claim { p, n } => out.value(core.claim(p, n)),
-        Write { p, s, event } => out.value(core.write(p, s, event)),
+        Write { p, s, v } => out.value(core.write(p, s, v)),
         Publish { p, lo, hi } => out.value(core.publish(p, lo, hi)),
         Poll { h, max: _ } => out.value(core.poll_into(h, &mut events)),
         Complete { h, upto } => out.value(core.complete(h, upto)),
@@ -81,17 +81,17 @@ const SENDING: [Command<Event>; 8] = [
     Write {
         p: 0,
         s: 0,
-        event: FOUR,
+        v: FOUR,
     },
     Write {
         p: 1,
         s: 1,
-        event: FIVE,
+        v: FIVE,
     },
     Write {
         p: 0,
         s: 1,
-        event: FIVE,
+        v: FIVE,
     },
     Publish { p: 0, lo: 0, hi: 1 },
     Publish { p: 0, lo: 0, hi: 1 },
@@ -107,20 +107,16 @@ const RECEIVING: [Command<Event>; 4] = [
 const SENDING_MORE: [Command<Event>; 6] = [
     Complete { h: 2, upto: 2 },
     Claim { p: 0, n: 3 },
-    Write {
-        p: 0,
-        s: 2,
-        event: TWO,
-    },
+    Write { p: 0, s: 2, v: TWO },
     Write {
         p: 0,
         s: 3,
-        event: THREE,
+        v: THREE,
     },
     Write {
         p: 0,
         s: 4,
-        event: FOUR,
+        v: FOUR,
     },
     Publish { p: 0, lo: 2, hi: 4 },
 ];

@@ -223,7 +223,7 @@ impl<E: Copy, L: Exchange<E>> Locked<E, L> {
         ensures call { IsWrite end.old.calls self.old.recorded p s event self.new.recorded result }
         ensures end { end.new ≡ after_call (Command.Write p s event) (told_by (unit_reply Reply.Written) result) end.old }
     {
-        match self.call(end, Command::Write { p, s, event }, &mut []) {
+        match self.call(end, Command::Write { p, s, v: event }, &mut []) {
             Ok(Reply::Written) => Ok(()),
             Ok(Reply::Refused(refusal)) => Err(Trouble::Refused(refusal)),
             Ok(_) => unreachable!(),

@@ -79,7 +79,7 @@ impl<E: Copy, L: Exchange<E>, R: Wait> Inlet<E> for LockedInlet<'_, E, L, R> {
         let command = Command::Write {
             p: self.p,
             s,
-            event,
+            v: event,
         };
         match self.shared.call(self.rt, &mut self.end, command, &mut []) {
             Ok(Reply::Written) => Ok(()),

@@ -39,8 +39,8 @@ fn take_in<E: Copy>(list: &mut Vec<Sequence<E>>, command: Command<E>) -> Result<
 {
     match command {
         Command::Claim { p, n } => claim(list, p, n),
-        Command::Write { p: _, s, event } => {
-            list[s as usize].event = Some(event);
+        Command::Write { p: _, s, v } => {
+            list[s as usize].event = Some(v);
             Ok(())
         }
         Command::Publish { p: _, lo, hi } => {

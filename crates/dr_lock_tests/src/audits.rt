@@ -41,14 +41,14 @@ const SENT: [Step; 6] = [
     Call(Write {
         p: 0,
         s: 0,
-        event: FIVE,
+        v: FIVE,
     }),
     Call(Publish { p: 0, lo: 0, hi: 0 }),
     Call(Claim { p: 1, n: 1 }),
     Call(Write {
         p: 1,
         s: 1,
-        event: SIX,
+        v: SIX,
     }),
     Call(Publish { p: 1, lo: 1, hi: 1 }),
 ];

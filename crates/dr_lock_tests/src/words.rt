@@ -21,8 +21,8 @@ impl Call {
         match self {
             Call::Claim(p, n) => Command::Claim { p, n },
             Call::Write(p, s, first) => {
-                let event = word(first);
-                Command::Write { p, s, event }
+                let v = word(first);
+                Command::Write { p, s, v }
             }
             Call::Publish(p, lo, hi) => Command::Publish { p, lo, hi },
             Call::Poll(h, max) => Command::Poll { h, max },

@@ -11,8 +11,8 @@ use crate::refusal::Refusal;
 pub enum Command<E> {
     /// Producer `p` asks for the next `n` sequences.
     Claim { p: u64, n: u64 },
-    /// Producer `p` writes an event to the sequence `s`, which it has claimed.
-    Write { p: u64, s: u64, event: E },
+    /// Producer `p` writes the event `v` to the sequence `s`, which it has claimed.
+    Write { p: u64, s: u64, v: E },
     /// Producer `p` publishes the sequences from `lo` to `hi`, both in the stretch.
     Publish { p: u64, lo: u64, hi: u64 },
     /// Handler `h` takes what its barrier offers, at most `max` events.
