@@ -40,8 +40,8 @@ fn write_one(row: &ByteRecord) -> Option<Command<Event>>
     let p = number_at(row, 1)?;
     let s = number_at(row, 2)?;
     let first = number_at(row, 3)?;
-    let event = Event { first, second: 0 };
-    Some(Command::Write { p, s, event })
+    let v = Event { first, second: 0 };
+    Some(Command::Write { p, s, v })
 }
 
 // A `write` of five fields.
@@ -52,8 +52,8 @@ fn write_two(row: &ByteRecord) -> Option<Command<Event>>
     let s = number_at(row, 2)?;
     let first = number_at(row, 3)?;
     let second = number_at(row, 4)?;
-    let event = Event { first, second };
-    Some(Command::Write { p, s, event })
+    let v = Event { first, second };
+    Some(Command::Write { p, s, v })
 }
 
 fn publish(row: &ByteRecord) -> Option<Command<Event>>
