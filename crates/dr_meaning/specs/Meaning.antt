@@ -6,5 +6,6 @@ pub mod Tells
 pub mod Laws
 pub mod TooFar
 pub mod Progress
+pub mod Stuck
 pub mod Counts
 pub mod Runs

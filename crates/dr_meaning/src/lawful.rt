@@ -9,9 +9,10 @@ ghost use Rattle.dr_meaning.specs.Meaning.Machine.{Setup, State, gate, step};
 ghost use Rattle.dr_meaning.specs.Meaning.Transcript.{Transcript, LeadsTo};
 ghost use Rattle.dr_meaning.specs.Meaning.Laws.{Laws};
 ghost use Rattle.dr_meaning.specs.Meaning.Tells.{Tells};
-ghost use Rattle.dr_meaning.specs.Meaning.Progress.{NobodyIsStuck, CanFinish, GoOn, to_do};
+ghost use Rattle.dr_meaning.specs.Meaning.Progress.{NobodyIsStuck, CompletesAll, ClaimsRound, Drains, PublishesFront, CanFinish, GoOn, to_do};
+ghost use Rattle.dr_meaning.specs.Meaning.Stuck.{IsFalseAfter, circle, one_completed, two_completed, halted, claimed_by_nobody};
 ghost use Rattle.dr_meaning.specs.Meaning.TooFar.{IsTooFar, pair, claim_of, claim_up_to, receipt_of, completion_of, retirement_of, halt, drain, written, written_again, published, taken, completed, taken_by_both, join, two_published, first_receipt, second_receipt, completed_beside, taken_beside, completed_by_both, first_taken};
-ghost use Rattle.dr_meaning.specs.Meaning.TooFar.{shared, claim_by, drain_of, receipt_of_both, each_claimed, first_published, second_published, each_published, each_completed, third_completed};
+ghost use Rattle.dr_meaning.specs.Meaning.TooFar.{shared, claim_by, drain_of, receipt_of_both, each_claimed, first_published, second_published, each_published, each_completed, third_completed, drain_with_room};
 
 /// Every transcript that leads from the opening to a state of the machine has the five laws, at
 /// each of its beginnings.
@@ -27,11 +28,14 @@ pub fn every_transcript_is_lawful<E>()
 /// halt, before what is published was taken, or over a claim that is not published.
 pub fn laws_refuse_a_step_too_far()
     ensures other_event { IsTooFar pair published (receipt_of 0 6) }
+    ensures other_event_after_an_upstream { IsTooFar pair completed (receipt_of 1 6) }
     ensures event_written_over { IsTooFar pair written_again (receipt_of 0 6) }
     ensures unpublished { IsTooFar pair written (receipt_of 0 5) }
     ensures unpublished_later { IsTooFar join first_taken (second_receipt 0 6) }
     ensures received_again { IsTooFar join (two_published ++ first_receipt 0 5 ∷ []) (second_receipt 0 5) }
     ensures out_of_order { IsTooFar join two_published (first_receipt 1 6) }
+    ensures out_of_order_after_both_upstreams { IsTooFar join completed_by_both (first_receipt 2 6) }
+    ensures received_again_after_both_upstreams { IsTooFar join (completed_by_both ++ first_receipt 2 5 ∷ []) (second_receipt 2 5) }
     ensures taken_back { IsTooFar pair completed (completion_of 0 0) }
     ensures taken_back_later { IsTooFar join completed_by_both (completion_of 0 1) }
     ensures untaken { IsTooFar pair published (completion_of 0 1) }
@@ -57,12 +61,17 @@ pub fn laws_refuse_a_step_too_far()
     ensures drained_early { IsTooFar pair (published ++ halt ∷ []) drain }
     ensures drained_early_later { IsTooFar join (two_published ++ first_receipt 0 5 ∷ halt ∷ []) drain }
     ensures drained_over_a_claim { IsTooFar pair (written ++ halt ∷ []) drain }
+    ensures drained_before_halt_with_room { IsTooFar pair taken (drain_with_room 0) }
+    ensures drained_early_with_room { IsTooFar join (two_published ++ first_receipt 0 5 ∷ halt ∷ []) (drain_with_room 0) }
+    ensures drained_over_a_claim_with_room { IsTooFar pair (written ++ halt ∷ []) (drain_with_room 0) }
 {}
 
-/// The laws refuse such steps with two producers too, of whom the second one publishes first: at a
-/// second event, and of a handler that follows others, wherever that can be.
+/// The laws refuse such steps with two producers too, of whom the second one publishes first, most
+/// of them at a second event, or of a handler that follows others.
 pub fn laws_refuse_a_step_too_far_of_two_producers()
     ensures received_again { IsTooFar shared (each_published ++ first_receipt 1 5 ∷ []) (second_receipt 1 5) }
+    ensures out_of_order_after_both_upstreams { IsTooFar shared (each_completed 2) (first_receipt 2 6) }
+    ensures received_again_after_both_upstreams { IsTooFar shared (each_completed 2 ++ first_receipt 2 5 ∷ []) (second_receipt 2 5) }
     ensures unpublished { IsTooFar shared second_published (receipt_of 1 5) }
     ensures taken_back { IsTooFar shared (third_completed 2) (completion_of 2 1) }
     ensures untaken { IsTooFar shared (each_completed 2 ++ first_receipt 2 5 ∷ []) (completion_of 2 2) }
@@ -75,6 +84,7 @@ pub fn laws_refuse_a_step_too_far_of_two_producers()
     ensures drained_before_halt { IsTooFar shared (each_completed 2 ++ receipt_of_both 2 ∷ []) (drain_of 2) }
     ensures drained_early { IsTooFar shared (each_completed 2 ++ first_receipt 2 5 ∷ halt ∷ []) (drain_of 2) }
     ensures drained_over_a_claim { IsTooFar shared (first_published ++ halt ∷ []) (drain_of 1) }
+    ensures drained_early_with_room { IsTooFar shared (each_completed 2 ++ first_receipt 2 5 ∷ halt ∷ []) (drain_with_room 2) }
 {}
 
 /// What a transcript says by its own entries is what the state that it leads to has.
@@ -94,6 +104,20 @@ pub fn retirement_keeps_the_gate<E>()
 /// further on may also wait for the producers of what is not published.
 pub fn nobody_is_stuck<E>()
     ensures { (c : Setup) (t : Transcript E) (m : State E) → IsGraph c.upstreams → LeadsTo c t m → NobodyIsStuck c m }
+{}
+
+/// That nobody is stuck is false where somebody is. Where two handlers wait for each other, as in no
+/// graph, neither goes on, nor does one that waits for them, though others can; a claim that this one
+/// gates is not accepted, and after a halt no handler of the circle is told `Drained`. Nor is a
+/// sequence published whose producer is none of those that there are.
+pub fn a_circle_is_stuck()
+    ensures whole { IsFalseAfter circle one_completed (λ m. NobodyIsStuck circle m) }
+    ensures of_the_circle { IsFalseAfter circle one_completed (λ m. CompletesAll circle m 0) }
+    ensures behind_the_circle { IsFalseAfter circle one_completed (λ m. CompletesAll circle m 3) }
+    ensures claim { IsFalseAfter circle one_completed (λ m. ClaimsRound circle m 0 1) }
+    ensures claim_of_two { IsFalseAfter circle two_completed (λ m. ClaimsRound circle m 0 2) }
+    ensures after_a_halt { IsFalseAfter circle halted (λ m. Drains circle m 0 1) }
+    ensures claimed_by_nobody { PublishesFront circle claimed_by_nobody → ⊥ }
 {}
 
 /// From each state that a transcript leads to, some commands lead on to one in which all that was

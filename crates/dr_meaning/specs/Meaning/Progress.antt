@@ -56,17 +56,31 @@ pub record MayPublish {E : Type 0} (c : Setup) (m : State E) (p s : ℕ) : Type 
   pub writes : (event : E) → reply_to c m (Write p s event) ≡ Written
   pub publishes : (event : E) → reply_to c (after c m (Write p s event)) (Publish p s s) ≡ Published
 
+-- the first sequence that is not published, where it is claimed, can be published by its producer
+abbrev pub PublishesFront : {E : Type 0} → Setup → State E → Type 0
+PublishesFront c m = front m < next m → MayPublish c m (slice_index m.owners (front m)) (front m)
+
+-- a handler that is not retired completed all events before the front, or can go on, or one that it waits for can
+abbrev pub CompletesAll : {E : Type 0} → Setup → State E → ℕ → Type 0
+CompletesAll c m h = h < handlers c → m.retired h ≡ false → (slice_index m.completed h ≡ front m) ⊎ AwaitedGoesOn c m h
+
+-- a claim of at most a round beyond the front is accepted, or one that it waits for can go on
+abbrev pub ClaimsRound : {E : Type 0} → Setup → State E → ℕ → ℕ → Type 0
+ClaimsRound c m p n =
+    p < producers c.mode → 0 < n → m.halted ≡ false → next m + n ≤ c.limit → next m + n ≤ c.size + front m
+    → (reply_to c m (Claim p n) ≡ Claimed (next m) (next m + n - 1)) ⊎ ClaimAwaits c m n
+
+-- after a halt, once all that is claimed is published, a handler that is not retired is told `Drained`, or can go on, or one that it waits for can
+abbrev pub Drains : {E : Type 0} → Setup → State E → ℕ → ℕ → Type 0
+Drains c m h max =
+    h < handlers c → m.retired h ≡ false → 0 < max → m.halted ≡ true → front m ≡ next m
+    → (reply_to c m (Poll h max) ≡ Drained) ⊎ AwaitedGoesOn c m h
+
 pub record NobodyIsStuck {E : Type 0} (c : Setup) (m : State E) : Type 0 where
-  -- the first sequence that is not published, where it is claimed, can be published by its producer
-  pub publishes : front m < next m → MayPublish c m (slice_index m.owners (front m)) (front m)
-  -- each handler that is not retired completed all events before the front, or can go on, or one that it waits for can
-  pub completes : (h : ℕ) → h < handlers c → m.retired h ≡ false → (slice_index m.completed h ≡ front m) ⊎ AwaitedGoesOn c m h
-  -- a claim of at most a round beyond the front is accepted, or one that it waits for can go on
-  pub claims : (p n : ℕ) → p < producers c.mode → 0 < n → m.halted ≡ false → next m + n ≤ c.limit → next m + n ≤ c.size + front m
-      → (reply_to c m (Claim p n) ≡ Claimed (next m) (next m + n - 1)) ⊎ ClaimAwaits c m n
-  -- after a halt, once all that is claimed is published, a handler that is not retired is told `Drained`, or can go on, or one that it waits for can
-  pub drains : (h max : ℕ) → h < handlers c → m.retired h ≡ false → 0 < max → m.halted ≡ true → front m ≡ next m
-      → (reply_to c m (Poll h max) ≡ Drained) ⊎ AwaitedGoesOn c m h
+  pub publishes : PublishesFront c m
+  pub completes : (h : ℕ) → CompletesAll c m h
+  pub claims : (p n : ℕ) → ClaimsRound c m p n
+  pub drains : (h max : ℕ) → Drains c m h max
 
 -- a handler goes on: it is handed a batch, or completes more than before
 abbrev pub IsStepOn : {E : Type 0} → Setup → State E → Command E → Type 0

@@ -49,6 +49,10 @@ drain_of h = entry_with (Poll h 1) Drained []
 abbrev pub drain : Entry ℕ
 drain = drain_of 0
 
+-- a handler that has room for two events is told so
+abbrev pub drain_with_room : ℕ → Entry ℕ
+drain_with_room h = entry_with (Poll h 2) Drained []
+
 -- the event 5 is written, then published, then taken by the first handler, then completed by it, then taken by the second
 abbrev pub written : Transcript ℕ
 written = claim_of 0 ∷ write_by 0 0 5 ∷ []

@@ -2,7 +2,7 @@ use Rattle.std.proofs.Common.{arith, ℕ, ◌≡◌, ◌≤◌, ◌∷◌, ◌++
 use Rattle.dr_meaning.specs.Meaning.Transcript.{Transcript}
 use Rattle.dr_meaning.specs.Meaning.Laws.{IsComplete, ReceivedInOrder, AfterUpstreams}
 use Rattle.dr_meaning.specs.Meaning.TooFar.{pair, claim_of, receipt_of, completion_of, retirement_of, halt, drain, written, written_again, published, taken, completed, taken_by_both}
-use Rattle.dr_meaning.specs.Meaning.TooFar.{claim_up_to, join, two_published, first_receipt, second_receipt, completed_beside, taken_beside, completed_by_both, first_taken}
+use Rattle.dr_meaning.specs.Meaning.TooFar.{claim_up_to, join, two_published, first_receipt, second_receipt, completed_beside, taken_beside, completed_by_both, first_taken, drain_with_room}
 use Rattle.dr_meaning.proofs.lawful.laws_refuse_a_step_too_far.Goals as goal
 
 pub returns-clause-other_event : goal.returns-clause-other_event
@@ -300,5 +300,71 @@ returns-clause-event_written_over c = record {
       (let order : ReceivedInOrder (written_again ++ receipt_of 0 6 ∷ []) 0 = laws.received_in_order (written_again ++ receipt_of 0 6 ∷ []) [] refl 0 (omega arith) in
       let same : Some 6 ≡ Some 5 = order.events 0 (omega arith) in
       let numbers : 6 ≡ 5 = ap (λ o. unwrap_or o 5) same in
+      omega arith);
+}
+
+pub returns-clause-other_event_after_an_upstream : goal.returns-clause-other_event_after_an_upstream
+unfolding Rattle.dr_meaning.specs.Meaning.Machine.least_outside
+returns-clause-other_event_after_an_upstream c = record {
+  so_far = (_, (refl, refl, (refl, refl, (refl, refl, (refl, refl, (refl, refl, refl))))));
+  unlawful = λ laws.
+      (let all : Transcript ℕ = completed ++ receipt_of 1 6 ∷ [] in
+      let order : ReceivedInOrder all 1 = laws.received_in_order all [] refl 1 (omega arith) in
+      let same : Some 6 ≡ Some 5 = order.events 0 (omega arith) in
+      let numbers : 6 ≡ 5 = ap (λ o. unwrap_or o 5) same in
+      omega arith);
+}
+
+pub returns-clause-out_of_order_after_both_upstreams : goal.returns-clause-out_of_order_after_both_upstreams
+unfolding Rattle.dr_meaning.specs.Meaning.Machine.least_outside
+returns-clause-out_of_order_after_both_upstreams c = record {
+  so_far = (_, (refl, refl, (refl, refl, (refl, refl, (refl, refl, (refl, refl, (refl, refl, (refl, refl, (refl, refl, (refl, refl, (refl, refl, (refl, refl, (refl, refl, refl)))))))))))));
+  unlawful = λ laws.
+      (let all : Transcript ℕ = completed_by_both ++ first_receipt 2 6 ∷ [] in
+      let order : ReceivedInOrder all 2 = laws.received_in_order all [] refl 2 (omega arith) in
+      let same : Some 6 ≡ Some 5 = order.events 0 (omega arith) in
+      let numbers : 6 ≡ 5 = ap (λ o. unwrap_or o 5) same in
+      omega arith);
+}
+
+pub returns-clause-received_again_after_both_upstreams : goal.returns-clause-received_again_after_both_upstreams
+unfolding Rattle.dr_meaning.specs.Meaning.Machine.least_outside
+returns-clause-received_again_after_both_upstreams c = record {
+  so_far = (_, (refl, refl, (refl, refl, (refl, refl, (refl, refl, (refl, refl, (refl, refl, (refl, refl, (refl, refl, (refl, refl, (refl, refl, (refl, refl, (refl, refl, (refl, refl, refl))))))))))))));
+  unlawful = λ laws.
+      (let all : Transcript ℕ = (completed_by_both ++ first_receipt 2 5 ∷ []) ++ second_receipt 2 5 ∷ [] in
+      let order : ReceivedInOrder all 2 = laws.received_in_order all [] refl 2 (omega arith) in
+      let same : Some 5 ≡ Some 6 = order.events 1 (omega arith) in
+      let numbers : 5 ≡ 6 = ap (λ o. unwrap_or o 5) same in
+      omega arith);
+}
+
+pub returns-clause-drained_before_halt_with_room : goal.returns-clause-drained_before_halt_with_room
+unfolding Rattle.dr_meaning.specs.Meaning.Machine.least_outside
+returns-clause-drained_before_halt_with_room c = record {
+  so_far = (_, (refl, refl, (refl, refl, (refl, refl, (refl, refl, refl)))));
+  unlawful = λ laws.
+      (let complete : IsComplete (taken) 0 = laws.drained_is_complete (taken) [] (drain_with_room 0) refl 0 2 refl refl in
+      let halted : false ≡ true = complete.halted in
+      cc);
+}
+
+pub returns-clause-drained_early_with_room : goal.returns-clause-drained_early_with_room
+unfolding Rattle.dr_meaning.specs.Meaning.Machine.least_outside
+returns-clause-drained_early_with_room c = record {
+  so_far = (_, (refl, refl, (refl, refl, (refl, refl, (refl, refl, (refl, refl, (refl, refl, refl)))))));
+  unlawful = λ laws.
+      (let complete : IsComplete (two_published ++ first_receipt 0 5 ∷ halt ∷ []) 0 = laws.drained_is_complete (two_published ++ first_receipt 0 5 ∷ halt ∷ []) [] (drain_with_room 0) refl 0 2 refl refl in
+      let all : 1 ≡ 2 = complete.taken in
+      omega arith);
+}
+
+pub returns-clause-drained_over_a_claim_with_room : goal.returns-clause-drained_over_a_claim_with_room
+unfolding Rattle.dr_meaning.specs.Meaning.Machine.least_outside
+returns-clause-drained_over_a_claim_with_room c = record {
+  so_far = (_, (refl, refl, (refl, refl, (refl, refl, refl))));
+  unlawful = λ laws.
+      (let complete : IsComplete (written ++ halt ∷ []) 0 = laws.drained_is_complete (written ++ halt ∷ []) [] (drain_with_room 0) refl 0 2 refl refl in
+      let all : 0 ≡ 1 = complete.taken in
       omega arith);
 }

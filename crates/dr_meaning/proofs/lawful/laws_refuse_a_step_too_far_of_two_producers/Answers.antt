@@ -2,7 +2,7 @@ use Rattle.std.proofs.Common.{arith, ℕ, ◌≡◌, ◌≤◌, ◌∷◌, ◌++
 use Rattle.dr_meaning.specs.Meaning.Transcript.{Transcript}
 use Rattle.dr_meaning.specs.Meaning.Laws.{IsComplete, ReceivedInOrder, AfterUpstreams}
 use Rattle.dr_meaning.specs.Meaning.TooFar.{receipt_of, completion_of, halt, first_receipt, second_receipt, shared, claim_by, drain_of, receipt_of_both}
-use Rattle.dr_meaning.specs.Meaning.TooFar.{each_claimed, first_published, second_published, each_published, each_completed, third_completed}
+use Rattle.dr_meaning.specs.Meaning.TooFar.{each_claimed, first_published, second_published, each_published, each_completed, third_completed, drain_with_room}
 use Rattle.dr_meaning.proofs.lawful.laws_refuse_a_step_too_far_of_two_producers.Goals as goal
 
 pub returns-clause-received_again : goal.returns-clause-received_again
@@ -129,6 +129,40 @@ returns-clause-drained_over_a_claim c = record {
   so_far = (_, (refl, refl, (refl, refl, (refl, refl, (refl, refl, (refl, refl, (refl, refl, (refl, refl, refl))))))));
   unlawful = λ laws.
       (let complete : IsComplete (first_published ++ halt ∷ []) 1 = laws.drained_is_complete (first_published ++ halt ∷ []) [] (drain_of 1) refl 1 1 refl refl in
+      let all : 1 ≡ 2 = complete.taken in
+      omega arith);
+}
+
+pub returns-clause-out_of_order_after_both_upstreams : goal.returns-clause-out_of_order_after_both_upstreams
+unfolding Rattle.dr_meaning.specs.Meaning.Machine.least_outside
+returns-clause-out_of_order_after_both_upstreams c = record {
+  so_far = (_, (refl, refl, (refl, refl, (refl, refl, (refl, refl, (refl, refl, (refl, refl, (refl, refl, (refl, refl, (refl, refl, (refl, refl, refl)))))))))));
+  unlawful = λ laws.
+      (let all : Transcript ℕ = (each_completed 2) ++ first_receipt 2 6 ∷ [] in
+      let order : ReceivedInOrder all 2 = laws.received_in_order all [] refl 2 (omega arith) in
+      let same : Some 6 ≡ Some 5 = order.events 0 (omega arith) in
+      let numbers : 6 ≡ 5 = ap (λ o. unwrap_or o 5) same in
+      omega arith);
+}
+
+pub returns-clause-received_again_after_both_upstreams : goal.returns-clause-received_again_after_both_upstreams
+unfolding Rattle.dr_meaning.specs.Meaning.Machine.least_outside
+returns-clause-received_again_after_both_upstreams c = record {
+  so_far = (_, (refl, refl, (refl, refl, (refl, refl, (refl, refl, (refl, refl, (refl, refl, (refl, refl, (refl, refl, (refl, refl, (refl, refl, (refl, refl, refl))))))))))));
+  unlawful = λ laws.
+      (let all : Transcript ℕ = (each_completed 2 ++ first_receipt 2 5 ∷ []) ++ second_receipt 2 5 ∷ [] in
+      let order : ReceivedInOrder all 2 = laws.received_in_order all [] refl 2 (omega arith) in
+      let same : Some 5 ≡ Some 6 = order.events 1 (omega arith) in
+      let numbers : 5 ≡ 6 = ap (λ o. unwrap_or o 5) same in
+      omega arith);
+}
+
+pub returns-clause-drained_early_with_room : goal.returns-clause-drained_early_with_room
+unfolding Rattle.dr_meaning.specs.Meaning.Machine.least_outside
+returns-clause-drained_early_with_room c = record {
+  so_far = (_, (refl, refl, (refl, refl, (refl, refl, (refl, refl, (refl, refl, (refl, refl, (refl, refl, (refl, refl, (refl, refl, (refl, refl, (refl, refl, (refl, refl, refl)))))))))))));
+  unlawful = λ laws.
+      (let complete : IsComplete (each_completed 2 ++ first_receipt 2 5 ∷ halt ∷ []) 2 = laws.drained_is_complete (each_completed 2 ++ first_receipt 2 5 ∷ halt ∷ []) [] (drain_with_room 2) refl 2 2 refl refl in
       let all : 1 ≡ 2 = complete.taken in
       omega arith);
 }
