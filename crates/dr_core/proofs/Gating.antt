@@ -17,7 +17,7 @@ use Rattle.dr_meaning.specs.declared.refusal.Refusal.TheVariants.{Halted, Exhaus
 use Rattle.dr_meaning.specs.Meaning.Machine.{State, producers, next, gate, refusals}
 use Rattle.dr_core.specs.Calls.Shows.{Shows, IsStep}
 use Rattle.dr_core.specs.Inside.Availability.{claim_fault}
-use Rattle.dr_core.specs.Inside.Fields.{IsWhole, IsClaimable}
+use Rattle.dr_core.specs.Inside.Fields.{IsWhole, IsSeen, IsClaimable}
 use Rattle.dr_meaning.proofs.Steps.{Refuses}
 use Rattle.dr_core.proofs.CoreSteps.{refused_step, finals_least, gate_same}
 use Rattle.dr_core.proofs.Shown.{same_next, same_halted}
@@ -45,7 +45,7 @@ written_back kept flags read gone graph len same gating = rw (with_items_is kept
 
 module _ {E : Type 0} (v : CoreView E) (whole : IsWhole v) where
   -- a count that no final is below is no more than the least one
-  seen_below : (count : ℕ) → ((f : ℕ) → Contains (finals_without v.setup.upstreams (retired_in v)) f → count ≤ slice_index v.completed f) → count ≤ gate_of v
+  pub seen_below : (count : ℕ) → ((f : ℕ) → Contains (finals_without v.setup.upstreams (retired_in v)) f → count ≤ slice_index v.completed f) → count ≤ gate_of v
   seen_below count all =
       let one : IsGated v.setup.upstreams (retired_in v) (λ h. 0) whole.left.0 = whole.graph.gate (retired_in v) (λ h. 0) (λ h u has. omega arith) whole.left.0 whole.left.1 whole.left.2 in
       least_above_some (λ h. slice_index v.completed h) count one.last (finals_without v.setup.upstreams (retired_in v)) one.final all
@@ -61,6 +61,12 @@ module _ {E : Type 0} (v : CoreView E) (whole : IsWhole v) where
   final_room f has =
       let left : (f < length v.setup.upstreams) × (retired_in v f ≡ false) = final_left v.setup.upstreams (retired_in v) f has in
       whole.room f left.0 left.1
+
+  -- no final is below the least one
+  pub seen_now : (count : ℕ) → count ≤ gate_of v → IsSeen v.setup (retired_in v) v.completed count
+  seen_now count low f has =
+      let least : gate_of v ≤ slice_index v.completed f = least_of-member (λ h. slice_index v.completed h) (finals_without v.setup.upstreams (retired_in v)) f has in
+      omega arith
 
   -- what a scan finds may be remembered
   pub claimable_now : v.halted ≡ false → (upto : ℕ) → upto ≤ v.setup.limit → upto ≤ v.setup.size + gate_of v

@@ -13,9 +13,9 @@ use Rattle.dr_graph.proofs.Gating.{found_in, any_agree, followed_agree, final_le
 use Rattle.dr_meaning.specs.Meaning.Machine.{State, handlers, retired_with}
 use Rattle.dr_core.specs.Calls.CoreView.{CoreView, retired_in, gate_of}
 use Rattle.dr_core.specs.Calls.Shows.{Shows, IsStep}
-use Rattle.dr_core.specs.Inside.Fields.{IsWhole, IsClaimable}
+use Rattle.dr_core.specs.Inside.Fields.{IsWhole, IsSeen, IsClaimable}
 use Rattle.dr_core.proofs.CoreSteps.{accepted_step, refused_step, finals_least}
-use Rattle.dr_core.proofs.Gating.{claimable_room}
+use Rattle.dr_core.proofs.Gating.{seen_below, claimable_room}
 use Rattle.dr_core.proofs.Shown.{same_retired}
 use Rattle.dr_meaning.proofs.Sound.{orderly}
 use Rattle.dr_meaning.proofs.Pushes.{or-false}
@@ -109,6 +109,14 @@ module _ {E : Type 0} (v : CoreView E) (h : ℕ) (whole : IsWhole v) (inside : h
             let b : gate_of v ≤ slice_index v.completed f = finals_least v whole f now.0 (fewer f now.1) in
             omega arith);
       }
+
+      -- what was remembered before is so after
+      pub retire_seen : (count : ℕ) → IsSeen v.setup (retired_in v) v.completed count → IsSeen v.setup (retired_in (retired_core v h)) v.completed count
+      retire_seen count seen f has =
+          let now : (f < handlers v.setup) × (retired_in (retired_core v h) f ≡ false) = final_left v.setup.upstreams (retired_in (retired_core v h)) f has in
+          let a : count ≤ gate_of v = seen_below v whole count seen in
+          let b : gate_of v ≤ slice_index v.completed f = finals_least v whole f now.0 (fewer f now.1) in
+          omega arith
 
       -- a retirement never lowers the least count of the finals
       pub retire_room : gate_of v ≤ gate_of (retired_core v h)

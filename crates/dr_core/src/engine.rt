@@ -12,7 +12,7 @@ ghost use Rattle.dr_core.specs.Calls.Reached.{IsReached};
 use crate::engine::opening::{gating_at_first, none_counted, none_marked, owners_for};
 use dr_graph::Graph;
 use dr_meaning::{Mode, OpenFault, is_valid_limit};
-use dr_seq::{Rounds, Size, Slots};
+use dr_seq::{GateCache, Rounds, Size, Slots};
 use std::alloc::{AllocError, Global};
 use std::marker::Model;
 
@@ -37,7 +37,9 @@ pub struct Core<E> {
     owners: Vec<u64>,
     events: Slots<E>,
     blank: E,
-    // A claim of sequences that all lie below this one is granted without a further look.
+    gate: GateCache,
+    // A claim of sequences that all lie below this one is granted by one test: it is the least of the
+    // limit and the remembered count with the size, or after a halt what is claimed.
     claimable: u64,
     next: u64,
     front: u64,
@@ -116,6 +118,7 @@ impl<E: Copy> Core<E> {
             owners,
             events,
             blank,
+            gate: GateCache::new(),
             claimable: limit.min(size.get()),
             next: 0,
             front: 0,

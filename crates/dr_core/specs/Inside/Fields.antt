@@ -55,11 +55,16 @@ pub record IsClaimable (c : Setup) (next : ℕ) (halted : Bool) (gone : ℕ → 
   pub limit : upto ≤ c.limit
   pub room : (f : ℕ) → Contains (finals_without c.upstreams gone) f → upto ≤ c.size + slice_index completed f
 
--- the two rounds, the flags of those that gate, and a remembered sequence up to which nothing refuses a claim
+-- a remembered count is no more than what any final of those that are left completed
+abbrev pub IsSeen : Setup → (ℕ → Bool) → List ℕ → ℕ → Type 0
+IsSeen c gone completed count = (f : ℕ) → Contains (finals_without c.upstreams gone) f → count ≤ slice_index completed f
+
+-- the two rounds, the flags of those that gate, the remembered least count, and a remembered sequence up to which nothing refuses a claim
 pub record IsKept {E : Type 0} (a : Inside E) : Type 0 where
   pub whole : IsWhole (view_of a)
   pub available : IsAvailable (kept_of a) a.size a.next
   pub gating : AreGating a.gating.items a.graph.upstreams (flagged a.retired.items)
+  pub seen : IsSeen (view_of a).setup (flagged a.retired.items) a.completed.items a.gate
   pub claimable : IsClaimable (view_of a).setup a.next a.halted (flagged a.retired.items) a.completed.items a.claimable
 
 -- why a poll hands nothing out to a handler that took so many events, as many as are offered

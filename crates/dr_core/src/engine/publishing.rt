@@ -19,7 +19,9 @@ impl<E: Copy> Core<E> {
         ensures room { result ≡ nat_le wanted (self.old.setup.size + gate_of self.old) }
         ensures same { self.new ≡ self.old }
     {
-        let room = self.size.get() + least_flagged(&self.completed, &self.gating);
+        self.gate
+            .raise(least_flagged(&self.completed, &self.gating));
+        let room = self.size.get() + self.gate.seen();
         self.claimable = self.limit.min(room);
         wanted <= room
     }

@@ -87,6 +87,7 @@ invariant_of-self g c =
           (claims_available v (kept_of c.self-2.inside) (known_there c.self-2.inside) c.self-2.invariant.available c.self-2.invariant.whole.front
           (size_positive v.setup.size c.self-2.invariant.whole.size) c.args.n c.args.p);
       gating = c.self-2.invariant.gating;
+      seen = c.self-2.invariant.seen;
       claimable = record {
         going = λ e. (let old : c.self-2.inside.claimable ≤ c.self-2.inside.next = c.self-2.invariant.claimable.going e in omega arith);
         limit = c.self-2.invariant.claimable.limit;

@@ -36,6 +36,8 @@ invariant_of-self g c =
       whole = step_whole (complete_step v c.args.h c.args.upto can) refl c.self.invariant.whole;
       available = c.self.invariant.available;
       gating = c.self.invariant.gating;
+      seen = λ f has. (let old : c.self.inside.gate ≤ slice_index v.completed f = c.self.invariant.seen f has in
+          omega (arith, completed_grows v c.args.h c.args.upto c.self.invariant.whole can f));
       claimable = record {
         going = c.self.invariant.claimable.going;
         limit = c.self.invariant.claimable.limit;

@@ -10,6 +10,7 @@ invariant_of-self g c = record {
   whole = step_whole (halt_step (view_of c.self.inside)) refl c.self.invariant.whole;
   available = c.self.invariant.available;
   gating = c.self.invariant.gating;
+  seen = c.self.invariant.seen;
   claimable = record { going = λ e. omega arith; limit = c.self.invariant.whole.claimed; room = λ f has. final_room (view_of c.self.inside) c.self.invariant.whole f has };
 }
 

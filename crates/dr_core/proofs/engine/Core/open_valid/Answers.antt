@@ -26,6 +26,7 @@ invariant_of-result g c =
         unwritten = λ s later. rw c.in_ok-published.ensures.1 (none_marked _ s);
       };
       gating = rw c.deref.ensures.value at c.in_ok-gating.ensures;
+      seen = λ f has. omega arith;
       claimable = record { going = λ e. absurd (cc); limit = omega arith; room = λ f has. omega arith };
     }
 

@@ -69,6 +69,7 @@ invariant_of-self g c =
       whole = step_whole (took g (goal.at.invariant_of-self g c).After-copy_out at) refl c.self.invariant.whole;
       available = c.self.invariant.available;
       gating = c.self.invariant.gating;
+      seen = c.self.invariant.seen;
       claimable = c.self.invariant.claimable;
     }
 

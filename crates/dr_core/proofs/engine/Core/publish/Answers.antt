@@ -105,6 +105,7 @@ invariant_of-self-2 g c =
           c.args.p c.args.lo c.args.hi c.show-self-inside.result c.if-lo-hi.false c.if-hi-self.false
           recent round refl c.if-lo-self.false (begins g at) (found g at));
       gating = c.self.invariant.gating;
+      seen = c.self.invariant.seen;
       claimable = c.self.invariant.claimable;
     }
 
@@ -133,5 +134,6 @@ invariant_of-self g c =
       whole = step_whole step refl c.self.invariant.whole;
       available = next_available c.self.inside c.self.invariant c.args.p c.args.lo c.args.hi producer is;
       gating = c.self.invariant.gating;
+      seen = c.self.invariant.seen;
       claimable = c.self.invariant.claimable;
     }

@@ -71,6 +71,7 @@ invariant_of-self g c =
       whole = turn.whole;
       available = c.self.invariant.available;
       gating = c.self.invariant.gating;
+      seen = λ f has. (let old : c.self.inside.gate ≤ slice_index v.completed f = c.self.invariant.seen f has in omega (arith, turn.grows f));
       claimable = record {
         going = c.self.invariant.claimable.going;
         limit = c.self.invariant.claimable.limit;

@@ -78,6 +78,7 @@ invariant_of-self g c =
           (writes_available v (kept_of c.self.inside) (known_there c.self.inside) c.self.invariant.available c.self.invariant.whole.front (size_positive v.setup.size c.self.invariant.whole.size)
           c.args.p c.args.s c.args.event c.note-self-inside.result _ c.if-s-self.false recent c.note-self-inside.ensures);
       gating = c.self.invariant.gating;
+      seen = c.self.invariant.seen;
       claimable = c.self.invariant.claimable;
     }
 
