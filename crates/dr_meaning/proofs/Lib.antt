@@ -10,7 +10,6 @@ pub mod FiveLaws
 pub mod Bounds
 pub mod Showings
 pub mod Progress
-mod Stuck
 pub mod Finishing
 pub mod Resting
 pub mod Calling
