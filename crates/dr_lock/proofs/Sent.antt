@@ -52,7 +52,7 @@ pub event_send : IsSend Event.the_row
 event_send = search passes depth 30
 
 pub core_send : (E : RattleType) → IsSend E → IsSend (Core.the_row E)
-core_send E s = search passes depth 40
+core_send E s = search passes depth 60 fits 20000
 
 pub command_send : (E : RattleType) → IsSend E → IsSend (Command.the_row E)
 command_send E s = search passes depth 40
