@@ -9,6 +9,11 @@ use dr_seq::Event;
 use std::alloc::Global;
 use std::process::Abort;
 
+const FOUR: Event = Event {
+    first: 4,
+    second: 0,
+};
+
 const FIVE: Event = Event {
     first: 5,
     second: 0,
@@ -16,6 +21,11 @@ const FIVE: Event = Event {
 
 const SIX: Event = Event {
     first: 6,
+    second: 0,
+};
+
+const SEVEN: Event = Event {
+    first: 7,
     second: 0,
 };
 
@@ -45,15 +55,24 @@ const SENT: [Step; 6] = [
     }),
     Call(Publish { p: 0, lo: 0, hi: 0 }),
     Call(Claim { p: 1, n: 1 }),
-    Call(Write {
-        p: 1,
-        s: 1,
-        v: SIX,
-    }),
+    Call(Write { p: 1, s: 1, v: SIX }),
     Call(Publish { p: 1, lo: 1, hi: 1 }),
 ];
 
-const CASES: [Case; 2] = [
+const CASES: [Case; 3] = [
+    // Each script is compared before the handlers, and of several that differ the least producer is told.
+    Case {
+        shape: Shape::Alone,
+        steps: &[
+            Audit(&[&[FOUR], &[SIX]], Some(AuditFault::ScriptDiffers(0))),
+            Audit(&[&[FIVE], &[SIX]], Some(AuditFault::NotDrained(0))),
+            Call(Poll { h: 0, max: 8 }),
+            Audit(&[&[FIVE], &[SIX]], None),
+            Audit(&[&[FIVE], &[SEVEN]], Some(AuditFault::ScriptDiffers(1))),
+        ],
+        entries: 7,
+        values: &[FIVE, SIX],
+    },
     // A script without a producer is to be empty.
     Case {
         shape: Shape::Alone,

@@ -11,6 +11,8 @@ mod ends;
 #[cfg(test)]
 mod faults;
 #[cfg(test)]
+mod finishing;
+#[cfg(test)]
 mod graphs;
 #[cfg(test)]
 mod histories;
@@ -23,7 +25,11 @@ mod playing;
 #[cfg(test)]
 mod ringing;
 #[cfg(test)]
+mod rounds;
+#[cfg(test)]
 mod rows;
+#[cfg(test)]
+mod turns;
 #[cfg(test)]
 mod words;
 #[cfg(test)]

@@ -29,7 +29,7 @@ fn reply_of<L: Exchange<Event>, R: Wait + Abort>(
 }
 
 /// Makes a run's calls through an end, and adds those that are to be kept.
-fn play_rows<L: Exchange<Event>, R: Wait + Abort>(
+pub fn play_rows<L: Exchange<Event>, R: Wait + Abort>(
     rt: &R,
     shared: &Shared<Event, L>,
     end: &mut End<Event, L>,
