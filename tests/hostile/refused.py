@@ -22,7 +22,7 @@ from run import HERE, NO_MEMORY, WAYS, Ran, merged_like
 # The calls of the library, and those of them that take no memory once something is open.
 CALLS = ("builder", "build", "open", "record", "ring", "plain", "plain-dropped", "plain-senders", "plain-senders-dropped", "run")
 CALLS += ("call", "audit", "scripts")
-TAKING_NONE = ("core", "many", "ends", "plain-ends", "plain-senders-ends", "settled", "kept", "parts")
+TAKING_NONE = ("core", "many", "ends", "plain-ends", "plain-senders-ends", "settled", "kept", "locked", "parts")
 
 DIAMOND = """ring,2,single
 with,journal,replica

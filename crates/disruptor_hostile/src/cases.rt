@@ -4,6 +4,7 @@ use crate::building::{tell_builder, tell_built};
 use crate::core_calls::{OfCore, tell_core, tell_opened};
 use crate::fault::Fault;
 use crate::graphs::diamond;
+use crate::locking::tell_locked;
 use crate::parts::tell_parts;
 use crate::plain_calls::{tell_plain, tell_plain_ends};
 use crate::plain_rings::{ONE_SENDER, TOGETHER, TWO_SENDERS, tell_rings};
@@ -54,12 +55,14 @@ pub enum Case {
     Core(OfCore),
     History(OfHistory),
     Over(Over),
+    /// A history behind a lock: its ends, and how they come together.
+    Locked,
     /// A run in one call, with a thread for each of two handlers and of two scripts.
     Scripts,
 }
 
 /// The cases, with their names on the command line.
-pub const CASES: [(&str, Case); 21] = [
+pub const CASES: [(&str, Case); 22] = [
     ("builder", Case::Builder),
     ("build", Case::Build),
     ("open", Case::Open),
@@ -83,6 +86,7 @@ pub const CASES: [(&str, Case); 21] = [
     ("plain-senders-ends", Case::Over(Over::PlainSendersEnds)),
     ("settled", Case::Over(Over::Settled)),
     ("kept", Case::History(OfHistory::Kept)),
+    ("locked", Case::Locked),
     ("parts", Case::Over(Over::Parts)),
 ];
 
@@ -130,6 +134,7 @@ fn tell_once<R: Print + Threads + Wait + Copy + Send + 'static>(
         Case::Core(what) => tell_core(out, alloc, what),
         Case::History(what) => tell_history(out, alloc, what),
         Case::Over(over) => tell_over_diamond(out, alloc, over),
+        Case::Locked => tell_locked(out, alloc),
         Case::Scripts => tell_scripts(out, alloc),
     }
 }

@@ -12,6 +12,7 @@ mod cases;
 mod core_calls;
 mod fault;
 mod graphs;
+mod locking;
 mod parts;
 mod plain_calls;
 mod plain_dropping;
