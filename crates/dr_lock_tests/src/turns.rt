@@ -38,6 +38,7 @@ const TURNS: [(Polled, usize, u64); 3] = [
 const SHOWN: [Showing; 3] = [(4, 0, false), (5, 1, false), (6, 2, true)];
 
 /// Keeps what it is shown, and how often it is called.
+#[derive(Drop)]
 struct Keeper {
     shown: [Showing; 3],
     calls: usize,
