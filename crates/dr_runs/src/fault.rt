@@ -5,11 +5,11 @@ ghost use Rattle.dr_runs.specs.Fault.{number_of, name_of};
 ghost use Rattle.dr_runs.specs.declared.fault.RingFault.TheVariants.{NoMemory};
 
 use std::alloc::{AllocError, AllocFailed};
-use std::error::Error;
 use std::fmt;
+use thiserror::Error;
 
 /// Why a ring is not made.
-#[derive(Clone, Copy, Debug, PartialEq, Eq)]
+#[derive(Clone, Copy, Debug, PartialEq, Eq, Error)]
 pub enum RingFault {
     /// The limit of sequences is 1 to [`MAX_LIMIT`](dr_meaning::MAX_LIMIT).
     BadLimit,
@@ -46,8 +46,6 @@ impl fmt::Display for RingFault {
         f.write_str(self.name())
     }
 }
-
-impl Error for RingFault {}
 
 impl From<AllocError> for RingFault {
     ghost from_gives = { λ _ fault. fault ≡ NoMemory };
