@@ -11,9 +11,9 @@ use std::alloc::Global;
 /// Brings all ends of a ring together.
 pub fn tell_settled<R: Print>(out: &Lines<R>, alloc: Global, graph: &Graph) {
     match opened(alloc, graph) {
-        Ok((sender, receivers, halter)) => {
+        Ok((sender, receivers, _halter)) => {
             out.words("open");
-            let settled = settle(sender, receivers, halter);
+            let settled = settle(sender, receivers);
             out.value(settled.handlers());
             tell_memory(out, alloc);
         }

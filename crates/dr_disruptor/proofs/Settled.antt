@@ -10,7 +10,7 @@ use Rattle.dr_workers.specs.declared.fault.WorkFault.{WorkFault}
 use Rattle.dr_workers.proofs.Untroubled.{AnswersWork}
 use Rattle.dr_ring.specs.Meaning.Shape.{Shape, handlers_of}
 use Rattle.dr_ring.specs.Meaning.Settling.{HasBeginning, Settles}
-use Rattle.dr_ring.specs.Calls.Ends.{HalterEnd, ReceiverEnd, ReceiverPlace, SenderEnd, SenderPlace, receiver_place, sender_place}
+use Rattle.dr_ring.specs.Calls.Ends.{HalterEnd, ReceiverEnd, ReceiverPlace, SenderEnd, receiver_place}
 use Rattle.dr_ring.specs.Calls.Making.{at_ring}
 use Rattle.dr_ring.specs.Calls.Settling.{AreAllEnds, HasRun, handler_counts}
 use Rattle.dr_ring.specs.Calls.Telling.{receiver_does}
@@ -26,18 +26,10 @@ use Rattle.dr_disruptor.specs.Running.{IsRan, Ran, new_receiver, receivers_in, s
 use Rattle.dr_disruptor.specs.Serving.{GaveBack, Served, Worker, is_told, received_by}
 use Rattle.dr_disruptor.proofs.Polled.{polled, saw_published}
 
--- a sender that stays at its place has the same ends beside it
-pub all_moved : (s s' : SenderEnd) (rs : List ReceiverEnd) (t : HalterEnd) → sender_place s' ≡ sender_place s → AreAllEnds s rs t → AreAllEnds s' rs t
-all_moved s s' rs t same all = record {
-  all = all.all ∙ ap (λ (p : SenderPlace). handlers_of p.1) (sym same);
-  each = λ h e at. let a = all.each h e at in (a.0 ∙ ap (λ (p : SenderPlace). p.0) (sym same), a.1);
-  halter = all.halter ∙ ap (λ (p : SenderPlace). p.0) (sym same);
-}
-
 -- the run of ends is that of the same ends
-pub same_run : (s s' : SenderEnd) (rs rs' : List ReceiverEnd) (t t' : HalterEnd) → s' ≡ s → rs' ≡ rs → t' ≡ t → HasRun s rs t → HasRun s' rs' t'
-same_run s s' rs rs' t t' one each other run =
-    subst (λ (e : SenderEnd). HasRun e rs' t') (sym one) (subst (λ (l : List ReceiverEnd). HasRun s l t') (sym each) (subst (HasRun s rs) (sym other) run))
+pub same_run : (s s' : SenderEnd) (rs rs' : List ReceiverEnd) (t : HalterEnd) → s' ≡ s → rs' ≡ rs → HasRun s rs t → HasRun s' rs' t
+same_run s s' rs rs' t one each run =
+    subst (λ (e : SenderEnd). HasRun e rs' t) (sym one) (subst (λ (l : List ReceiverEnd). HasRun s l t) (sym each) run)
 
 -- the receivers of a new ring stand at their numbers
 fresh_at : (k : Shape) (t : TableId) (a n h : ℕ) → h < n → get_elem? (map (at_ring t) (fresh_receivers k a n)) h ≡ some (new_receiver t k (a + h))
@@ -58,11 +50,13 @@ module _ {A : Type 0} (goes : Relation Event A) (s : SenderEnd) (ws : List (Work
   -- what workers gave back are all ends of the ring again
   pub all_back : (t : HalterEnd) → AreAllEnds s (map given_end ws) t → AreAllEnds s receivers t
   all_back t all = record {
-    all = many_back receiver_place receiver_does (λ e. Some (received_by e)) is_told goes ws ss kept ∙ all.all;
-    each = λ h e at.
-        let (given, there, same) = end_back receiver_place receiver_does (λ e. Some (received_by e)) is_told goes ws ss kept h e at in
-        let was = all.each h given there in
-        (ap (λ (q : ReceiverPlace). q.0) same ∙ was.0, ap (λ (q : ReceiverPlace). q.2) same ∙ was.1);
+    receivers = record {
+      all = many_back receiver_place receiver_does (λ e. Some (received_by e)) is_told goes ws ss kept ∙ all.receivers.all;
+      each = λ h e at.
+          let (given, there, same) = end_back receiver_place receiver_does (λ e. Some (received_by e)) is_told goes ws ss kept h e at in
+          let was = all.receivers.each h given there in
+          (ap (λ (q : ReceiverPlace). q.0) same ∙ was.0, ap (λ (q : ReceiverPlace). q.2) same ∙ was.1);
+    };
     halter = all.halter;
   }
 
@@ -80,7 +74,7 @@ module _ {A : Type 0} (goes : Relation Event A) (s : SenderEnd) (ws : List (Work
     new_ends : (h : ℕ) (e : ReceiverEnd) → get_elem? (map given_end ws) h ≡ some e → e ≡ new_receiver s.ring k h
     new_ends h e at =
         let inside : h < length (map given_end ws) = at_below (map given_end ws) h e at in
-        let many : length (map given_end ws) ≡ handlers_of k = all.all ∙ ap handlers_of plan in
+        let many : length (map given_end ws) ≡ handlers_of k = all.receivers.all ∙ ap handlers_of plan in
         let number : 0 + h ≡ h = omega arith in
         let made = ap (λ (l : List ReceiverEnd). get_elem? l h) fresh ∙ fresh_at k s.ring 0 (handlers_of k) h (omega arith)
         ∙ ap (λ (n : ℕ). some (new_receiver s.ring k n)) number in
@@ -110,12 +104,15 @@ module _ {A : Type 0} (goes : Relation Event A) (s : SenderEnd) (ws : List (Work
         polled 256 (length sent) (new_receiver s.ring k h) p.back.outlet calls.calls calls.lead calls.holds.order
         (saw_published s.knows p.back.outlet.knows (has h p))
 
-    pub is_ran : (fault : Option WorkFault) → sender_in ran ≡ s → receivers_in ran ≡ receivers → HasRun (sender_in ran) (receivers_in ran) ran.settled.halter.value
-        → ran.settled.halter.value.knows.halted ≡ false → ran.settled.published ≡ length sent → ran.handlers.items ≡ map (λ (b : Served A). b.handler) ss
+    pub is_ran : (fault : Option WorkFault) → sender_in ran ≡ s → receivers_in ran ≡ receivers → ran.settled.halter.value ≡ Some t
+        → HasRun (sender_in ran) (receivers_in ran) t
+        → t.knows.halted ≡ false → ran.settled.published ≡ length sent → ran.handlers.items ≡ map (λ (b : Served A). b.handler) ss
         → ran.endings.items ≡ endings_from 0 ss ++ record { who = 16; fault = fault } ∷ []
         → IsRan goes k starts sent fault ran
-    is_ran fault here theirs run unhalted published handlers endings = record {
+    is_ran fault here theirs whole run unhalted published handlers endings = record {
       plan = ap (λ (e : SenderEnd). e.knows.plan) here ∙ plan;
+      halter = t;
+      whole = whole;
       run = run;
       unhalted = unhalted;
       served = ss;

@@ -7,7 +7,7 @@ use Rattle.dr_workers.specs.Calls.Serving as worker
 use Rattle.dr_workers.specs.declared.producer.Produced.{Produced}
 use Rattle.dr_workers.specs.declared.fault.WorkFault.{WorkFault}
 use Rattle.atomic_table.specs.Seated.{TableId}
-use Rattle.dr_ring.specs.Calls.Ends.{ReceiverEnd, SenderEnd, receiver_place}
+use Rattle.dr_ring.specs.Calls.Ends.{HalterEnd, ReceiverEnd, SenderEnd, receiver_place}
 use Rattle.dr_ring.specs.Calls.Making.{at_ring}
 use Rattle.dr_ring.specs.Calls.Sending.{ClosesOnceDone}
 use Rattle.dr_ring.specs.Calls.Settling.{HasRun}
@@ -43,9 +43,11 @@ receivers_in ran = ran.settled.receivers.value.items
 pub record IsRan {A : Type 0} (goes : Relation Event A) (k : Shape) (starts : List A) (sent : List Event) (sender : Option WorkFault) (ran : Ran A) : Type 0 where
   -- the ring that came together at last is of this shape, and one run came to all of its ends
   pub plan : (sender_in ran).knows.plan ≡ k
-  pub run : HasRun (sender_in ran) (receivers_in ran) ran.settled.halter.value
+  pub halter : HalterEnd
+  pub whole : ran.settled.halter.value ≡ Some halter
+  pub run : HasRun (sender_in ran) (receivers_in ran) halter
   -- whose halter never halted it
-  pub unhalted : ran.settled.halter.value.knows.halted ≡ false
+  pub unhalted : halter.knows.halted ≡ false
   -- these are its receivers, as the handlers' workers gave them back
   pub served : List (Served A)
   pub receivers : receivers_in ran ≡ map (λ s. s.outlet) served

@@ -22,7 +22,7 @@ ghost use Rattle.dr_disruptor.specs.Serving.{shape_of};
 use crate::workers::{Abandoned, LiveSender, Worker, begin, gathered, joined, open};
 use dr_graph::Graph;
 use dr_meaning::Handler;
-use dr_ring::{Halter, Settled, settle};
+use dr_ring::{Halter, Settled, settle_all};
 use dr_seq::{Event, Size};
 use dr_threads::{Back, RunFault, WaitStrategy};
 use dr_workers::{OpenGate, SENDER, WorkFault, produce_with};
@@ -63,7 +63,7 @@ fn finish<R: Threads, H: Handler<Event> + Drop>(
         handlers,
         endings,
     } = back;
-    let settled = settle(sender.into_end(), outlets, halter);
+    let settled = settle_all(sender.into_end(), outlets, halter);
     Ok(dr_threads::Ran {
         handlers,
         settled,

@@ -29,7 +29,7 @@ use dr_files::{Counted, FileFault};
 use dr_meaning::MAX_LIMIT;
 use dr_operations::read_events;
 use dr_reports::{BUSINESS, JOURNAL, PartOf, REPLICA, Worked, graph, work};
-use dr_ring::{Halter, Receiver, Sender, ring, settle};
+use dr_ring::{Halter, Receiver, Sender, ring, settle_all};
 use dr_seq::{Event, Size};
 use dr_workers::{
     Bell, Ended, Gate, Parking, Produced, Ringing, SENDER, first_fault, produce_with,
@@ -246,7 +246,7 @@ fn finish(alloc: Global, ran: Ran, halter: Halter) -> Result<Report, ReplayFault
         business,
     } = ran;
     let receivers = listed(alloc, journal.receiver, replica.receiver, business.receiver)?;
-    let _settled = settle(sender, receivers, halter);
+    let _settled = settle_all(sender, receivers, halter);
     if let Some(first) = first_fault(endings.as_slice()) {
         return Err(replay_fault(first));
     }

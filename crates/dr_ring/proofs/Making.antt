@@ -17,7 +17,7 @@ use Rattle.dr_ring.specs.declared.record.EndRecord.{EndRecord}
 use Rattle.dr_ring.specs.declared.record.EndRecord.TheVariants.{Sends, Receives, Halts}
 use Rattle.dr_ring.specs.Meaning.Moments.{fresh_sender, fresh_receiver, fresh_receivers, fresh_halter, new_world}
 use Rattle.dr_ring.specs.Inside.Seats.{End, Sitting, end_number, Stands, exchange, Ruled, known_receivers, fresh_ends, all_ends, IsAtTable, as_receiver}
-use Rattle.dr_ring.specs.Calls.Ends.{SenderEnd, ReceiverEnd, HalterEnd}
+use Rattle.dr_ring.specs.Calls.Ends.{SenderEnd, ReceiverEnd, HalterEnd, SenderPlace, sender_place}
 use Rattle.dr_ring.specs.Inside.Stations.{receiver_end, ReceiverSits}
 use Rattle.dr_ring.specs.Calls.Settling.{AreAllEnds}
 use Rattle.dr_runs.proofs.Elements.{there, value_at, each_set}
@@ -107,22 +107,36 @@ fresh_end k t h (suc n) (suc i) e at = let r = fresh_end k t (suc h) n i e at in
 -- the ends of a new ring are all of its ends
 pub all_fresh : (k : Shape) (s : SenderEnd) (rs : List ReceiverEnd) (t : HalterEnd) → AreFreshEnds k s rs t → AreAllEnds s rs t
 all_fresh k s rs t F = record {
-  all = ap length F.receivers ∙ length-map (fresh_receivers k 0 (handlers_of k)) (at_ring s.ring) ∙ fresh_count k 0 (handlers_of k)
-      ∙ sym (ap (λ (q : SenderRecord). handlers_of q.plan) F.sender);
-  each = λ h e at. (
-      let x : (e.ring ≡ s.ring) × (e.knows.number ≡ 0 + h) =
-      fresh_end k s.ring 0 (handlers_of k) h e (subst (λ (xs : List ReceiverEnd). get_elem? xs h ≡ some e) F.receivers at) in
-      let m = x.1 in (x.0, omega arith));
+  receivers = record {
+    all = ap length F.receivers ∙ length-map (fresh_receivers k 0 (handlers_of k)) (at_ring s.ring) ∙ fresh_count k 0 (handlers_of k)
+        ∙ sym (ap (λ (q : SenderRecord). handlers_of q.plan) F.sender);
+    each = λ h e at. (
+        let x : (e.ring ≡ s.ring) × (e.knows.number ≡ 0 + h) =
+        fresh_end k s.ring 0 (handlers_of k) h e (subst (λ (xs : List ReceiverEnd). get_elem? xs h ≡ some e) F.receivers at) in
+        let m = x.1 in (x.0, omega arith));
+  };
   halter = ap (λ (x : HalterEnd). x.ring) F.halter;
+}
+
+-- and they stay so where the sender, or a receiver, stays at its place
+pub all_sender : (s s' : SenderEnd) (rs : List ReceiverEnd) (t : HalterEnd) → AreAllEnds s rs t → sender_place s' ≡ sender_place s → AreAllEnds s' rs t
+all_sender s s' rs t A same = record {
+  receivers = record {
+    all = A.receivers.all ∙ ap (λ (p : SenderPlace). handlers_of p.1) (sym same);
+    each = λ h e at. (let was = A.receivers.each h e at in (was.0 ∙ ap (λ (p : SenderPlace). p.0) (sym same), was.1));
+  };
+  halter = A.halter ∙ ap (λ (p : SenderPlace). p.0) (sym same);
 }
 
 pub all_receiver : (s : SenderEnd) (rs : List ReceiverEnd) (t : HalterEnd) (h : ℕ) (e e' : ReceiverEnd) → AreAllEnds s rs t → get_elem? rs h ≡ some e
     → e'.ring ≡ e.ring
     → e'.knows.number ≡ e.knows.number → AreAllEnds s (set rs h e') t
 all_receiver s rs t h e e' A here ring number = record {
-  all = length-set rs h e' ∙ A.all;
-  each = each_set (λ j x. (x.ring ≡ s.ring) × (x.knows.number ≡ j)) rs h e' (let was = A.each h e here in (ring ∙ was.0, number ∙ was.1))
-      (λ j x ne at. A.each j x at);
+  receivers = record {
+    all = length-set rs h e' ∙ A.receivers.all;
+    each = each_set (λ j x. (x.ring ≡ s.ring) × (x.knows.number ≡ j)) rs h e'
+        (let was = A.receivers.each h e here in (ring ∙ was.0, number ∙ was.1)) (λ j x ne at. A.receivers.each j x at);
+  };
   halter = A.halter;
 }
 

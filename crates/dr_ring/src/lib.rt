@@ -24,4 +24,4 @@ pub use opening::ring;
 pub use plan::Plan;
 pub use receiver::Receiver;
 pub use sender::Sender;
-pub use settled::{Settled, settle};
+pub use settled::{Settled, settle, settle_all};

@@ -1,13 +1,14 @@
 //! All ends of a ring come together.
 
-ghost use Rattle.std.specs.Prelude.{◌≡◌, ◌<◌, false, length, map};
+ghost use Rattle.std.specs.Prelude.{◌≡◌, ◌<◌, false, length, map, IfSome, None, Some};
+ghost use Rattle.std.specs.Option.{ForSome};
 ghost use Rattle.std.specs.Arc.{arc_value};
 ghost use Rattle.dr_ring.specs.Inside.Seats.{IsAtTable, ring_ends};
 ghost use Rattle.dr_ring.specs.Meaning.Records.{claimed as claimed_of};
 ghost use Rattle.dr_runs.specs.Gathering.{Gathers, counts_at};
-ghost use Rattle.dr_ring.specs.Inside.Stations.{AreOfRing, receiver_known};
+ghost use Rattle.dr_ring.specs.Inside.Stations.{AreOfRing, halters_known, receiver_known};
 ghost use Rattle.dr_ring.specs.Meaning.Settling.{FoundUnhalted, Settles};
-ghost use Rattle.dr_ring.specs.Calls.Settling.{AreAllEnds, HasRun, handler_counts};
+ghost use Rattle.dr_ring.specs.Calls.Settling.{AreAllEnds, AreOfOneRun, AreReceiversOf, HasRun, handler_counts};
 
 use crate::laws::{Halter, RingBody, RingSeat, moments, settling};
 use crate::receiver::Receiver;
@@ -25,7 +26,7 @@ pub struct Settled {
     handlers: Vec<HandlerCounts>,
     sender: Snapshot<Sender>,
     receivers: Snapshot<Vec<Receiver>>,
-    halter: Snapshot<Halter>,
+    halter: Snapshot<Option<Halter>>,
 }
 
 impl Settled {
@@ -67,6 +68,18 @@ impl Settled {
     }
 }
 
+// The halter's seat comes to the sender's, if the halter is there.
+fn gather_halter(ring: &Arc<RingBody, Global>, seat: &mut RingSeat, halter: Option<Halter>)
+    requires table { IsAtTable seat.old.table_id (arc_value ring.now).table.shared.table_id (arc_value ring.now).plan }
+    requires halter { ForSome halter (λ t. t.ring ≡ seat.old.table_id) }
+    ensures seat { seat.new.table_id ≡ seat.old.table_id }
+    ensures view { Gathers ring_ends seat.old.me.0 (halters_known halter) seat.new.me.0 }
+{
+    if let Some(halter) = halter {
+        settling::take_in(&ring.table.shared, seat, halter.seat);
+    }
+}
+
 // A receiver's seat comes to the sender's, and its counts to their place.
 fn gather(
     ring: &Arc<RingBody, Global>,
@@ -91,22 +104,18 @@ fn gather(
     }
 }
 
-/// Brings all ends of a ring together. It takes no memory.
-///
-/// Each receiver has the beginning of what the sender published, all of it where it was told that
-/// the ring drained; no handler took more than its upstreams completed; and no more is claimed
-/// than a round beyond what each final handler completed. There is one run of all ends that came
-/// to what they know, in which each end stored exactly what it did, and its transcript is lawful. So
-/// where the halter never halted, the sender found no halt but its own.
-pub fn settle(sender: Sender, receivers: Vec<Receiver>, halter: Halter) -> Settled
-    requires { AreAllEnds sender receivers.items halter }
+// Brings a sender and its receivers together, and their halter if it is there.
+fn bring_together(sender: Sender, receivers: Vec<Receiver>, halter: Option<Halter>) -> Settled
+    requires receivers { AreReceiversOf sender receivers.items }
+    requires halter { ForSome halter (λ t. t.ring ≡ sender.ring) }
     ensures ends { (result.sender.value ≡ sender) × (result.receivers.value.items ≡ receivers.items) × (result.halter.value ≡ halter) }
     ensures claimed { result.claimed ≡ claimed_of sender.knows }
     ensures published { result.published ≡ length sender.knows.sent.published }
     ensures handlers { result.handlers.items ≡ map (λ e. handler_counts e.knows) receivers.items }
     ensures lists { Settles sender.knows (map (λ e. e.knows) receivers.items) }
-    ensures unhalted { halter.knows.halted ≡ false → FoundUnhalted sender.knows }
-    ensures run { HasRun sender receivers.items halter }
+    ensures unhalted { IfSome halter (λ t. t.knows.halted ≡ false → FoundUnhalted sender.knows) }
+    ensures one { AreOfOneRun sender receivers.items }
+    ensures run { IfSome halter (HasRun sender receivers.items) }
 {
     let ends = (
         Snapshot::of(&sender),
@@ -116,7 +125,7 @@ pub fn settle(sender: Sender, receivers: Vec<Receiver>, halter: Halter) -> Settl
     let station = sender.station;
     let mut seat = station.seat;
     let mut counts = sender.counts;
-    settling::take_in(&station.ring.table.shared, &mut seat, halter.seat);
+    gather_halter(&station.ring, &mut seat, halter);
     gather(&station.ring, &mut seat, receivers, &mut counts);
     settling::compare(&station.ring.table.shared, &mut seat);
     moments();
@@ -128,4 +137,37 @@ pub fn settle(sender: Sender, receivers: Vec<Receiver>, halter: Halter) -> Settl
         receivers: ends.1,
         halter: ends.2,
     }
+}
+
+/// Brings all ends of a ring together but its halter, which may stay where it is. It takes no memory.
+///
+/// Each receiver has the beginning of what the sender published, all of it where it was told that
+/// the ring drained; no handler took more than its upstreams completed; and no more is claimed
+/// than a round beyond what each final handler completed. One run of the ring came to what these
+/// ends know, in it each of them stored exactly what it did, and its transcript is lawful.
+pub fn settle(sender: Sender, receivers: Vec<Receiver>) -> Settled
+    requires { AreReceiversOf sender receivers.items }
+    ensures ends { (result.sender.value ≡ sender) × (result.receivers.value.items ≡ receivers.items) × (result.halter.value ≡ None) }
+    ensures claimed { result.claimed ≡ claimed_of sender.knows }
+    ensures published { result.published ≡ length sender.knows.sent.published }
+    ensures handlers { result.handlers.items ≡ map (λ e. handler_counts e.knows) receivers.items }
+    ensures lists { Settles sender.knows (map (λ e. e.knows) receivers.items) }
+    ensures run { AreOfOneRun sender receivers.items }
+{
+    bring_together(sender, receivers, None)
+}
+
+/// As [`settle`], with the halter too: the run came to what it knows as well, so where it never
+/// halted the ring, the sender found no halt but its own.
+pub fn settle_all(sender: Sender, receivers: Vec<Receiver>, halter: Halter) -> Settled
+    requires { AreAllEnds sender receivers.items halter }
+    ensures ends { (result.sender.value ≡ sender) × (result.receivers.value.items ≡ receivers.items) × (result.halter.value ≡ Some halter) }
+    ensures claimed { result.claimed ≡ claimed_of sender.knows }
+    ensures published { result.published ≡ length sender.knows.sent.published }
+    ensures handlers { result.handlers.items ≡ map (λ e. handler_counts e.knows) receivers.items }
+    ensures lists { Settles sender.knows (map (λ e. e.knows) receivers.items) }
+    ensures unhalted { halter.knows.halted ≡ false → FoundUnhalted sender.knows }
+    ensures run { HasRun sender receivers.items halter }
+{
+    bring_together(sender, receivers, Some(halter))
 }

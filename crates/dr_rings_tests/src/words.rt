@@ -12,7 +12,7 @@ use crate::graphs::{Shape, graph};
 use crate::playing::{Came, check_run};
 use crate::rows::RUNS;
 use dr_meaning::Reply;
-use dr_ring::{Halter, Receiver, Sender, Settled, ring, settle};
+use dr_ring::{Halter, Receiver, Sender, Settled, ring, settle, settle_all};
 use dr_seq::{Event, Size};
 use std::alloc::Global;
 use std::process::Abort;
@@ -74,9 +74,18 @@ impl AllEnds for Ends {
     }
 
     fn finish(self) -> Came {
-        let settled = settle(self.sender, self.receivers, self.halter);
+        let settled = settle(self.sender, self.receivers);
         came(&settled)
     }
+}
+
+#[test]
+fn ends_come_together_with_their_halter(rt: HostRuntime) {
+    let mut ends = open(&rt, rt.alloc(), Shape::Alone, 4, 8);
+    ends.halter.halt();
+    let settled = settle_all(ends.sender, ends.receivers, ends.halter);
+    check(&rt, settled.claimed(), 0);
+    check(&rt, settled.handlers(), 1);
 }
 
 #[test]

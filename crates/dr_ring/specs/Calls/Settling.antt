@@ -15,27 +15,35 @@ use Rattle.dr_ring.specs.Meaning.Rule.{World}
 use Rattle.dr_ring.specs.Meaning.Moments.{new_world, picture_of, Runs}
 use Rattle.dr_ring.specs.Calls.Ends.{SenderEnd, ReceiverEnd, HalterEnd}
 
--- these are the receivers of a sender's ring, in the graph's order, and its halter
-pub record AreAllEnds (s : SenderEnd) (rs : List ReceiverEnd) (t : HalterEnd) : Type 0 where
+-- these are the receivers of a sender's ring, in the graph's order
+pub record AreReceiversOf (s : SenderEnd) (rs : List ReceiverEnd) : Type 0 where
   pub all : length rs ≡ handlers_of s.knows.plan
   pub each : (h : ℕ) (e : ReceiverEnd) → get_elem? rs h ≡ some e → (e.ring ≡ s.ring) × (e.knows.number ≡ h)
+
+-- and with its halter they are all of its ends
+pub record AreAllEnds (s : SenderEnd) (rs : List ReceiverEnd) (t : HalterEnd) : Type 0 where
+  pub receivers : AreReceiversOf s rs
   pub halter : t.ring ≡ s.ring
 
--- The run of a ring, which came to what its ends know, and in which each of them stored exactly what it did.
+-- One run of a ring came to what its sender and its receivers know, and in it each of them stored exactly what it did.
 -- Its transcript leads the machine to the ring's picture, and has the five laws.
-pub record HasRun (s : SenderEnd) (rs : List ReceiverEnd) (t : HalterEnd) : Type 0 where
+pub record AreOfOneRun (s : SenderEnd) (rs : List ReceiverEnd) : Type 0 where
   pub steps : List Step
   pub entries : Transcript Event
   pub world : World
   pub runs : Runs s.knows.plan steps entries (new_world s.knows.plan) world
   pub sender : world.sender ≡ s.knows
   pub receivers : world.receivers ≡ map (λ e. e.knows) rs
-  pub halter : world.halter ≡ t.knows
   pub sends : HasPart s.past s.stored (stores_of_sender steps) steps
   pub receives : (h : ℕ) (e : ReceiverEnd) → get_elem? rs h ≡ some e → HasPart e.past e.stored (stores_of_receiver h steps) steps
-  pub halts : HasPart t.past t.stored (stores_of_halter steps) steps
   pub leads : LeadsTo (ring_setup s.knows.plan) entries (picture_of s.knows.plan world)
   pub laws : Laws (ring_setup s.knows.plan) entries
+
+-- and it came to what the halter knows, which in it stored exactly what it did
+pub record HasRun (s : SenderEnd) (rs : List ReceiverEnd) (t : HalterEnd) : Type 0 where
+  pub run : AreOfOneRun s rs
+  pub halter : run.world.halter ≡ t.knows
+  pub halts : HasPart t.past t.stored (stores_of_halter run.steps) run.steps
 
 -- how many events a receiver took and completed
 abbrev pub handler_counts : ReceiverRecord → HandlerCounts

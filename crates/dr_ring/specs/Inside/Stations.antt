@@ -1,5 +1,5 @@
 -- The ends of a ring, each at its station, with the seat that stands for it.
-use Rattle.std.specs.Prelude.{◌≡◌, ℕ, ◌<◌, List}
+use Rattle.std.specs.Prelude.{◌≡◌, ℕ, ◌<◌, List, [], ◌∷◌, Option, None, Some}
 use Rattle.atomic_table.specs.Seated.{TableId}
 use Rattle.dr_ring.specs.Meaning.Shape.{Shape, handlers_of}
 use Rattle.dr_ring.specs.Calls.Plans.{IsPlan}
@@ -35,6 +35,11 @@ receiver_known e = record { knows = Receives e.knows; past = e.past; stored = e.
 
 abbrev pub halter_known : HalterEnd → Known EndRecord Step
 halter_known e = record { knows = Halts e.knows; past = e.past; stored = e.stored }
+
+-- the halter's, if it comes too
+abbrev pub halters_known : Option HalterEnd → List (Known EndRecord Step)
+halters_known None = []
+halters_known (Some t) = halter_known t ∷ []
 
 -- an end's seat is at the table of its ring and stands for that end alone, which knows the ring's plan and counts its looks
 pub record SenderSits (at seat : TableId) (k : Shape) (me : End) (looked : ℕ) : Type 0 where

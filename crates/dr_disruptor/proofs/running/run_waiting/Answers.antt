@@ -9,7 +9,7 @@ use Rattle.dr_disruptor.specs.Running.{IsSending}
 use Rattle.dr_threads.specs.Serving.{given_end, given_handler}
 use Rattle.dr_disruptor.specs.Serving.{shape_of}
 use Rattle.dr_disruptor.proofs.Ready.{are_ready, made_so, same_ends, same_plan}
-use Rattle.dr_disruptor.proofs.Settled.{all_moved}
+use Rattle.dr_ring.proofs.Making.{all_sender}
 use Rattle.dr_disruptor.proofs.Whole.{came, run_of, went_whole}
 use Rattle.dr_disruptor.proofs.running.run_waiting.Goals as goal
 
@@ -34,7 +34,7 @@ finish-requires-clause-ends g c =
     let ready = are_ready k made.fresh begun.sender made.receivers.items made.halter c.args.handlers.items begun.workers.items made.ensures.fresh
     made.ensures.ends begun.ensures.sender begun.ensures.ends begun.ensures.starts in
     let produced = c.produce_with-produced in
-    all_moved begun.sender produced.new.inlet (map given_end begun.workers.items) made.halter produced.ensures.kept ready.ends
+    all_sender begun.sender produced.new.inlet (map given_end begun.workers.items) made.halter ready.ends produced.ensures.kept
 
 pub returns-clause-run : goal.returns-clause-run
 returns-clause-run g c =

@@ -4,7 +4,7 @@ use Rattle.dr_ring.specs.Calls.Ends.{HalterEnd}
 use Rattle.dr_threads.specs.Serving.{given_end, given_handler}
 use Rattle.dr_disruptor.specs.Serving.{shape_of}
 use Rattle.dr_disruptor.proofs.Ready.{are_ready, made_so, same_ends, same_plan}
-use Rattle.dr_disruptor.proofs.Settled.{all_moved}
+use Rattle.dr_ring.proofs.Making.{all_sender}
 use Rattle.dr_disruptor.proofs.Whole.{came, run_by}
 use Rattle.dr_disruptor.proofs.running.run_with.Goals as goal
 
@@ -18,8 +18,8 @@ finish-requires-clause-ends g c =
     let sent = c.send-fault in
     let gave : FnOnceReturnsAtMut g.F.FnOnce c.args.send begun.sender sent.result sent.new.arg2 =
     record { shown = _; shows = refl; left = _; met = sent.ensures; leaves = refl } in
-    all_moved begun.sender sent.new.arg2 (map given_end begun.workers.items) made.halter
-    (c.requires.place begun.sender sent.result sent.new.arg2 gave) ready.ends
+    all_sender begun.sender sent.new.arg2 (map given_end begun.workers.items) made.halter
+    ready.ends (c.requires.place begun.sender sent.result sent.new.arg2 gave)
 
 pub finish-requires-clause-fresh : goal.finish-requires-clause-fresh
 finish-requires-clause-fresh g c =

@@ -14,7 +14,7 @@ returns c =
     let ran = c.args.ran in
     let parts = c.in-Ok-Ok-Ok in
     let settled : Settles ran.sender.knows (map (λ (e : ReceiverEnd). e.knows) (ends_of ran)) =
-    rw c.in_ok-receivers.ensures at c.settle-settled.ensures.lists in
+    rw c.in_ok-receivers.ensures at c.settle_all-settled.ensures.lists in
     let ended = c.as_slice.ensures ∙ c.endings-endings.ensures in
     let all : All (λ (e : Ended). e.fault ≡ None) (endings_of ran) = rw ended at c.in_default.ensures.none in
     let fine : ran.produced.fault ≡ None = all 3 (record { who = 0; fault = None }) (omega arith) in
@@ -32,5 +32,5 @@ returns c =
       fine = sym (c.in_default.ensures.first ∙ ap first_fault ended);
       first = tt;
       unhalted = tt;
-      came = rw c.in_ok-receivers.ensures at c.settle-settled.ensures.run;
+      came = rw c.in_ok-receivers.ensures at c.settle_all-settled.ensures.run;
     }

@@ -1,6 +1,5 @@
 use Rattle.std.proofs.Common.{ap}
-use Rattle.dr_ring.proofs.Making.{all_receiver_at}
-use Rattle.dr_rings_tests.proofs.Keeping.{all_sender}
+use Rattle.dr_ring.proofs.Making.{all_receiver_at, all_sender}
 use Rattle.dr_rings_tests.proofs.words.EndsAllEnds.answer.Goals as goal
 
 pub returns-in-Poll : goal.returns-in-Poll
