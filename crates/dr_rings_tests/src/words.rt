@@ -81,8 +81,7 @@ impl AllEnds for Ends {
 
 #[test]
 fn ends_come_together_with_their_halter(rt: HostRuntime) {
-    let mut ends = open(&rt, rt.alloc(), Shape::Alone, 4, 8);
-    ends.halter.halt();
+    let ends = open(&rt, rt.alloc(), Shape::Alone, 4, 8);
     let settled = settle_all(ends.sender, ends.receivers, ends.halter);
     check(&rt, settled.claimed(), 0);
     check(&rt, settled.handlers(), 1);
