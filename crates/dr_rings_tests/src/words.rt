@@ -7,6 +7,7 @@ mod threads;
 
 use crate::answering::{answer_of_inlet, answer_of_outlet};
 use crate::calls::{Call, done};
+use crate::checks::check;
 use crate::ends::AllEnds;
 use crate::graphs::{Shape, graph};
 use crate::playing::{Came, check_run};
