@@ -10,8 +10,8 @@ ghost use Rattle.dr_operations.specs.Reading.{FileIs, ReadsAs};
 ghost use Rattle.dr_records.specs.Rows.{rows_left};
 
 use crate::cause::Cause;
-use csv::ByteRecord;
 use crate::operation::{Movement, Operation};
+use csv::ByteRecord;
 use dr_files::{Counted, FileFault, read_all};
 use dr_records::{Rows, count_of, field, number_at};
 use dr_seq::Event;

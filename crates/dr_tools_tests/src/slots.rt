@@ -52,7 +52,11 @@ fn a_mark_counts_in_its_own_round(rt: HostRuntime) -> Result<(), Fail> {
     check(&rt, rounds.front(0, 4), 2);
     check(&rt, rounds.is_marked(4), false);
     rounds.mark(4);
-    check(&rt, (rounds.is_marked(4), rounds.is_marked(0)), (true, false));
+    check(
+        &rt,
+        (rounds.is_marked(4), rounds.is_marked(0)),
+        (true, false),
+    );
     check(&rt, rounds.front(1, 5), 2);
     rounds.mark(2);
     check(&rt, rounds.front(1, 5), 5);
