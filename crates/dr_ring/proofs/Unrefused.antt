@@ -112,12 +112,12 @@ refused_by_halt a b n (Refused refusal) some size limit other is =
 pub unhalted_before : (e e' : SenderEnd) → ClosesOnceDone e e' → FoundUnhalted e'.knows → FoundUnhalted e.knows
 unhalted_before e e' closes found = subst (λ (l : List Look). last_look 0 l halt_word ≡ 0) closes.saw found
 
--- where nobody else halted the ring, none is: of a new ring's sender that leaves nothing open, and claims a quarter of its slots or less, as its limit allows
-pub no_refusal : (k : Shape) (given last back : SenderEnd) (calls : List (InletCall Event)) (n : ℕ) (trouble : Trouble) → given.knows ≡ fresh_sender k
-    → CallsLead sender_does given calls back → back.knows.sent.pending ≡ [] → FoundUnhalted back.knows → 0 < n → n ≤ max (k.size / 4) 1
+-- where nobody else halted the ring, none is: of a new ring's sender that leaves nothing open, and claims no more than its slots, as its limit allows
+pub no_refusal_within : (k : Shape) (given last back : SenderEnd) (calls : List (InletCall Event)) (n : ℕ) (trouble : Trouble) → given.knows ≡ fresh_sender k
+    → CallsLead sender_does given calls back → back.knows.sent.pending ≡ [] → FoundUnhalted back.knows → 0 < n → (0 < k.size → n ≤ k.size)
     → length back.knows.sent.published + n ≤ k.limit → trouble ≢ Refused NoRoom
     → sender_does last (TriesClaim n (Err trouble)) back → ⊥
-no_refusal k given last back calls n trouble fresh lead complete unhalted some cut fits other is =
+no_refusal_within k given last back calls n trouble fresh lead complete unhalted some within fits other is =
     let came = stays_all given back calls lead in
     let here = (stays last back (TriesClaim n (Err trouble)) is).0 in
     let plan : last.knows.plan ≡ k = ap (λ (p : SenderPlace). p.1) (sym here ∙ came.0) ∙ ap (λ (r : SenderRecord). r.plan) fresh in
@@ -130,5 +130,14 @@ no_refusal k given last back calls n trouble fresh lead complete unhalted some c
     let off : back.knows.halted ≡ false = came.1 ∙ ap (λ (r : SenderRecord). r.halted) fresh in
     let none : last_look 0 back.knows.looks halt_word ≡ 0 =
     ap (λ (b : Bool). last_look 0 (if b then back.knows.before else back.knows.looks) halt_word) (sym off) ∙ unhalted in
+    let cut : n ≤ k.size = within (omega arith) in
     let on = refused_by_halt last back n trouble some (omega arith) (omega arith) other is in
     absurd (omega arith)
+
+-- and so of one that claims a quarter of them or less
+pub no_refusal : (k : Shape) (given last back : SenderEnd) (calls : List (InletCall Event)) (n : ℕ) (trouble : Trouble) → given.knows ≡ fresh_sender k
+    → CallsLead sender_does given calls back → back.knows.sent.pending ≡ [] → FoundUnhalted back.knows → 0 < n → n ≤ max (k.size / 4) 1
+    → length back.knows.sent.published + n ≤ k.limit → trouble ≢ Refused NoRoom
+    → sender_does last (TriesClaim n (Err trouble)) back → ⊥
+no_refusal k given last back calls n trouble fresh lead complete unhalted some cut fits other is =
+    no_refusal_within k given last back calls n trouble fresh lead complete unhalted some (λ slots. omega arith) fits other is
