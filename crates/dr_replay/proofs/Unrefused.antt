@@ -46,5 +46,5 @@ sender_served k size events given back produced S fresh slots limit short unhalt
     ∙ ap (λ (l : List Event). l ++ take produced.sent events) none in
     let published : length done.knows.sent.published ≡ produced.sent = ap length sent ∙ length-take-le produced.sent events (omega arith) in
     ring.no_refusal_within k given claim.last done calls.calls (min (length (drop produced.sent events)) cut) gives.0 fresh calls.lead complete found
-    (omega arith) (λ slots. omega arith) (omega arith) claim.other claim.claims)
+    (omega arith) (λ any. omega arith) (omega arith) claim.other claim.claims)
     calls.holds.gate.answers

@@ -34,4 +34,4 @@ returns g c =
     subst (λ n. HasSent begun task.p n task.script.now may_stop must_stop c.into_end-end.result run.result.fault) c.get-cut.ensures.value sent
 
 pub produce_with-produced-requires : goal.produce_with-produced-requires
-produce_with-produced-requires g c = size_positive c.get-cut.result c.get-cut.ensures.size
+produce_with-produced-requires g c = record { cut = size_positive c.get-cut.result c.get-cut.ensures.size }

@@ -29,7 +29,7 @@ pub returns-clause-some : goal.returns-clause-some
 returns-clause-some g c = subst (λ (n : ℕ). 0 < n) c.get-cut.ensures.value (size_positive c.get-cut.result c.get-cut.ensures.size)
 
 pub produce_with-requires : goal.produce_with-requires
-produce_with-requires g c = size_positive c.get-cut.result c.get-cut.ensures.size
+produce_with-requires g c = record { cut = size_positive c.get-cut.result c.get-cut.ensures.size }
 
 pub returns-clause-all : goal.returns-clause-all
 returns-clause-all g c = λ none. rw none at c.produce_with.ensures.all
