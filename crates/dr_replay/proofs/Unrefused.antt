@@ -1,5 +1,5 @@
 -- The sender of a new ring that nobody else halted is refused no call for good.
-use Rattle.std.proofs.Common.{◌≡◌, ◌-◌, ◌/◌, ◌^◌, ◌<◌, ◌≤◌, ℕ, max, min, Bool, true, false}
+use Rattle.std.proofs.Common.{◌≡◌, ◌-◌, ◌^◌, ◌<◌, ◌≤◌, ℕ, min, Bool, true, false}
 use Rattle.std.proofs.Common.{List, [], ◌++◌, length, take, drop, Some, ⊎_elim, sym, ap, ◌∙◌, arith}
 use Rattle.std.proofs.lemmas.List.{length-drop, length-take-le}
 use Rattle.dr_seq.specs.declared.event.Event.{Event}

@@ -1,5 +1,5 @@
 -- What a replay behind a lock came of.
-use Rattle.std.specs.Prelude.{◌≡◌, ℕ, ◌+◌, ◌/◌, ◌<◌, max, List, [], ◌∷◌, length, Option, None, Result, Ok, Err, slice_index_or}
+use Rattle.std.specs.Prelude.{◌≡◌, ℕ, ◌+◌, ◌<◌, List, [], ◌∷◌, length, Option, None, Result, Ok, Err, slice_index_or}
 use Rattle.std.specs.Io.KnownBytes.{Appends}
 use Rattle.dr_seq.specs.declared.event.Event.{Event}
 use Rattle.dr_lock.specs.Calls.Lock.{EndView, no_calls}

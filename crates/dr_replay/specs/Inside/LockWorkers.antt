@@ -1,5 +1,5 @@
 -- What comes of the exchange of a replay behind a lock.
-use Rattle.std.specs.Prelude.{◌≡◌, ℕ, ◌+◌, ◌<◌, ◌/◌, max, List, ◌∷◌, length, map, Vec, Result, Ok, Err, slice_index_or, All}
+use Rattle.std.specs.Prelude.{◌≡◌, ℕ, ◌+◌, ◌<◌, List, ◌∷◌, length, map, Vec, Result, Ok, Err, slice_index_or, All}
 use Rattle.dr_seq.specs.declared.event.Event.{Event}
 use Rattle.dr_lock.specs.Calls.Lock.{EndView, no_calls}
 use Rattle.dr_lock.specs.Meaning.History.{History}

@@ -1,10 +1,19 @@
-use Rattle.std.proofs.Common.{◌∙◌, map, subst, sym}
+use Rattle.std.proofs.Common.{◌∙◌, ◌≡◌, All, Err, None, Ok, OnOk, Result, map, subst, sym}
 use Rattle.std.proofs.lemmas.Result.{err_from_is_err_and}
 use Rattle.dr_accounts.specs.Parts.{text_of}
 use Rattle.dr_replay.specs.Inside.LockWorkers.{endings_in, ends_of}
 use Rattle.dr_replay.specs.Meaning.Exchange.{GoesOnBy}
 use Rattle.dr_replay.proofs.Endings.{audit_names_none, ends_of_audit, first_of_parts, none_of_parts, reports_more}
 use Rattle.dr_replay.proofs.lock.settled.Goals as goal
+
+-- what holds whatever is answered holds where that is a value
+always : {T E P : Type 0} (r : Result T E) → P → OnOk r P
+always (Ok value) holds = holds
+always (Err fault) holds = tt
+
+pub returns-clause-producers : goal.returns-clause-producers
+returns-clause-producers g c =
+    always c.audited.result (subst (All (λ fault. fault ≡ None)) (c.as_slice.ensures.value ∙ c.in_ok-recorded.ensures.faults) c.in_ok-check.ensures.producers)
 
 pub returns-in_err-check-clause-first : goal.returns-in_err-check-clause-first
 returns-in_err-check-clause-first g c =

@@ -1,4 +1,4 @@
-use Rattle.std.proofs.Common.{◌≡◌, ◌∙◌, ◌/◌, ◌<◌, max, ℕ, Vec, Global, get_or, length, ap, arith, subst, sym}
+use Rattle.std.proofs.Common.{◌≡◌, ◌∙◌, ◌<◌, ℕ, Vec, Global, get_or, length, ap, arith, subst, sym}
 use Rattle.dr_seq.specs.declared.event.Event.{Event}
 use denote.Param.Send.{IsSync}
 use Rattle.dr_lock.proofs.Sent.{of_param}
