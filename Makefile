@@ -15,7 +15,7 @@ all: disruptor run
 
 # The first time it is also run before any proof.
 disruptor: crates.txt $(sources)
-	@tools/prove.py --log $(log) $(if $(wildcard $@),,--try) disruptor -- drive $(CURDIR)/examples/first_event.csv
+	@tools/prove.py --log $(log) $(if $(wildcard $@),,--try) disruptor -- drive '$(CURDIR)/examples/first_event.csv'
 	@cp $(program)/out/disruptor $@
 
 run: disruptor

@@ -27,6 +27,8 @@ counted() { # COMMAND..
 
 nice -n 10 tests/wrong_bodies.py "$@" --over "$words" > "$bodies" 2>&1 &
 trying=$!
+# Its first line comes once it has a sum of all files: what changes from then on counts for no record.
+until [ -s "$bodies" ] || ! kill -0 "$trying" 2> /dev/null; do sleep 0.1; done
 # One job for each proof takes the least of the processors' time, and there are always other proofs.
 heard=$words
 RT_JOBS=$(nproc) counted rt ci "$@"
@@ -35,7 +37,8 @@ echo '0 passed, 0 failed: rt ci ended' >> "$words"
 heard=/dev/null
 counted tests/scripts.py
 wait "$trying"
-counted cat "$bodies"
+tried=$?
+counted sh -c 'cat "$1"; exit "$2"' - "$bodies" "$tried"
 echo "proofs: ${proofs:-not all passed}"
 echo "wrong bodies: $(cat "$last")"
 echo "$passed passed, $failed failed"

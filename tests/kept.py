@@ -29,6 +29,18 @@ def folder_of(kit):
     return f"{os.path.dirname(kit)}/rattle-kept/wrong-bodies"
 
 
+def kit_of(folder, line):
+    """Returns what tells one kit from another: the line that names it, and the size and time of each file that a check reads."""
+    found = [line]
+    for part in ("bin", "toolchain", "logic_built", "rlibs", "rattle/logic"):
+        for at, folders, names in os.walk(f"{folder}/{part}"):
+            folders.sort()
+            for it in sorted(names):
+                stat_of_it = os.lstat(f"{at}/{it}")
+                found.append((os.path.relpath(f"{at}/{it}", folder), stat_of_it.st_size, stat_of_it.st_mtime_ns))
+    return found
+
+
 def scripts():
     """Returns the files of the repository that run now: the script and all that it imports."""
     files = {os.path.realpath(it.__file__) for it in list(sys.modules.values()) if getattr(it, "__file__", None)}

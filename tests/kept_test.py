@@ -55,12 +55,16 @@ class Machine:
         ends = [it.functions[0][2].removeprefix("above") for it in edits if it.name not in self.proved]
         return "".join(map(REFUSED.format, ends)) or "\nlogic=proved\n"
 
-    def run(self, manner="together", is_anew=False, words=None):
-        """Tries the edits, and returns those that were tried."""
+    def run(self, manner="together", is_anew=False, words=None, ends=""):
+        """Tries the edits, over an `rt ci` with these words and this end where there are any, and returns those that were tried."""
         self.begun.clear()
         self.tried.clear()
         self.lines.clear()
-        wrong_bodies.run(self.top, ["top"], manner, self.lines.append, words, self.at, is_anew)
+        file = f"{self.top}/words" if words else None
+        if file:
+            self.write("words", words)
+            threading.Timer(1, self.write, ("words", words + ends)).start()
+        wrong_bodies.run(self.top, ["top"], manner, self.lines.append, file, self.at, is_anew)
         return sorted(set(self.tried))
 
     def sees(self, what, found, wanted):
@@ -161,15 +165,16 @@ def over_what_happens(machine):
 
 def over_manners(machine):
     """What is refused over the proofs of all is refused over their statements; no other way says anything of another."""
-    machine.write("words", "rt: low proved\nrt: top proved\n1 passed, 0 failed\n")
-    words = f"{machine.top}/words"
-    machine.tries("over statements", BOTH, words=words)
-    machine.tries("over statements once more", [], words=words)
+    words, ends = "rt: low proved\nrt: top proved\n", "1 passed, 0 failed\n"
+    machine.tries("over statements", BOTH, words=words, ends=ends)
+    machine.tries("over statements once more", [], words=words, ends=ends)
     machine.tries("over proofs", BOTH)
     for it in machine.records():
         os.remove(f"{machine.at}/{it}")
+    machine.tries("over an rt ci that has ended", BOTH, words=words + ends)
+    machine.sees("what is kept then", machine.records(), [])
     machine.tries("over proofs, with no record", BOTH)
-    machine.tries("over statements, after proofs", [], words=words)
+    machine.tries("over statements, after proofs", [], words=words, ends=ends)
     machine.tries("with none applied", BOTH, "0 left out, 2 not, of which 2 were tried in this run", manner="control")
 
 
@@ -189,10 +194,25 @@ def over_two_runs(machine):
     machine.sees("what two runs left", machine.records(), ["a"])
 
 
+def over_kits(machine):
+    """A kit with another file is another kit, and a run ends where `rt` names none."""
+    machine.write("kit/bin/rt", "one")
+    before = kept.kit_of(f"{machine.top}/kit", "kit")
+    machine.write("kit/bin/rt", "another")
+    machine.sees("a kit of which a file changed", kept.kit_of(f"{machine.top}/kit", "kit") != before, True)
+    together.said_by = lambda *_: (2, "no kit")
+    ended = ""
+    try:
+        machine.run()
+    except SystemExit as it:
+        ended = str(it)
+    machine.sees("how a run without a kit ends", ended, "rt names no kit: no kit")
+
+
 def failures():
     """Returns how much came otherwise."""
     failed, of_prove, of_check, of_scripts, of_said = 0, wrong_bodies.prove.prove, wrong_bodies.Libraries.check, kept.scripts, together.said_by
-    for tries in (over_changes, over_damage, over_what_happens, over_manners, over_two_runs):
+    for tries in (over_changes, over_damage, over_what_happens, over_manners, over_two_runs, over_kits):
         with together.folder("kept-") as top:
             machine = Machine(top)
             wrong_bodies.prove.prove, together.said_by = machine.prove, lambda *_: (0, "/kit/START-HERE.md")

@@ -76,6 +76,8 @@ def cases(program):
     fault = subprocess.run([program, "replay", "-"], input=RECORDS + b"x\n", stderr=subprocess.PIPE, check=False).stderr.decode()
     yield "a fault", run(program, ["replay"], RECORDS + b"x\n", 1.2), (2, b"", LINE + ALL + AWAY + fault)
     # (what a size is, is said to a terminal alone)
+    refused = subprocess.run([program, "replay", "--by", "post"], stdin=subprocess.DEVNULL, stderr=subprocess.PIPE, check=False).stderr.decode()
+    yield "a bad word", run(program, ["replay", "--by", "post"], b"\n\n", 0), (1, b"", refused)
     yield "a bad size", run(program, ["replay", "--size", "3"], b"\n\n", 0), (1, b"", "bad-size\n--size is a power of two from 1 to 65536\n")
     status, _, come = run(program, ["drive"], COMMANDS, 1.2)
     yield "drive", (status, come), (0, "")

@@ -43,7 +43,10 @@ def words_of(line, build):
 
 def is_built(build):
     """Whether there is such a build: where Rattle's own compiler compiles a program not, `rt ci` runs LLVM's alone."""
-    return all(os.path.isfile(f"{TOP}/crates/{it}/out/{it}{build}") for it in ("disruptor", "disruptor_hostile"))
+    found = all(os.path.isfile(f"{TOP}/crates/{it}/out/{it}{build}") for it in ("disruptor", "disruptor_hostile"))
+    if not found:
+        print(f"not here, and skipped: the scripts over {build.removeprefix('.by-') or 'LLVM'}'s builds")
+    return found
 
 
 def run(words):

@@ -317,19 +317,37 @@ def run(top, asked, manner, told, file=None, at=None, is_anew=False):
         if it not in names:
             told(f"{it} is no crate with edits")
             return 2
-    kit, at = together.said_by(["rt", "version"], top)[1], None if manner == "control" else at
+    if file and has_ended(file):
+        told(f"{file} is of an rt ci that is over, whose libraries may be of other files than those here: nothing is kept")
+    if manner == "control" or file and has_ended(file):
+        at = None
     way = "alone" if manner == "alone" else "open" if file else "proved"
     names = [it for it in names if not asked or it in asked]
     if manner == "list":
         return list_those_that_may_make_goals(top, names, told)
-    store = kept.Kept(at, kept.Reads(top, names, kit, kept.scripts()), way, is_anew)
+    store = kept.Kept(at, kept.Reads(top, names, kit(top), kept.scripts()), way, is_anew)
     if at and not store.at:
         told(f"{at} cannot be used, so nothing is kept")
     with together.folder("trial-") as room:
-        refused, failed, tried = Trial(top, names, room, told, store, manner).run(file)
+        trial = Trial(top, names, room, told, store, manner)
+        told(f"{sum(len(it.known) for it in trial.crates.values())} edits are kept")
+        refused, failed, tried = trial.run(file)
     store.prune()
     told(f"{refused} {'left out' if manner == 'control' else 'refused'}, {failed} not, of which {tried} were tried in this run")
     return 1 if failed or not refused else 0
+
+
+def has_ended(file):
+    """Whether the `rt ci` whose words go to a file is over: its libraries may be of other files than those that stand now."""
+    return bool(ENDED.search(open(file, encoding="utf-8", errors="replace").read()))
+
+
+def kit(top):
+    """Returns what tells the kit from others, or ends the run where `rt` does not name it."""
+    (status, line), folder = together.said_by(["rt", "version"], top), os.path.dirname(together.said_by(["rt", "doc"], top)[1].strip())
+    if status:
+        sys.exit(f"rt names no kit: {line}")
+    return kept.kit_of(folder, line)
 
 
 def list_those_that_may_make_goals(top, names, told):

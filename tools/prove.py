@@ -104,11 +104,15 @@ def prove(top, name, below, jobs, priority, words):
 
 def show(top, name, words, told):
     """Runs a program before any proof, in a copy of its own, and tells what it prints. A failure ends all proofs too."""
-    with together.folder("try-") as room:
-        copy_of(top, room, [], [])
-        ran = together.run(["rt", "try", "--", *words], cwd=f"{room}/crates/{name}", capture_output=True, text=True)
-    if ran.returncode:
-        told(f"{name}: FAILED before any proof\n{ran.stdout}{ran.stderr}")
+    try:
+        with together.folder("try-") as room:
+            copy_of(top, room, [], [])
+            ran = together.run(["rt", "try", "--", *words], cwd=f"{room}/crates/{name}", capture_output=True, text=True)
+        why = f"{ran.stdout}{ran.stderr}" if ran.returncode else None
+    except OSError as error:
+        why = str(error)
+    if why is not None:
+        told(f"{name}: FAILED before any proof\n{why}")
         os._exit(1)
     line = " ".join(it.removeprefix(f"{top}/") for it in words)
     told(f"\n$ ./{name} {line}\n{ran.stdout}\nSo the program runs, but it is not proved yet: the proofs go on.\n")
