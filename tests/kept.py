@@ -1,6 +1,6 @@
-"""What earlier runs of `wrong_bodies.py` on this machine found refused, in a folder beside what `rt ci` keeps there. A record's name is
-a sum of all that the checks of its edit read, so it never goes stale; one that is not whole counts for nothing. It is written apart
-and then renamed, so that no other run meets half of it."""
+"""What earlier runs on this machine left, in folders beside what `rt ci` keeps there: which edits `wrong_bodies.py` found refused, and
+the archive that `library.py` built. A record's name is a sum of all that its check or its build read, so it never goes stale; one that
+is not whole counts for nothing. It is written apart and then renamed, so that no other run meets half of it."""
 
 import contextlib
 import hashlib
@@ -14,9 +14,12 @@ import tempfile
 import time
 
 import prove
+import together
 
 # So many days after its last use a record goes, and that longest unused where there are more than so many.
 DAYS, MOST = 60, 20_000
+# And so many archives.
+MOST_ARCHIVES = 6
 # Below so many bytes of free disk nothing is kept.
 LEAVES = 5_000_000_000
 # In which ways an edit may have been refused, for a run that tries it in one of them: what is refused over the proofs of all that its
@@ -24,9 +27,9 @@ LEAVES = 5_000_000_000
 WAYS = {"proved": ["proved"], "open": ["open", "proved"], "alone": ["alone"]}
 
 
-def folder_of(kit):
-    """Returns where edits are kept: beside the kit, outside each checkout."""
-    return f"{os.path.dirname(kit)}/rattle-kept/wrong-bodies"
+def folder_of(kit, kind="wrong-bodies"):
+    """Returns where records of this kind are kept: beside the kit, outside each checkout."""
+    return f"{os.path.dirname(kit)}/rattle-kept/{kind}"
 
 
 def kit_of(folder, line):
@@ -37,8 +40,16 @@ def kit_of(folder, line):
             folders.sort()
             for it in sorted(names):
                 stat_of_it = os.lstat(f"{at}/{it}")
-                found.append((os.path.relpath(f"{at}/{it}", folder), stat_of_it.st_size, stat_of_it.st_mtime_ns))
+                found.append((f"{at}/{it}".removeprefix(f"{folder}/"), stat_of_it.st_size, stat_of_it.st_mtime_ns))
     return found
+
+
+def kit(top):
+    """Returns what tells the kit from others, or ends the run where `rt` does not name it."""
+    (status, line), folder = together.said_by(["rt", "version"], top), os.path.dirname(together.said_by(["rt", "doc"], top)[1].strip())
+    if status:
+        sys.exit(f"rt names no kit: {line}")
+    return kit_of(folder, line)
 
 
 def scripts():
@@ -100,45 +111,32 @@ class Reads:
         return sum_of((way, self.common, crates, edit.label, text))
 
 
-class Kept:
-    """The records of the edits that were refused. Where the folder cannot be used nothing is found in it and nothing kept."""
+class Records:
+    """A folder of records, each of some bytes. Where the folder cannot be used nothing is found in it and nothing kept."""
 
-    def __init__(self, at, reads, way, is_anew=False):
-        self.at, self.reads, self.ways, self.is_anew, self.sums = at if is_own(at) else None, reads, WAYS[way], is_anew, {}
-
-    def find(self, edit):
-        """Returns why an earlier run found an edit refused, and whether the edit made the goal that did, or None."""
-        sums = [self.reads.sum(edit, it) for it in self.ways] if self.at else []
-        self.sums[edit] = sums[:1]
-        found = None if self.is_anew else next(filter(None, map(self.read, sums)), None)
-        return (found["why"], found["is_made"]) if found else None
+    def __init__(self, at):
+        self.at = at if is_own(at) else None
 
     def read(self, name):
         """Returns the record of that name, if it is there and whole."""
-        try:
-            text, end, rest = text_of(f"{self.at}/{name}").decode().partition("\n")
-            if not end or rest != f"{sum_of((name, text))}\n":
-                return None
-            os.utime(f"{self.at}/{name}")
-            return json.loads(text)
-        except (OSError, ValueError):
+        if not self.at:
             return None
+        with contextlib.suppress(OSError):
+            data, _, end = text_of(f"{self.at}/{name}").rpartition(b"\n")
+            if end == end_of(name, data):
+                os.utime(f"{self.at}/{name}")
+                return data
+        return None
 
-    def keep(self, edit, why, is_made):
-        """Keeps that an edit was refused, unless something that its check read was touched meanwhile, or the disk has no room."""
-        try:
-            for name in self.sums.get(edit, ()):
-                if self.reads.are_untouched(edit.crate) and self.reads.sum(edit, self.ways[0]) == name and has_room(self.at):
-                    self.write(name, json.dumps({"edit": edit.label, "why": why, "is_made": is_made}))
-        except OSError:
-            pass
+    def write(self, name, data):
+        """Writes a record, where there is room."""
+        with contextlib.suppress(OSError):
+            if self.at and has_room(self.at):
+                with tempfile.NamedTemporaryFile(prefix=f"new-{os.getpid()}-", dir=self.at, delete=False) as it:
+                    it.write(data + b"\n" + end_of(name, data))
+                os.replace(it.name, f"{self.at}/{name}")
 
-    def write(self, name, text):
-        with tempfile.NamedTemporaryFile("w", prefix=f"new-{os.getpid()}-", dir=self.at, delete=False, encoding="utf-8") as it:
-            it.write(f"{text}\n{sum_of((name, text))}\n")
-        os.replace(it.name, f"{self.at}/{name}")
-
-    def prune(self):
+    def prune(self, most):
         """Removes what runs that were killed left, and the records longest unused."""
         found = []
         for it in os.scandir(self.at) if self.at else ():
@@ -149,9 +147,61 @@ class Kept:
                 elif not os.path.exists(f"/proc/{begun[1]}"):
                     os.remove(it.path)
         old = [it for it in found if it[0] < time.time() - DAYS * 86400]
-        for _, path in {*old, *sorted(found, reverse=True)[MOST:]}:
+        for _, path in {*old, *sorted(found, reverse=True)[most:]}:
             with contextlib.suppress(OSError):
                 os.remove(path)
+
+
+class Kept(Records):
+    """The records of the edits that were refused."""
+
+    def __init__(self, at, reads, way, is_anew=False):
+        super().__init__(at)
+        self.reads, self.ways, self.is_anew, self.sums = reads, WAYS[way], is_anew, {}
+
+    def find(self, edit):
+        """Returns why an earlier run found an edit refused, and whether the edit made the goal that did, or None."""
+        sums = [self.reads.sum(edit, it) for it in self.ways] if self.at else []
+        self.sums[edit] = sums[:1]
+        found = None if self.is_anew else next(filter(None, map(self.read, sums)), None)
+        record = json.loads(found) if found else None
+        return (record["why"], record["is_made"]) if record else None
+
+    def keep(self, edit, why, is_made):
+        """Keeps that an edit was refused, unless something that its check read was touched meanwhile."""
+        with contextlib.suppress(OSError):
+            for name in self.sums.get(edit, ()):
+                if self.reads.are_untouched(edit.crate) and self.reads.sum(edit, self.ways[0]) == name:
+                    self.write(name, json.dumps({"edit": edit.label, "why": why, "is_made": is_made}).encode())
+
+
+class Archives(Records):
+    """The archives that were built, each of what a room held then. Nothing else changes the room, so what is kept is of these files."""
+
+    def __init__(self, at, kit, own, is_anew=False):
+        super().__init__(at)
+        self.common, self.is_anew = sum_of((kit, [(os.path.basename(it), text_of(it)) for it in own])), is_anew
+
+    def of(self, room, build):
+        """Returns the archive of a room, or None where its build gives none, and whether it was kept."""
+        name = sum_of((self.common, sums_in(room)))
+        if (found := None if self.is_anew else self.read(name)) is not None:
+            return found, True
+        if (made := build()) is not None:
+            self.write(name, made)
+            self.prune(MOST_ARCHIVES)
+        return made, False
+
+
+def end_of(name, data):
+    """Returns the line with which a whole record of that name ends."""
+    return hashlib.sha256(name.encode() + b"\n" + data).hexdigest().encode()
+
+
+def sums_in(folder):
+    """Returns the files of a folder by their paths there, each with the sum of its bytes."""
+    found = sorted(f"{at}/{it}" for at, _, names in os.walk(folder) for it in names)
+    return [(os.path.relpath(it, folder), hashlib.sha256(text_of(it)).hexdigest()) for it in found]
 
 
 def has_room(folder):

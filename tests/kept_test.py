@@ -1,5 +1,5 @@
-"""Tests of what `wrong_bodies.py` keeps from run to run, for `wrong_bodies_test.py`: over two crates made in a folder of its own, one on
-the other, with answers that stand here for those of checks."""
+"""Tests of what `wrong_bodies.py` and `library.py` keep from run to run, for `wrong_bodies_test.py`: over two crates made in a folder of
+its own, one on the other, with answers that stand here for those of checks, and over archives of a small room."""
 
 import os
 import threading
@@ -182,7 +182,7 @@ def over_two_runs(machine):
     """Runs that keep the same at once leave whole records."""
     reads = kept.Reads(machine.top, ["top"], "kit", [])
     stores = [kept.Kept(machine.at, reads, "proved") for _ in range(2)]
-    threads = [threading.Thread(target=lambda it=it: [it.write("a", f'{{"why": "{n % 9}"}}') for n in range(300)]) for it in stores]
+    threads = [threading.Thread(target=lambda it=it: [it.write("a", b"%d" % n) for n in range(300)]) for it in stores]
     for it in threads:
         it.start()
     while any(it.is_alive() for it in threads):
@@ -192,6 +192,43 @@ def over_two_runs(machine):
     for it in threads:
         it.join()
     machine.sees("what two runs left", machine.records(), ["a"])
+
+
+def over_archives(machine):
+    """An archive is kept of the same files, kit and scripts alone, where its build gave one, and nothing else is believed."""
+    at, room, builds = f"{machine.top}/store/archives", f"{machine.top}/room", []
+    own = f"{machine.top}/script.py"
+
+    def tries(what, wanted, kit="kit", is_anew=False, gives=b"\x00one\n\nof it\n"):
+        builds.clear()
+        found = kept.Archives(at, kit, [own], is_anew).of(room, lambda: builds.append(1) or gives)
+        machine.sees(f"the archive, {what}", found, (gives, wanted == "kept"))
+        machine.sees(f"how often it is built, {what}", len(builds), int(wanted != "kept"))
+
+    machine.write("room/low/low.rlib", "low")
+    machine.write("room/top/src/lib.rt", "top")
+    tries("where its build fails", "built", gives=None)
+    machine.sees("what is kept of that", os.listdir(at), [])
+    tries("at first", "built")
+    tries("of the same files", "kept")
+    tries("where all is asked for", "built", is_anew=True)
+    tries("after that", "kept")
+    tries("of another kit", "built", kit="another")
+    for path, text in (("room/low/low.rlib", "lower"), ("room/top/src/lib.rt", "tops"), ("room/top/src/more.rt", ""), ("script.py", "pass #")):
+        machine.write(path, text)
+        tries(f"{path} changed", "built")
+    os.rename(f"{room}/low", f"{room}/lower")
+    tries("a folder under another name", "built")
+    tries("of the same files again", "kept")
+    other, *_, last = (it.path for it in sorted(os.scandir(at), key=lambda it: it.stat().st_mtime_ns))
+    whole = kept.text_of(last)
+    for what, data in (("cut", whole[:-1]), ("empty", b""), ("of other bytes", whole.replace(b"of", b"if")), ("another's", kept.text_of(other))):
+        with open(last, "wb") as it:
+            it.write(data)
+        tries(f"whose record is {what}", "built")
+    machine.sees("how many are kept", len(os.listdir(at)), min(kept.MOST_ARCHIVES, 7))
+    at = f"{machine.top}/script.py"
+    tries("with no folder", "built")
 
 
 def over_kits(machine):
@@ -212,7 +249,7 @@ def over_kits(machine):
 def failures():
     """Returns how much came otherwise."""
     failed, of_prove, of_check, of_scripts, of_said = 0, wrong_bodies.prove.prove, wrong_bodies.Libraries.check, kept.scripts, together.said_by
-    for tries in (over_changes, over_damage, over_what_happens, over_manners, over_two_runs, over_kits):
+    for tries in (over_changes, over_damage, over_what_happens, over_manners, over_two_runs, over_archives, over_kits):
         with together.folder("kept-") as top:
             machine = Machine(top)
             wrong_bodies.prove.prove, together.said_by = machine.prove, lambda *_: (0, "/kit/START-HERE.md")

@@ -16,6 +16,8 @@ from openings import leave_open
 # What a check says where an edit leaves nothing to be dropped of which a proof was left open.
 NO_FUNCTION = re.compile(r"^\S*/Proof\.antt: error: `\w+` has no function .*\n", re.M)
 
+# A declaration in a file of a function's proof.
+DECLARES = re.compile(r"^(?:abbrev )?(?:pub(?:\([^)]*\))? )?([^\s:]+)\s+:\s", re.M)
 # The line of a checked module that lists what it defines, and such a name.
 DEFINES = re.compile(rb"^--@ interface (.*)$", re.M)
 SPELLING = re.compile(r'"spelling":"([^"]+)"')
@@ -80,6 +82,11 @@ class Libraries:
             for it in glob.glob(f"{glob.escape(kept)}/*/Rattle-{name}-proofs.{module}.oantt"):
                 return goals_in(open(it, "rb").read())
         return None
+
+    def lemmas(self, name, path):
+        """Returns what the files of a function's proof declare in its crate as it is: lemmas, invariants and answers."""
+        folder = f"{self.top}/crates/{name}/proofs/{path.replace('::', '/')}"
+        return {it for file in glob.glob(f"{glob.escape(folder)}/*.antt") for it in DECLARES.findall(open(file, encoding="utf-8").read())}
 
     def check(self, edits, kept, keeps=None, is_short=False, is_of_all=False, is_open=False, is_applied=True):
         """Checks the functions of these edits in a copy of their crate to which it applies them, over what is kept, and returns what is

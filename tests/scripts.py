@@ -1,13 +1,15 @@
 #!/usr/bin/env python3
 """Runs the scripts that look from outside at the programs that `rt ci` left, side by side, and shows what each says once it has ended.
 
-  tests/scripts.py
+  tests/scripts.py [--anew]
 
-Those of both compilers' builds come first, and then, one by one, those that go by time. The last line is `0 passed, N failed`: so many
-scripts failed, each once a build.
+Those of both compilers' builds come first, and then, one by one, those that go by time. A script passes where its last line says that
+it tried something, and that nothing failed, or that what it needs is not here. The last line is `0 passed, N failed`: so many
+scripts failed, each once a build. With `--anew` they keep nothing of earlier runs.
 """
 
 import os
+import re
 import subprocess
 import sys
 import time
@@ -27,34 +29,49 @@ EACH = (
     "tests/words.py disruptor",
 )
 QUIET = ("tests/progress.py disruptor", "tests/waits.py disruptor_waits disruptor")
-# What LLVM's build alone is tried with, and the test of the script that tries wrong bodies.
+# What LLVM's build alone is tried with, and the tests of scripts, which need none.
 ONCE = (
     "tests/library.py disruptor",
     "tests/instructions.py disruptor_bench disruptor",
-    "tests/wrong_bodies_test.py",
     "tests/hostile/leaks.py disruptor_hostile",
 )
+OF_SCRIPTS = ("tests/wrong_bodies_test.py", "tests/scripts_test.py")
+# What keeps something from run to run.
+KEEPS = ("tests/library.py",)
+# How the last line of a script ends, and how that of one begins which tried nothing, since it cannot.
+COUNT = re.compile(r"(?:^|[: ])(\d+) [^:]*, 0 failed$")
+SKIPPED = "not here, and skipped: "
 
 
-def words_of(line, build):
+def words_of(line, build, is_anew=False):
     script, *programs = line.split()
-    return [script, *(f"crates/{it}/out/{it}{build}" for it in programs)]
+    return [script, *["--anew"] * (is_anew and script in KEEPS), *(f"crates/{it}/out/{it}{build}" for it in programs)]
 
 
 def is_built(build):
     """Whether there is such a build: where Rattle's own compiler compiles a program not, `rt ci` runs LLVM's alone."""
     found = all(os.path.isfile(f"{TOP}/crates/{it}/out/{it}{build}") for it in ("disruptor", "disruptor_hostile"))
     if not found:
-        print(f"not here, and skipped: the scripts over {build.removeprefix('.by-') or 'LLVM'}'s builds")
+        print(f"{SKIPPED}the scripts over {build.removeprefix('.by-') or 'LLVM'}'s builds")
     return found
 
 
+def amiss(said):
+    """Returns why what a script said does not show that it passed, or None."""
+    last = said.rstrip("\n").rpartition("\n")[2]
+    count = COUNT.search(last)
+    if not count and not last.startswith(SKIPPED):
+        return "its last line tells no count of which 0 failed"
+    return "it tried nothing" if count and not int(count[1]) else None
+
+
 def run(words):
-    """Runs a script, and returns what it is called by, whether it failed, and what it said."""
+    """Runs a script, and returns whether it failed, and what it said."""
     began = time.time()
     ran = subprocess.run(words, cwd=TOP, stdin=subprocess.DEVNULL, stdout=subprocess.PIPE, stderr=subprocess.STDOUT, check=False)
     said = ran.stdout.decode(errors="replace").rstrip("\n")
-    return bool(ran.returncode), f"{said}\n{'FAILED: ' * bool(ran.returncode)}{' '.join(words)}: {time.time() - began:.0f} s"
+    why = f"status {ran.returncode}" if ran.returncode else amiss(said)
+    return bool(why), f"{said}\n{f'FAILED: {why}: ' if why else ''}{' '.join(words)}: {time.time() - began:.0f} s"
 
 
 def ran(words):
@@ -65,8 +82,9 @@ def ran(words):
 
 
 def main():
+    is_anew = "--anew" in sys.argv[1:]
     builds = [it for it in BUILDS if is_built(it)]
-    once = [words_of(it, "") for it in ONCE if "" in builds or it == "tests/wrong_bodies_test.py"]
+    once = [words_of(it, "", is_anew) for it in (*(ONCE if "" in builds else ()), *OF_SCRIPTS)]
     each = [words_of(it, build) for it in EACH for build in builds]
     quiet = [words_of(it, build) for build in builds for it in QUIET]
     failed = 0 if "" in builds else 1

@@ -14,6 +14,9 @@ NAMES = re.compile(
     r"^(?:``: )*(?:(?:record )?`` has no field\b|(?:module|data type) `` has no `|(?:``(?:, | and )?)+ (?:is|are) not in scope\b"
     r"|`` (?:is|names) no(?:thing| module)\b|`` has no function ``|\d+ declarations? that depends? on `)"
 )
+# An error, not of the front end, in what is stated: a file of specs, or a clause of a source.
+STATED = re.compile(r"^(?:\./)?((?:specs|src)/\S+?):\d+:\d+: error: (.*)$", re.M)
+RESTS = re.compile(r"\d+ declarations? that depends? on `")
 # A `prove!` of a constant, which a check evaluates before it asks for proofs.
 FALSE = re.compile(r"^(?:\./)?src/\S+: error\[failed-constant-evaluation\]: evaluation reached a false `prove!`", re.M)
 JUDGED = re.compile(r"^rt: must-fail [^/\s]+/(\S+)\.edit: (.*)$", re.M)
@@ -41,19 +44,19 @@ def path_in(said, edit):
 
 
 def goals_of(output, path, why):
-    """Returns the goals of its own for which a function is not proved, as they are told. That it calls one that is not proved is none."""
+    """Returns the goals of its own for which a function is not proved, as they are told, and then what else an error in the files of its
+    proof is of, which may be a lemma. That it calls one that is not proved is none."""
     if match := SOUGHT.match(why):
         return [match[1]]
     if not why.startswith("not proved"):
         return []
-    # The lines before the function's own tell what of it is not proved; else an error in its proof files does.
+    # The lines before the function's own tell what of it is not proved, and an error in its proof files what an answer does not prove.
     before = output[: output.index(f"\nfn {path}: ")].split("\n")
     lines = itertools.takewhile(lambda it: it.startswith(("note: ", "help: ", " ")), reversed(before))
-    if goals := [it[1] for it in map(OPEN.match, lines) if it]:
-        return goals[::-1]
+    goals = [it[1] for it in map(OPEN.match, lines) if it][::-1]
     folder = "proofs/" + "/".join(path.split("::")[1:]) + "/"
     own = [text for file, text in ERROR.findall(output) if file.startswith(folder) and not is_of_a_name(text)]
-    return [it[1] for it in (re.match(r"`([^`]+)`", one) for one in own) if it]
+    return list(dict.fromkeys([*goals, *(it[1] for it in (re.match(r"`([^`]+)`", one) for one in own) if it)]))
 
 
 def told(output, edit):
@@ -77,7 +80,17 @@ def misses(output, edit):
     if edit.judge and said and all(why.startswith("proved") for why in said.values()):
         return f"its judge {edit.judge} is still proved"
     others = [goal for path, why in said.items() for goal in goals_of(output, path, why)]
-    return f"its goal {edit.goal} is proved, and {others[0]} is not" if edit.goal and others and edit.goal not in others else None
+    return f"its goal {edit.goal} is not told as not proved, as {others[0]} is" if edit.goal and others and edit.goal not in others else None
+
+
+def ill_stated(output, edit):
+    """Returns the first error of a check of this edit alone that tells that what it states means nothing, or None: one in a clause, or in a
+    file of specs that it changed. Another file of specs may have a proof about what it changed, which that is to break."""
+    if edit.is_of_a_body:
+        return None
+    own = {file for file, _, _ in edit.pairs}
+    found = [(file, text) for file, text in STATED.findall(output) if (file.startswith("src/") or file in own) and not RESTS.match(text)]
+    return next((f"BAD EDIT: what it states does not typecheck: {file}: {text}" for file, text in found), None)
 
 
 def named(path, edit):

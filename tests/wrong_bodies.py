@@ -12,12 +12,13 @@
 A function is proved against its own contract and the contracts of what it calls, and never against a body. So wrong
 bodies of different functions can stand in one copy of a crate, and one check of these functions refuses each by its own.
 Of several of one function, each but the first goes to a copy of that function, under another name. An edit counts as refused
-where that function is told as not proved, for a goal of its own. What is not told so is tried once more, alone; and what that
-does not tell, nor that a proof file which cites a name is all that refuses it, is judged by a check of the whole crate. Each
-edit has a line that names the goal that refused it, and the last line is `N refused, M not, of which K were tried in this run`: the
-others are kept (`kept.py`), and neither their crates nor those below are proved for them. Above it stand those that only a goal refuses
-which the untouched crate has not. A new branch or name makes one, and it may be open though the contract allows the body: an edit
-whose line `goal:` names it was looked at, and is not listed.
+where that function is told as not proved, for a goal or a lemma of its own. What is not told so is tried once more, alone; and what that
+does not tell, nor that a proof file which cites a name is all that refuses it, is judged by a check of the whole crate. An edit whose
+definition or clause does not typecheck is a bad one. Each edit has a line that names the goal that refused it, or else the lemma in the
+files of the function's proof, and the last line is `N refused, M not, of which K were tried in this run`: the others are kept
+(`kept.py`), and neither their crates nor those below are proved for them. Above it stand those that only a goal refuses which the
+untouched crate has not. A new branch or name makes one, and it may be open though the contract allows the body: an edit whose line
+`goal:` names it was looked at, and is not listed.
 
 First each other crate is proved as it is, over what earlier runs kept. With `--over` that is `rt ci`'s part: a crate's edits are
 tried once `rt ci` has proved it. The libraries that it leaves hold statements alone, so a check of edits begins with no proof of the
@@ -190,7 +191,9 @@ class Trial:
         tried = in_one_check(edits)
         said = self.said_of(tried, crate.is_open and (is_short or edits[0].is_of_a_body), is_short=is_short)
         for edit, one in zip(edits, tried):
-            if found := verdicts.refusals(said, one):
+            if why := verdicts.ill_stated(said, edit) if len(edits) == 1 else None:
+                crate.failed[edit] = why
+            elif found := verdicts.refusals(said, one):
                 self.note_goal(edit, found)
             elif is_short and only([edit]):
                 self.add([[edit]], is_short=False)
@@ -230,22 +233,31 @@ class Trial:
     def judge(self, edit, said):
         """Has the last check of an edit judge it, which is one of the whole crate if that of its functions did not tell."""
         why, text = verdicts.of_all(said)
-        if why:
+        if bad := verdicts.ill_stated(said, edit):
+            self.crates[edit.crate].failed[edit] = bad
+        elif why:
             self.note(edit, f"a check of the crate: {why[:200]}")
         else:
             self.crates[edit.crate].failed[edit] = BY_A_NAME if verdicts.is_by_names(said) else text
 
     def note_goal(self, edit, found):
-        """Notes that goals refuse an edit, by the first of them that the untouched crate has, where it has one."""
-        had = [True if edit.goal else self.has_goal(edit.crate, *it) for it in found]
-        at = had.index(True) if True in had else 0
-        self.note(edit, "{}, goal {}".format(*found[at]), None if had[at] is None else not had[at])
+        """Notes what refuses an edit: the first goal that the untouched crate has, or else the first lemma that its proof has there."""
+        kinds = [self.kind_of(edit.crate, *it) for it in found]
+        kinds = ["goal" if edit.goal and it != "lemma" else it for it in kinds]
+        at = next((kinds.index(it) for it in ("goal", "lemma") if it in kinds), 0)
+        (path, name), kind = found[at], kinds[at]
+        self.note(edit, f"{path}, {'lemma' if kind == 'lemma' else 'goal'} {name}", None if kind is None else kind == "made")
 
-    def has_goal(self, name, path, goal):
-        """Whether the proof of a function of the untouched crate has a goal, by itself or as a clause of one, or None where nothing tells."""
+    def kind_of(self, name, path, goal):
+        """Returns what this is to a function's proof in the untouched crate: a `goal`, by itself or as a clause of one, a `lemma` of its own,
+        or none of both, which an edit `made`; or None where nothing tells."""
         crate = self.crates[name]
         goals = self.libraries.goals(name, path, "" if crate.is_open else crate.kept)
-        return None if goals is None else not goals.isdisjoint({goal, goal.partition("-clause-")[0]})
+        if goals is None:
+            return None
+        if not goals.isdisjoint({goal, goal.partition("-clause-")[0]}):
+            return "goal"
+        return "lemma" if goal in self.libraries.lemmas(name, path) else "made"
 
     def note(self, edit, why, is_made=False):
         self.crates[edit.crate].note(edit, why, is_made)
@@ -265,6 +277,8 @@ class Trial:
                 why, text = "{}, goal {}".format(*goals[0]) if goals else None, BY_A_NAME
             if why is None:
                 crate.failed[edit] = text
+            elif bad := verdicts.ill_stated(why, edit):
+                crate.failed[edit] = bad
             else:
                 self.note(edit, f"rt must-fail: {why[:200]}")
 
@@ -325,14 +339,14 @@ def run(top, asked, manner, told, file=None, at=None, is_anew=False):
     names = [it for it in names if not asked or it in asked]
     if manner == "list":
         return list_those_that_may_make_goals(top, names, told)
-    store = kept.Kept(at, kept.Reads(top, names, kit(top), kept.scripts()), way, is_anew)
+    store = kept.Kept(at, kept.Reads(top, names, kept.kit(top), kept.scripts()), way, is_anew)
     if at and not store.at:
         told(f"{at} cannot be used, so nothing is kept")
     with together.folder("trial-") as room:
         trial = Trial(top, names, room, told, store, manner)
         told(f"{sum(len(it.known) for it in trial.crates.values())} edits are kept")
         refused, failed, tried = trial.run(file)
-    store.prune()
+    store.prune(kept.MOST)
     told(f"{refused} {'left out' if manner == 'control' else 'refused'}, {failed} not, of which {tried} were tried in this run")
     return 1 if failed or not refused else 0
 
@@ -340,14 +354,6 @@ def run(top, asked, manner, told, file=None, at=None, is_anew=False):
 def has_ended(file):
     """Whether the `rt ci` whose words go to a file is over: its libraries may be of other files than those that stand now."""
     return bool(ENDED.search(open(file, encoding="utf-8", errors="replace").read()))
-
-
-def kit(top):
-    """Returns what tells the kit from others, or ends the run where `rt` does not name it."""
-    (status, line), folder = together.said_by(["rt", "version"], top), os.path.dirname(together.said_by(["rt", "doc"], top)[1].strip())
-    if status:
-        sys.exit(f"rt names no kit: {line}")
-    return kept.kit_of(folder, line)
 
 
 def list_those_that_may_make_goals(top, names, told):

@@ -1,8 +1,8 @@
 #!/usr/bin/env python3
 """Tests of `wrong_bodies.py` over a crate of five functions, made in a folder of its own: which edits it takes as refused, over
 the library that `rt lib` built and beside an `rt ci` whose words are written here, and by `rt must-fail` alone. In which order it
-has which checks it shows without `rt`, by answers that stand here for those of checks. And of what it stands on: which errors are a
-name's, which edits one check tries, what such a check leaves open, that commands end with the process that started them, and that
+has which checks it shows without `rt`, by answers that stand here for those of checks. And of what it stands on: what the words of
+checks say (`verdicts_test.py`), which edits one check tries, what such a check leaves open, that commands end with the process that started them, and that
 they stop and go on; and of what is kept from run to run (`kept_test.py`)."""
 
 import os
@@ -15,11 +15,12 @@ import time
 sys.dont_write_bytecode = True
 sys.path.insert(0, os.path.dirname(os.path.abspath(__file__)))
 import kept_test  # noqa: E402
+import verdicts_test  # noqa: E402
 import wrong_bodies  # noqa: E402
 from edits import Edit, companies, seconds_of, shared_out, with_a_copy  # noqa: E402
 from lanes import Lanes  # noqa: E402
 from openings import functions_apart, lemmas_open, without_bodies  # noqa: E402
-from wrong_bodies import together, verdicts  # noqa: E402
+from wrong_bodies import together  # noqa: E402
 
 SOURCE = """#![tactic(auto)]
 
@@ -85,11 +86,16 @@ LEMMAS = """use Rattle.std.proofs.Common.{◌≡◌, ℕ, ◌+◌, arith}
 pub thrice : (d n : ℕ) → d ≡ n + n → d + d + d ≡ n + n + (n + n) + (n + n)
 thrice d n same = omega arith
 """
-ANSWERS = """use Rattle.toy.proofs.Sums.{thrice}
+ANSWERS = """use Rattle.std.proofs.Common.{◌≡◌, ◌+◌}
+use Rattle.toy.proofs.Sums.{thrice}
 use Rattle.toy.proofs.six_times.Goals as goal
+use Rattle.toy.proofs.six_times.Goals.{After-twice-double}
+
+doubled : (c : After-twice-double) → c.twice-double.result ≡ c.args.n + c.args.n
+doubled c = c.twice-double.ensures
 
 pub returns : goal.returns
-returns c = thrice c.twice-double.result c.args.n c.twice-double.ensures
+returns c = thrice c.twice-double.result c.args.n (doubled (goal.at.returns c).After-twice-double)
 """
 # A file of proofs with a lemma in a module, and two that others see into, and the bodies that a check leaves open.
 LEMMAS_OF_A_MODULE = """use Rattle.std.proofs.Common.{◌≡◌, ℕ, refl}
@@ -193,6 +199,7 @@ EDITS = {
     "begins_with_a_return": ("src/lib.rt", "result ≡ n } {", "result ≡ n } { if n > 100 { return 0; }", "same, goal returns-then-n"),
     "begins_with_a_name": ("src/lib.rt", "result ≡ n } {", "result ≡ n } { let n = n;", "NOT REFUSED: toy/begins_with_a_name: the crate is still proved"),
     "defines_more": ("specs/Pairs.antt\njudge: four_times", "n + n", "n + n + 1", "refused by four_times, goal returns"),
+    "defines_what_is_none": ("specs/Pairs.antt\njudge: four_times", "n + n", "refl", "NOT REFUSED: toy/defines_what_is_none: BAD EDIT: what it states"),
     "defines_less_for_another": ("specs/Pairs.antt\njudge: same", "n + n", "n", "NOT REFUSED: toy/defines_less_for_another: its judge same is still proved"),
     "proves_what_is_false": ("src/lib.rt", "u64 = 5", "u64 = 8", "refused by a check of the crate: src/lib.rt:7:15: error[failed-constant-evaluation]"),
     "says_less": ("src/lib.rt\njudge: four_times", "    ensures { result ≡ n + n }", "    ensures { n ≤ result }", "refused by four_times, goal"),
@@ -202,6 +209,7 @@ EDITS = {
         "let pair = twice(n as u32); let double = pair;",
         "NOT REFUSED: toy/takes_a_name_away: only a file of proofs",
     ),
+    "doubles_one_more": ("src/lib.rt", "double = twice(n as u32)", "double = twice(n as u32 + 1)", "refused by six_times, lemma doubled"),
     "triples_once_too_often": ("src/lib.rt", "double + double + double", "double + double + double + 1", "refused by six_times, goal"),
     "is_not_there": ("src/lib.rt", "n * n", "n", "BAD EDIT: its old text stands in src/lib.rt 0 times"),
     "stands_twice": ("src/lib.rt", "n as u32", "n as u32 + 1", "BAD EDIT: its old text stands in src/lib.rt 2 times"),
@@ -220,28 +228,6 @@ ANSWERED = {
     "leaves_all": "note: src/lib.rt:1:1: not proved (`returns`)\nfn toy::rest_of: not proved\n",
     "leaves_half": "note: src/lib.rt:1:1: not proved (`returns`)\nfn toy::rest_of_2: not proved\n",
 }
-# Errors that only a name's being gone explains, and others.
-NAMES = [
-    "`returns`: record `Rattle.toy.proofs.f.Lts.After-t13` has no field `min-head` (nearest: .min-most)",
-    "`returns`: `goal.returns`: module `Rattle.toy.proofs.f.Goals` has no `returns` that can be named from here",
-    "module `Rattle.toy.proofs.Sums` has no `thrice` that can be named from here (names in it that begin alike: `three`)",
-    "1 declaration that depends on `thrice`, which was not admitted, was not checked: returns",
-    "4 declarations that depend on `thrice`, which was rejected, were not checked: a, b, c and 1 more",
-    "`returns`: `thrice` is not in scope (did you mean `three`?)",
-    "`toy` has no function `f` for this file to be the proof of: help: delete the folder `./proofs/f`",
-]
-OTHERS = [
-    "`returns`: computed as far as they go, the two types differ only where one has `1` (expected) and the other has `2`",
-    "`thrice`: expected type `n ≡ n`, but this has type `m ≡ m`, which depends on `n`, and `x` has no field",
-    "`returns`: `omega` found no proof: it has no `≡` that says so",
-]
-# What a check says of a function whose clauses `least` and `most` are not proved.
-TWO_CLAUSES = """note: src/lib.rt:9:5: it is not proved that what the function ensures holds (`returns-clause-least`)
-note: src/lib.rt:9:5: it is not proved that what the function ensures holds (`returns-clause-most`)
-fn toy::middle: not proved
-"""
-# Functions of one name, where the name of a module begins that of another.
-ALIKE = {"toy::opening::open": "src/opening.rt", "toy::opening_several::open": "src/opening_several.rt"}
 
 
 def made_in(top, names):
@@ -296,7 +282,7 @@ def over_a_library(top):
     made_in(top, EDITS)
     wrong_bodies.prove.prove(top, "toy", [], 1, 0, ["lib"])
     made = ["begins_with_a_return: same, goal returns-then-n-gt100"]
-    last = "8 refused, 6 not, of which 12 were tried in this run"
+    last = "9 refused, 7 not, of which 14 were tried in this run"
     failed = failures(top, {name: it[3] for name, it in EDITS.items()}, last, "rt: toy proved\n", made=made)
     for name in EDITS:
         if name != "takes_a_name_away":
@@ -392,6 +378,15 @@ def lists_apart():
     return failed
 
 
+def edits_of_clauses():
+    """Returns edits of clauses: three of one function, one of another, one of a body beside them, and one of a goal that is among the three."""
+    clauses = [Edit("toy", it, is_of_a_body=False, judge="middle", goal=f"returns-clause-{it}") for it in ("least", "most", "sum")]
+    # Its body leaves open what it likes.
+    inside = Edit("toy", "inside", is_of_a_body=False, is_of_its_clause=False, judge="middle", goal="returns-clause-more")
+    apart = Edit("toy", "apart", is_of_a_body=False, judge="other", goal="returns-clause-least")
+    return [*clauses, apart, inside, clauses[2]]
+
+
 def state_of(number):
     """Returns the letter that stands for a process's state, where it is not gone."""
     try:
@@ -433,23 +428,7 @@ def ends_all(number):
 
 def main():
     failed = 0
-    for text in [*NAMES, *OTHERS]:
-        if verdicts.is_of_a_name(text) != (text in NAMES):
-            failed += 1
-            print(f"FAILED: whether this is of a name: {text}")
-    for path, file in ALIKE.items():
-        if verdicts.path_in(ALIKE, Edit("toy", "opens_nothing", functions=[(file, "", "open")])) != path:
-            failed += 1
-            print(f"FAILED: which of two functions of one name is in {file}")
-    clauses = {it: Edit("toy", it, is_of_a_body=False, judge="middle", goal=f"returns-clause-{it}") for it in ("least", "most", "sum")}
-    # Its body leaves open what it likes.
-    inside = Edit("toy", "inside", is_of_a_body=False, is_of_its_clause=False, judge="middle", goal="returns-clause-more")
-    for name, edit in clauses.items():
-        if bool(verdicts.refusals(f"\n{TWO_CLAUSES}", edit)) != (name in TWO_CLAUSES):
-            failed += 1
-            print(f"FAILED: whether the clause {name} is refused by its goal")
-    apart = Edit("toy", "apart", is_of_a_body=False, judge="other", goal="returns-clause-least")
-    if [len(it) for it in companies([*clauses.values(), apart, inside, clauses["sum"]])] != [3, 1, 1, 1]:
+    if [len(it) for it in companies(edits_of_clauses())] != [3, 1, 1, 1]:
         failed += 1
         print("FAILED: which edits of clauses one check tries")
     for number in (signal.SIGINT, signal.SIGTERM, signal.SIGHUP, signal.SIGKILL):
@@ -462,7 +441,7 @@ def main():
     if not is_copied():
         failed += 1
         print("FAILED: what a copy of a function has")
-    failed += lists_apart() + left_in() + kept_test.failures()
+    failed += lists_apart() + left_in() + kept_test.failures() + verdicts_test.failures()
     for tries in (over_answers, over_a_library):
         with together.folder("toy-") as top:
             failed += tries(top)
