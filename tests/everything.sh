@@ -32,10 +32,11 @@ until [ -s "$bodies" ] || ! kill -0 "$trying" 2> /dev/null; do sleep 0.1; done
 # One job for each proof takes the least of the processors' time, and there are always other proofs.
 heard=$words
 RT_JOBS=$(nproc) counted rt ci "$@"
+[ $((passed + failed)) -gt 0 ] || failed=1
 proofs=$(sed -n -E 's/^rt: ok;.*; (done in this run: .*|every proof .*)$/\1/p' "$words")
 echo '0 passed, 0 failed: rt ci ended' >> "$words"
 heard=/dev/null
-counted tests/scripts.py
+counted tests/scripts.py "$@"
 wait "$trying"
 tried=$?
 counted sh -c 'cat "$1"; exit "$2"' - "$bodies" "$tried"

@@ -45,11 +45,13 @@ def files(folder, endings):
         yield from (os.path.join(at, it) for it in sorted(names) if it.endswith(endings))
 
 
-def faults(top):
+def faults(top, looked):
+    """Gives what is not kept, and notes in `looked` each file that it looks at."""
     for name in sorted(os.listdir(f"{top}/crates")):
         many = long = 0
         for path in files(f"{top}/crates/{name}", (".rt", ".antt")):
             lines = open(path, encoding="utf-8").read().splitlines()
+            looked.append(path)
             found = faults_of_proofs(lines) if path.endswith(".antt") else faults_of_code(lines, name.endswith("_tests"))
             yield from (f"{path}:{at}: {why}" for at, why in found)
             many, long = many + len(lines), long + sum(len(it) > LETTERS for it in lines)
@@ -62,11 +64,12 @@ def faults(top):
 
 
 def main():
-    found = list(faults(TOP))
+    looked = []
+    found = list(faults(TOP, looked))
     for it in found:
         print(it.removeprefix(f"{TOP}/"))
-    print(f"house rules: {len(found)} not kept")
-    return 1 if found else 0
+    print(f"house rules: {len(looked)} files of crates, {len(found)} faults")
+    return 0 if looked and not found else 1
 
 
 if __name__ == "__main__":

@@ -90,7 +90,7 @@ def main():
     parser.add_argument("program")
     asked = parser.parse_args()
     if not shutil.which("valgrind"):
-        print("instructions: no valgrind is here, so none are counted")
+        print("not here, and skipped: instructions, without valgrind")
         return 0
     counts = list(all_counts(asked.bench, asked.program))
     if asked.record:

@@ -141,4 +141,4 @@ else
 fi
 [ -z "$skipped" ] || printf 'not here, and skipped:%s\n' "$skipped"
 printf 'other languages: %s programs, %s failed\n' $cases $failed
-[ $failed -eq 0 ]
+[ $failed -eq 0 ] && [ $cases -gt 0 ]

@@ -195,7 +195,7 @@ def main():
                 at = next((k for k, (one, other) in enumerate(zip(wanted, exchange.replies)) if one != other), len(wanted))
                 made = exchange.records[len(exchange.records) - len(exchange.replies) + at]
                 print(f"FAILED: seed {seed}: {made}: C says {exchange.replies[at:at + 1]}, drive {wanted[at:at + 1]}")
-    print(f"over C and by drive: {runs} runs, {calls} calls, {refused} of them refused, {failed} runs differ")
+    print(f"over C and by drive: {runs} runs, {calls} calls, {refused} of them refused, {failed} failed")
     sys.exit(failed > 0)
 
 

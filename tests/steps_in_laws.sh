@@ -12,6 +12,7 @@ stores='[.:](store|swap|exchange|compare_exchange|fetch_[a-z]+|swap_new_seat)(_w
 
 others_in() {
     local src=$1
+    [ -f "$src/laws.rt" ] && [ -d "$src/laws" ] || echo "$src has no laws"
     grep -rnE "$calls" "$src" --include='*.rt' | grep -vE "^$src/(laws/|laws\.rt:|tests/|tests\.rt:)"
     grep -rnE "$ends" "$src" --include='*.rt' |
         grep -vE "^$src/((opening|settled|finishing|over|laws/settling)\.rt:|laws\.rt:[0-9]+:pub(\(crate\))? mod settling;)"

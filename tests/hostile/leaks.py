@@ -3,7 +3,7 @@
 
     tests/hostile/leaks.py CALLS
 
-CALLS is `disruptor_hostile` as LLVM built it. Each of its cases ends with all memory given back, or still to be reached.
+CALLS is `disruptor_hostile` as LLVM built it. Each of its cases ends well, with all memory given back, or still to be reached.
 Where there is no valgrind the script says so, and looks for nothing. It prints a line for each failure, and then a count; its
 status is 0 where none failed.
 """
@@ -20,18 +20,18 @@ VALGRIND = ["valgrind", "--quiet", "--leak-check=full", "--errors-for-leak-kinds
 
 
 def is_whole(calls, case):
-    """Whether a case does under valgrind what it does without, and loses nothing."""
+    """Whether a case makes its calls, and does under valgrind what it does without, and loses nothing."""
     alone, watched = (subprocess.run([*before, calls, case], capture_output=True) for before in ([], VALGRIND))
-    if (watched.returncode, watched.stdout) == (alone.returncode, alone.stdout):
+    if alone.stdout and (alone.returncode, watched.returncode, watched.stdout) == (0, 0, alone.stdout):
         return True
-    print(f"FAILED: calls of case {case}: status {watched.returncode}: {watched.stderr.decode()[:600]}")
+    print(f"FAILED: calls of case {case}: status {alone.returncode}, {watched.returncode} under valgrind: {watched.stderr.decode()[:600]}")
     return False
 
 
 def main():
     calls = os.path.abspath(sys.argv[1])
     if not shutil.which("valgrind"):
-        print("no valgrind: no leaks looked for")
+        print("not here, and skipped: leaks, without valgrind")
         return 0
     held = [is_whole(calls, case) for case in (*CALLS, *TAKING_NONE)]
     print(f"{calls}: {len(held)} cases looked through for leaks, {held.count(False)} failed")
