@@ -10,7 +10,7 @@ ghost use Rattle.dr_meaning.specs.Meaning.Transcript.{Transcript, LeadsTo};
 ghost use Rattle.dr_meaning.specs.Meaning.Laws.{Laws};
 ghost use Rattle.dr_meaning.specs.Meaning.Tells.{Tells};
 ghost use Rattle.dr_meaning.specs.Meaning.Progress.{NobodyIsStuck, CompletesAll, ClaimsRound, Drains, PublishesFront, CanFinish, GoOn, to_do};
-ghost use Rattle.dr_meaning.specs.Meaning.Stuck.{IsFalseAfter, circle, one_completed, two_completed, halted, claimed_by_nobody};
+ghost use Rattle.dr_meaning.specs.Meaning.Stuck.{IsFalseAfter, circle, shared_circle, line, one_completed, two_completed, one_retired, halted, left_behind, claimed_by_nobody};
 ghost use Rattle.dr_meaning.specs.Meaning.TooFar.{IsTooFar, pair, claim_of, claim_up_to, receipt_of, completion_of, retirement_of, halt, drain, written, written_again, published, taken, completed, taken_by_both, join, two_published, first_receipt, second_receipt, completed_beside, taken_beside, completed_by_both, first_taken};
 ghost use Rattle.dr_meaning.specs.Meaning.TooFar.{shared, claim_by, drain_of, receipt_of_both, each_claimed, first_published, second_published, each_published, each_completed, third_completed, drain_with_room};
 
@@ -106,17 +106,25 @@ pub fn nobody_is_stuck<E>()
     ensures { (c : Setup) (t : Transcript E) (m : State E) → IsGraph c.upstreams → LeadsTo c t m → NobodyIsStuck c m }
 {}
 
-/// That nobody is stuck is false where somebody is. Where two handlers wait for each other, as in no
-/// graph, neither goes on, nor does one that waits for them, though others can; a claim that this one
-/// gates is not accepted, and after a halt no handler of the circle is told `Drained`. Nor is a
-/// sequence published whose producer is none of those that there are.
+/// That nobody is stuck says each of its four facts, and is false where somebody is. Where two handlers
+/// wait for each other, as in no graph, neither goes on, nor does the last one, which waits for them,
+/// though others can; a claim that this one gates is not accepted, of whichever producer, and after a
+/// halt none of the three is told `Drained`. Nor does a handler go on that follows a retired one, nor
+/// is a sequence published whose producer is none of those that there are.
 pub fn a_circle_is_stuck()
+    ensures each { (c : Setup) (m : State ℕ) → NobodyIsStuck c m → PublishesFront c m × ((h : ℕ) → CompletesAll c m h) × ((p n : ℕ) → ClaimsRound c m p n) × ((h max : ℕ) → Drains c m h max) }
     ensures whole { IsFalseAfter circle one_completed (λ m. NobodyIsStuck circle m) }
     ensures of_the_circle { IsFalseAfter circle one_completed (λ m. CompletesAll circle m 0) }
-    ensures behind_the_circle { IsFalseAfter circle one_completed (λ m. CompletesAll circle m 3) }
+    ensures of_the_circle_at_first { IsFalseAfter circle two_published (λ m. CompletesAll circle m 1) }
+    ensures behind_the_circle { IsFalseAfter circle one_completed (λ m. CompletesAll circle m 4) }
+    ensures behind_one_retired { CompletesAll line left_behind 2 → ⊥ }
     ensures claim { IsFalseAfter circle one_completed (λ m. ClaimsRound circle m 0 1) }
     ensures claim_of_two { IsFalseAfter circle two_completed (λ m. ClaimsRound circle m 0 2) }
+    ensures claim_of_the_second_producer { IsFalseAfter shared_circle one_completed (λ m. ClaimsRound shared_circle m 1 1) }
+    ensures claim_after_a_retirement { IsFalseAfter circle one_retired (λ m. ClaimsRound circle m 0 2) }
     ensures after_a_halt { IsFalseAfter circle halted (λ m. Drains circle m 0 1) }
+    ensures after_a_halt_with_room { IsFalseAfter circle halted (λ m. Drains circle m 1 2) }
+    ensures after_a_halt_behind { IsFalseAfter circle halted (λ m. Drains circle m 4 1) }
     ensures claimed_by_nobody { PublishesFront circle claimed_by_nobody → ⊥ }
 {}
 

@@ -1,12 +1,16 @@
 use Rattle.std.proofs.Common.{arith, ℕ, zero, suc, ◌≡◌, ◌<◌, ◌≤◌, ◌+◌, inl, inr, List, [], ◌∷◌, refl, ap, sym, subst, slice_index}
-use Rattle.std.specs.Prelude.{◌⊎◌, Contains, get_or}
+use Rattle.std.specs.Prelude.{◌⊎◌, Contains, get_or, true, false}
 use Rattle.dr_graph.specs.Meaning.Graph.{upstreams_of}
+use Rattle.dr_meaning.specs.declared.command.Command.TheVariants.{Poll}
 use Rattle.dr_meaning.specs.declared.command.Reply.TheVariants.{Claimed, Written, Batch, Drained, Gating, Refused}
+use Rattle.dr_meaning.specs.declared.mode.Mode.{Mode}
+use Rattle.dr_meaning.specs.declared.mode.Mode.TheVariants.{Single, Multi}
 use Rattle.dr_meaning.specs.declared.refusal.Refusal.TheVariants.{NoRoom, NoProducer}
-use Rattle.dr_meaning.specs.Meaning.Machine.{Setup, State, opening, step}
-use Rattle.dr_meaning.specs.Meaning.Transcript.{Transcript}
-use Rattle.dr_meaning.specs.Meaning.Progress.{MayTake, MayComplete, WaitsFor, IsPathUp, CompletesAll, AwaitedGoesOn, ClaimAwaits}
-use Rattle.dr_meaning.specs.Meaning.Stuck.{circle, one_completed, two_completed, halted}
+use Rattle.dr_meaning.specs.Meaning.Machine.{Setup, State, opening, step, next, gating}
+use Rattle.dr_meaning.specs.Meaning.Transcript.{Transcript, LeadsTo}
+use Rattle.dr_meaning.specs.Meaning.Progress.{MayTake, MayComplete, WaitsFor, IsPathUp, CompletesAll, AwaitedGoesOn, ClaimAwaits, reply_to}
+use Rattle.dr_meaning.specs.Meaning.Stuck.{circle_of, circle, shared_circle, line, one_completed, two_completed, one_retired, halted, left_behind}
+use Rattle.dr_meaning.specs.Meaning.TooFar.{two_published}
 use Rattle.dr_meaning.proofs.lawful.a_circle_is_stuck.Goals as goal
 
 -- the state to which the commands of a transcript lead from another
@@ -17,15 +21,33 @@ end_of c m (e ∷ es) = end_of c (step c m e.command).state es
 abbrev IsOfCircle : ℕ → Type 0
 IsOfCircle h = (h ≡ 0) ⊎ (h ≡ 1)
 
-abbrev GoesOn : State ℕ → ℕ → Type 0
-GoesOn m h = MayTake circle m h ⊎ MayComplete circle m h
+abbrev GoesOn : Setup → State ℕ → ℕ → Type 0
+GoesOn c m h = MayTake c m h ⊎ MayComplete c m h
 
--- none of the circle can go on, nor the one behind it, which took less than its other upstream completed
-record IsBlocked (m : State ℕ) : Type 0 where
-  pub first : GoesOn m 0 → ⊥
-  pub second : GoesOn m 1 → ⊥
-  pub behind : GoesOn m 3 → ⊥
-  pub ahead : slice_index m.taken 3 < slice_index m.completed 2
+-- a handler is told to wait for others, and has completed all that it took
+abbrev Waits : Setup → State ℕ → ℕ → Type 0
+Waits c m h = (reply_to c m (Poll h 1) ≡ Gating) × (slice_index m.completed h ≡ slice_index m.taken h)
+
+waiting_stays : (c : Setup) (m : State ℕ) (h : ℕ) → Waits c m h → GoesOn c m h → ⊥
+waiting_stays c m h waits goes =
+    elim goes [
+      | inl take ↦ (let no : Gating ≡ Batch (slice_index m.taken h) 1 take.0 = subst (λ r. r ≡ Batch (slice_index m.taken h) 1 take.0) waits.0 take.1 in cc)
+      | inr may ↦
+          (let same : slice_index m.completed h ≡ slice_index m.taken h = waits.1 in
+          let more : slice_index m.completed h < slice_index m.taken h = may.more in
+          omega arith)
+    ]
+
+-- both of the circle wait
+record IsBlocked (mode : Mode) (m : State ℕ) : Type 0 where
+  pub first : Waits (circle_of mode) m 0
+  pub second : Waits (circle_of mode) m 1
+
+-- so does the one behind it, which took less than its other upstream completed
+record IsBlockedBehind (mode : Mode) (m : State ℕ) : Type 0 where
+  pub circle : IsBlocked mode m
+  pub behind : Waits (circle_of mode) m 4
+  pub ahead : slice_index m.taken 4 < slice_index m.completed 2
 
 only_at : (x up i : ℕ) → i < 1 → get_or (x ∷ []) i up ≡ up → x ≡ up
 only_at x up zero lt at = at
@@ -35,77 +57,70 @@ either_at : (x y up i : ℕ) → i < 2 → get_or (x ∷ y ∷ []) i up ≡ up �
 either_at x y up zero lt at = inl at
 either_at x y up (suc i) lt at = inr (only_at y up i (omega arith) at)
 
-circle_up : (m : State ℕ) (h up : ℕ) → IsOfCircle h → WaitsFor circle m h up → IsOfCircle up
-circle_up m h up (inl e) waits =
+circle_up : (mode : Mode) (m : State ℕ) (h up : ℕ) → IsOfCircle h → WaitsFor (circle_of mode) m h up → IsOfCircle up
+circle_up mode m h up (inl e) waits =
     let has : Contains (1 ∷ []) up = subst (λ k. Contains (upstreams_of circle.upstreams k) up) e waits.upstream in
     inr (sym (only_at 1 up has.0 has.1 has.2))
-circle_up m h up (inr e) waits =
+circle_up mode m h up (inr e) waits =
     let has : Contains (0 ∷ []) up = subst (λ k. Contains (upstreams_of circle.upstreams k) up) e waits.upstream in
     inl (sym (only_at 0 up has.0 has.1 has.2))
 
-path_in_circle : (m : State ℕ) (path : List ℕ) (from to : ℕ) → IsOfCircle from → IsPathUp circle m from path to → IsOfCircle to
-path_in_circle m [] from to here leads = subst IsOfCircle leads here
-path_in_circle m (up ∷ ups) from to here leads = path_in_circle m ups up to (circle_up m from up here leads.0) leads.1
+path_in_circle : (mode : Mode) (m : State ℕ) (path : List ℕ) (from to : ℕ) → IsOfCircle from → IsPathUp (circle_of mode) m from path to → IsOfCircle to
+path_in_circle mode m [] from to here leads = subst IsOfCircle leads here
+path_in_circle mode m (up ∷ ups) from to here leads = path_in_circle mode m ups up to (circle_up mode m from up here leads.0) leads.1
 
-blocked : (m : State ℕ) → IsBlocked m → (h : ℕ) → IsOfCircle h → GoesOn m h → ⊥
-blocked m b h (inl e) goes = b.first (subst (GoesOn m) e goes)
-blocked m b h (inr e) goes = b.second (subst (GoesOn m) e goes)
+blocked : (mode : Mode) (m : State ℕ) → IsBlocked mode m → (h : ℕ) → IsOfCircle h → GoesOn (circle_of mode) m h → ⊥
+blocked mode m b h (inl e) goes = waiting_stays (circle_of mode) m 0 b.first (subst (GoesOn (circle_of mode) m) e goes)
+blocked mode m b h (inr e) goes = waiting_stays (circle_of mode) m 1 b.second (subst (GoesOn (circle_of mode) m) e goes)
 
-circle_is_stuck : (m : State ℕ) → IsBlocked m → (h : ℕ) → IsOfCircle h → AwaitedGoesOn circle m h → ⊥
-circle_is_stuck m b h here awaits = blocked m b awaits.awaited (path_in_circle m awaits.path h awaits.awaited here awaits.leads) awaits.goes_on
+circle_is_stuck : (mode : Mode) (m : State ℕ) → IsBlocked mode m → (h : ℕ) → IsOfCircle h → AwaitedGoesOn (circle_of mode) m h → ⊥
+circle_is_stuck mode m b h here awaits =
+    blocked mode m b awaits.awaited (path_in_circle mode m awaits.path h awaits.awaited here awaits.leads) awaits.goes_on
 
-path_behind : (m : State ℕ) → IsBlocked m → (path : List ℕ) (to : ℕ) → IsPathUp circle m 3 path to → GoesOn m to → ⊥
-path_behind m b [] to leads goes = b.behind (subst (GoesOn m) (sym leads) goes)
-path_behind m b (up ∷ ups) to leads goes =
-    let waits : WaitsFor circle m 3 up = leads.0 in
+path_behind : (mode : Mode) (m : State ℕ) → IsBlockedBehind mode m → (path : List ℕ) (to : ℕ) → IsPathUp (circle_of mode) m 4 path to → GoesOn (circle_of mode) m to → ⊥
+path_behind mode m b [] to leads goes = waiting_stays (circle_of mode) m 4 b.behind (subst (GoesOn (circle_of mode) m) (sym leads) goes)
+path_behind mode m b (up ∷ ups) to leads goes =
+    let waits : WaitsFor (circle_of mode) m 4 up = leads.0 in
     let has : Contains (1 ∷ 2 ∷ []) up = waits.upstream in
     elim (either_at 1 2 up has.0 has.1 has.2) [
-      | inl second ↦ blocked m b to (path_in_circle m ups up to (inr (sym second)) leads.1) goes
+      | inl second ↦ blocked mode m b.circle to (path_in_circle mode m ups up to (inr (sym second)) leads.1) goes
       | inr third ↦
-          let low : slice_index m.completed up ≤ slice_index m.taken 3 = waits.taken in
+          let low : slice_index m.completed up ≤ slice_index m.taken 4 = waits.taken in
           let same : slice_index m.completed 2 ≡ slice_index m.completed up = ap (λ k. slice_index m.completed k) third in
-          let more : slice_index m.taken 3 < slice_index m.completed 2 = b.ahead in
+          let more : slice_index m.taken 4 < slice_index m.completed 2 = b.ahead in
           absurd (omega arith)
     ]
 
-behind_is_stuck : (m : State ℕ) → IsBlocked m → AwaitedGoesOn circle m 3 → ⊥
-behind_is_stuck m b awaits = path_behind m b awaits.path awaits.awaited awaits.leads awaits.goes_on
+behind_is_stuck : (mode : Mode) (m : State ℕ) → IsBlockedBehind mode m → AwaitedGoesOn (circle_of mode) m 4 → ⊥
+behind_is_stuck mode m b awaits = path_behind mode m b awaits.path awaits.awaited awaits.leads awaits.goes_on
+
+-- a claim waits for nobody that can go on, where the last two gate it and the fourth left room
+claim_is_stuck : (mode : Mode) (m : State ℕ) (n : ℕ) → IsBlockedBehind mode m → gating (circle_of mode) m ≡ 3 ∷ 4 ∷ [] → next m + n ≤ 2 + slice_index m.completed 3 → ClaimAwaits (circle_of mode) m n → ⊥
+claim_is_stuck mode m n b gates room awaits =
+    let last : ℕ = awaits.last in
+    let has : Contains (3 ∷ 4 ∷ []) last = subst (λ hs. Contains hs last) gates awaits.gates in
+    elim (either_at 3 4 last has.0 has.1 has.2) [
+      | inl beside ↦
+          let low : 2 + slice_index m.completed last < next m + n = awaits.behind in
+          let same : slice_index m.completed 3 ≡ slice_index m.completed last = ap (λ k. slice_index m.completed k) beside in
+          omega arith
+      | inr behind ↦ behind_is_stuck mode m b (subst (AwaitedGoesOn (circle_of mode) m) (sym behind) awaits.goes_on)
+    ]
+
+abbrev after_all : Setup → Transcript ℕ → State ℕ
+after_all c t = end_of c (opening c) t
 
 abbrev one : State ℕ
-one = end_of circle (opening circle) one_completed
+one = after_all circle one_completed
 
-abbrev two : State ℕ
-two = end_of circle (opening circle) two_completed
-
-abbrev late : State ℕ
-late = end_of circle (opening circle) halted
-
-blocked_one : IsBlocked one
+led_to_one : LeadsTo circle one_completed one
 unfolding Rattle.dr_meaning.specs.Meaning.Machine.least_outside
-blocked_one = record {
-  first = λ goes. elim goes [ inl take ↦ (let no : Gating ≡ Batch 0 1 take.0 = take.1 in cc) | inr more ↦ (let no : 0 < 0 = more.more in omega arith) ];
-  second = λ goes. elim goes [ inl take ↦ (let no : Gating ≡ Batch 0 1 take.0 = take.1 in cc) | inr more ↦ (let no : 0 < 0 = more.more in omega arith) ];
-  behind = λ goes. elim goes [ inl take ↦ (let no : Gating ≡ Batch 0 1 take.0 = take.1 in cc) | inr more ↦ (let no : 0 < 0 = more.more in omega arith) ];
-  ahead = (let less : 0 < 1 = omega arith in less);
-}
+led_to_one = (refl, refl, (refl, refl, (refl, refl, (refl, refl, (refl, refl, (refl, refl, (refl, refl, (refl, refl, refl))))))))
 
-blocked_two : IsBlocked two
+blocked_one : IsBlockedBehind Single one
 unfolding Rattle.dr_meaning.specs.Meaning.Machine.least_outside
-blocked_two = record {
-  first = λ goes. elim goes [ inl take ↦ (let no : Gating ≡ Batch 0 1 take.0 = take.1 in cc) | inr more ↦ (let no : 0 < 0 = more.more in omega arith) ];
-  second = λ goes. elim goes [ inl take ↦ (let no : Gating ≡ Batch 0 1 take.0 = take.1 in cc) | inr more ↦ (let no : 0 < 0 = more.more in omega arith) ];
-  behind = λ goes. elim goes [ inl take ↦ (let no : Gating ≡ Batch 0 1 take.0 = take.1 in cc) | inr more ↦ (let no : 0 < 0 = more.more in omega arith) ];
-  ahead = (let less : 0 < 1 = omega arith in less);
-}
-
-blocked_late : IsBlocked late
-unfolding Rattle.dr_meaning.specs.Meaning.Machine.least_outside
-blocked_late = record {
-  first = λ goes. elim goes [ inl take ↦ (let no : Gating ≡ Batch 0 1 take.0 = take.1 in cc) | inr more ↦ (let no : 0 < 0 = more.more in omega arith) ];
-  second = λ goes. elim goes [ inl take ↦ (let no : Gating ≡ Batch 0 1 take.0 = take.1 in cc) | inr more ↦ (let no : 0 < 0 = more.more in omega arith) ];
-  behind = λ goes. elim goes [ inl take ↦ (let no : Gating ≡ Batch 0 1 take.0 = take.1 in cc) | inr more ↦ (let no : 0 < 0 = more.more in omega arith) ];
-  ahead = (let less : 0 < 1 = omega arith in less);
-}
+blocked_one =
+    record { circle = record { first = (refl, refl); second = (refl, refl) }; behind = (refl, refl); ahead = (let less : 0 < 1 = omega arith in less) }
 
 stuck_of_circle : CompletesAll circle one 0 → ⊥
 unfolding Rattle.dr_meaning.specs.Meaning.Machine.least_outside
@@ -113,99 +128,192 @@ stuck_of_circle holds =
     let inside : 0 < 5 = omega arith in
     elim (holds inside refl) [
       | inl all ↦ (let no : ◌≡◌ {A = ℕ} 0 2 = all in omega arith)
-      | inr awaits ↦ circle_is_stuck one blocked_one 0 (inl refl) awaits
+      | inr awaits ↦ circle_is_stuck Single one blocked_one.circle 0 (inl refl) awaits
     ]
 
-stuck_behind : CompletesAll circle one 3 → ⊥
-unfolding Rattle.dr_meaning.specs.Meaning.Machine.least_outside
-stuck_behind holds =
-    let inside : 3 < 5 = omega arith in
-    elim (holds inside refl) [
-      | inl all ↦ (let no : ◌≡◌ {A = ℕ} 0 2 = all in omega arith)
-      | inr awaits ↦ behind_is_stuck one blocked_one awaits
-    ]
+pub returns-clause-each : goal.returns-clause-each
+returns-clause-each c c' m holds = (holds.publishes, holds.completes, holds.claims, holds.drains)
 
 pub returns-clause-whole : goal.returns-clause-whole
-unfolding Rattle.dr_meaning.specs.Meaning.Machine.least_outside
-returns-clause-whole c = (one, (refl, refl, (refl, refl, (refl, refl, (refl, refl, (refl, refl, (refl, refl, (refl, refl, (refl, refl, refl)))))))), λ whole. stuck_of_circle (whole.completes 0))
+returns-clause-whole c = (one, led_to_one, λ whole. stuck_of_circle (whole.completes 0))
 
 pub returns-clause-of_the_circle : goal.returns-clause-of_the_circle
+returns-clause-of_the_circle c = (one, led_to_one, stuck_of_circle)
+
+pub returns-clause-of_the_circle_at_first : goal.returns-clause-of_the_circle_at_first
 unfolding Rattle.dr_meaning.specs.Meaning.Machine.least_outside
-returns-clause-of_the_circle c = (one, (refl, refl, (refl, refl, (refl, refl, (refl, refl, (refl, refl, (refl, refl, (refl, refl, (refl, refl, refl)))))))), stuck_of_circle)
+returns-clause-of_the_circle_at_first c = (
+  after_all circle two_published,
+  (refl, refl, (refl, refl, (refl, refl, (refl, refl, refl)))),
+  λ holds.
+      (let inside : 1 < 5 = omega arith in
+      elim (holds inside refl) [
+        | inl all ↦ (let no : ◌≡◌ {A = ℕ} 0 2 = all in omega arith)
+        | inr awaits ↦ circle_is_stuck Single (after_all circle two_published) (record { first = (refl, refl); second = (refl, refl) }) 1 (inr refl) awaits
+      ]),
+)
 
 pub returns-clause-behind_the_circle : goal.returns-clause-behind_the_circle
 unfolding Rattle.dr_meaning.specs.Meaning.Machine.least_outside
-returns-clause-behind_the_circle c = (one, (refl, refl, (refl, refl, (refl, refl, (refl, refl, (refl, refl, (refl, refl, (refl, refl, (refl, refl, refl)))))))), stuck_behind)
+returns-clause-behind_the_circle c = (
+  one,
+  led_to_one,
+  λ holds.
+      (let inside : 4 < 5 = omega arith in
+      elim (holds inside refl) [
+        | inl all ↦ (let no : ◌≡◌ {A = ℕ} 0 2 = all in omega arith)
+        | inr awaits ↦ behind_is_stuck Single one blocked_one awaits
+      ]),
+)
 
-waits_one : ClaimAwaits circle one 1 → ⊥
+path_from_left_behind : (path : List ℕ) (to : ℕ) → IsPathUp line left_behind 2 path to → GoesOn line left_behind to → ⊥
 unfolding Rattle.dr_meaning.specs.Meaning.Machine.least_outside
-waits_one awaits =
-    let last : ℕ = awaits.last in
-    let has : Contains (3 ∷ 4 ∷ []) last = awaits.gates in
-    elim (either_at 3 4 last has.0 has.1 has.2) [
-      | inl behind ↦ behind_is_stuck one blocked_one (subst (λ h. AwaitedGoesOn circle one h) (sym behind) awaits.goes_on)
-      | inr alone ↦
-          let low : 2 + slice_index one.completed last < 3 = awaits.behind in
-          let more : 2 + 1 < 3 = subst (λ h. 2 + slice_index one.completed h < 3) (sym alone) low in
-          omega arith
-    ]
+path_from_left_behind [] to leads goes = waiting_stays line left_behind 2 (refl, refl) (subst (GoesOn line left_behind) (sym leads) goes)
+path_from_left_behind (up ∷ ups) to leads goes =
+    let waits : WaitsFor line left_behind 2 up = leads.0 in
+    let has : Contains (1 ∷ []) up = waits.upstream in
+    let no : true ≡ false = subst (λ h. left_behind.retired h ≡ false) (sym (only_at 1 up has.0 has.1 has.2)) waits.left in
+    cc
+
+pub returns-clause-behind_one_retired : goal.returns-clause-behind_one_retired
+unfolding Rattle.dr_meaning.specs.Meaning.Machine.least_outside
+returns-clause-behind_one_retired c = λ holds.
+    (let inside : 2 < 3 = omega arith in
+    elim (holds inside refl) [
+      | inl all ↦ (let no : ◌≡◌ {A = ℕ} 0 1 = all in omega arith)
+      | inr awaits ↦ path_from_left_behind awaits.path awaits.awaited awaits.leads awaits.goes_on
+    ])
 
 pub returns-clause-claim : goal.returns-clause-claim
 unfolding Rattle.dr_meaning.specs.Meaning.Machine.least_outside
 returns-clause-claim c = (
   one,
-  (refl, refl, (refl, refl, (refl, refl, (refl, refl, (refl, refl, (refl, refl, (refl, refl, (refl, refl, refl)))))))),
+  led_to_one,
   λ holds.
       (let producer : 0 < 1 = omega arith in
       let some : 0 < 1 = omega arith in
-      let limit : 3 ≤ 9 = omega arith in
-      let room : 3 ≤ 4 = omega arith in
-      elim (holds producer some refl limit room) [
+      let limit : 3 ≤ 4 = omega arith in
+      let left : 3 ≤ 3 = omega arith in
+      elim (holds producer some refl limit limit) [
         | inl granted ↦ (let no : Refused NoRoom ≡ Claimed 2 2 = granted in cc)
-        | inr awaits ↦ waits_one awaits
+        | inr awaits ↦ claim_is_stuck Single one 1 blocked_one refl left awaits
       ]),
 )
-
-waits_two : ClaimAwaits circle two 2 → ⊥
-unfolding Rattle.dr_meaning.specs.Meaning.Machine.least_outside
-waits_two awaits =
-    let last : ℕ = awaits.last in
-    let has : Contains (3 ∷ 4 ∷ []) last = awaits.gates in
-    elim (either_at 3 4 last has.0 has.1 has.2) [
-      | inl behind ↦ behind_is_stuck two blocked_two (subst (λ h. AwaitedGoesOn circle two h) (sym behind) awaits.goes_on)
-      | inr alone ↦
-          let low : 2 + slice_index two.completed last < 4 = awaits.behind in
-          let more : 2 + 2 < 4 = subst (λ h. 2 + slice_index two.completed h < 4) (sym alone) low in
-          omega arith
-    ]
 
 pub returns-clause-claim_of_two : goal.returns-clause-claim_of_two
 unfolding Rattle.dr_meaning.specs.Meaning.Machine.least_outside
 returns-clause-claim_of_two c = (
-  two,
-  (refl, refl, (refl, refl, (refl, refl, (refl, refl, (refl, refl, (refl, refl, (refl, refl, (refl, refl, (refl, refl, (refl, refl, refl)))))))))),
+  after_all circle two_completed,
+  (refl, refl, (refl, refl, (refl, refl, (refl, refl, (refl, refl, (refl, refl, (refl, refl, (refl, refl, (refl, refl, (refl, refl, (refl, refl, (refl, refl, refl)))))))))))),
   λ holds.
       (let producer : 0 < 1 = omega arith in
       let some : 0 < 2 = omega arith in
-      let limit : 4 ≤ 9 = omega arith in
-      let room : 4 ≤ 4 = omega arith in
-      elim (holds producer some refl limit room) [
+      let limit : 4 ≤ 4 = omega arith in
+      let less : 0 < 2 = omega arith in
+      elim (holds producer some refl limit limit) [
         | inl granted ↦ (let no : Refused NoRoom ≡ Claimed 2 3 = granted in cc)
-        | inr awaits ↦ waits_two awaits
+        | inr awaits ↦ claim_is_stuck Single (after_all circle two_completed) 2 (record { circle = record { first = (refl, refl); second = (refl, refl) }; behind = (refl, refl); ahead = less }) refl limit awaits
       ]),
 )
+
+pub returns-clause-claim_of_the_second_producer : goal.returns-clause-claim_of_the_second_producer
+unfolding Rattle.dr_meaning.specs.Meaning.Machine.least_outside
+returns-clause-claim_of_the_second_producer c = (
+  after_all shared_circle one_completed,
+  (refl, refl, (refl, refl, (refl, refl, (refl, refl, (refl, refl, (refl, refl, (refl, refl, (refl, refl, refl)))))))),
+  λ holds.
+      (let producer : 1 < 2 = omega arith in
+      let some : 0 < 1 = omega arith in
+      let limit : 3 ≤ 4 = omega arith in
+      let left : 3 ≤ 3 = omega arith in
+      elim (holds producer some refl limit limit) [
+        | inl granted ↦ (let no : Refused NoRoom ≡ Claimed 2 2 = granted in cc)
+        | inr awaits ↦ claim_is_stuck (Multi 2) (after_all shared_circle one_completed) 1 (record { circle = record { first = (refl, refl); second = (refl, refl) }; behind = (refl, refl); ahead = some }) refl left awaits
+      ]),
+)
+
+abbrev parted : State ℕ
+parted = after_all circle one_retired
+
+blocked_parted : IsBlockedBehind Single parted
+unfolding Rattle.dr_meaning.specs.Meaning.Machine.least_outside
+blocked_parted =
+    record { circle = record { first = (refl, refl); second = (refl, refl) }; behind = (refl, refl); ahead = (let less : 0 < 1 = omega arith in less) }
+
+-- the last one alone gates a claim there
+waits_parted : ClaimAwaits circle parted 2 → ⊥
+unfolding Rattle.dr_meaning.specs.Meaning.Machine.least_outside
+waits_parted awaits =
+    let last : ℕ = awaits.last in
+    let has : Contains (4 ∷ []) last = awaits.gates in
+    behind_is_stuck Single parted blocked_parted (subst (AwaitedGoesOn circle parted) (sym (only_at 4 last has.0 has.1 has.2)) awaits.goes_on)
+
+pub returns-clause-claim_after_a_retirement : goal.returns-clause-claim_after_a_retirement
+unfolding Rattle.dr_meaning.specs.Meaning.Machine.least_outside
+returns-clause-claim_after_a_retirement c = (
+  parted,
+  (refl, refl, (refl, refl, (refl, refl, (refl, refl, (refl, refl, (refl, refl, (refl, refl, (refl, refl, (refl, refl, refl))))))))),
+  λ holds.
+      (let producer : 0 < 1 = omega arith in
+      let some : 0 < 2 = omega arith in
+      let limit : 4 ≤ 4 = omega arith in
+      elim (holds producer some refl limit limit) [
+        | inl granted ↦ (let no : Refused NoRoom ≡ Claimed 2 3 = granted in cc)
+        | inr awaits ↦ waits_parted awaits
+      ]),
+)
+
+abbrev late : State ℕ
+late = after_all circle halted
+
+led_to_late : LeadsTo circle halted late
+unfolding Rattle.dr_meaning.specs.Meaning.Machine.least_outside
+led_to_late = (refl, refl, (refl, refl, (refl, refl, (refl, refl, (refl, refl, (refl, refl, (refl, refl, (refl, refl, (refl, refl, refl)))))))))
+
+blocked_late : IsBlockedBehind Single late
+unfolding Rattle.dr_meaning.specs.Meaning.Machine.least_outside
+blocked_late =
+    record { circle = record { first = (refl, refl); second = (refl, refl) }; behind = (refl, refl); ahead = (let less : 0 < 1 = omega arith in less) }
 
 pub returns-clause-after_a_halt : goal.returns-clause-after_a_halt
 unfolding Rattle.dr_meaning.specs.Meaning.Machine.least_outside
 returns-clause-after_a_halt c = (
   late,
-  (refl, refl, (refl, refl, (refl, refl, (refl, refl, (refl, refl, (refl, refl, (refl, refl, (refl, refl, (refl, refl, refl))))))))),
+  led_to_late,
   λ holds.
       (let inside : 0 < 5 = omega arith in
       let some : 0 < 1 = omega arith in
       elim (holds inside refl some refl refl) [
         | inl drained ↦ (let no : Gating ≡ Drained = drained in cc)
-        | inr awaits ↦ circle_is_stuck late blocked_late 0 (inl refl) awaits
+        | inr awaits ↦ circle_is_stuck Single late blocked_late.circle 0 (inl refl) awaits
+      ]),
+)
+
+pub returns-clause-after_a_halt_with_room : goal.returns-clause-after_a_halt_with_room
+unfolding Rattle.dr_meaning.specs.Meaning.Machine.least_outside
+returns-clause-after_a_halt_with_room c = (
+  late,
+  led_to_late,
+  λ holds.
+      (let inside : 1 < 5 = omega arith in
+      let some : 0 < 2 = omega arith in
+      elim (holds inside refl some refl refl) [
+        | inl drained ↦ (let no : Gating ≡ Drained = drained in cc)
+        | inr awaits ↦ circle_is_stuck Single late blocked_late.circle 1 (inr refl) awaits
+      ]),
+)
+
+pub returns-clause-after_a_halt_behind : goal.returns-clause-after_a_halt_behind
+unfolding Rattle.dr_meaning.specs.Meaning.Machine.least_outside
+returns-clause-after_a_halt_behind c = (
+  late,
+  led_to_late,
+  λ holds.
+      (let inside : 4 < 5 = omega arith in
+      let some : 0 < 1 = omega arith in
+      elim (holds inside refl some refl refl) [
+        | inl drained ↦ (let no : Gating ≡ Drained = drained in cc)
+        | inr awaits ↦ behind_is_stuck Single late blocked_late awaits
       ]),
 )
 
