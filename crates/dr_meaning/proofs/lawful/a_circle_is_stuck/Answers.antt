@@ -8,7 +8,7 @@ use Rattle.dr_meaning.specs.declared.mode.Mode.TheVariants.{Single, Multi}
 use Rattle.dr_meaning.specs.declared.refusal.Refusal.TheVariants.{NoRoom, NoProducer}
 use Rattle.dr_meaning.specs.Meaning.Machine.{Setup, State, opening, step, next, gating}
 use Rattle.dr_meaning.specs.Meaning.Transcript.{Transcript, LeadsTo}
-use Rattle.dr_meaning.specs.Meaning.Progress.{MayTake, MayComplete, WaitsFor, IsPathUp, CompletesAll, AwaitedGoesOn, ClaimAwaits, reply_to}
+use Rattle.dr_meaning.specs.Meaning.Progress.{MayTake, MayComplete, WaitsFor, IsPathUp, CompletesAll, AwaitedGoesOn, ClaimAwaits, Drains, reply_to}
 use Rattle.dr_meaning.specs.Meaning.Stuck.{circle_of, circle, shared_circle, line, one_completed, two_completed, one_retired, halted, left_behind}
 use Rattle.dr_meaning.specs.Meaning.TooFar.{two_published}
 use Rattle.dr_meaning.proofs.lawful.a_circle_is_stuck.Goals as goal
@@ -48,6 +48,10 @@ record IsBlockedBehind (mode : Mode) (m : State ℕ) : Type 0 where
   pub circle : IsBlocked mode m
   pub behind : Waits (circle_of mode) m 4
   pub ahead : slice_index m.taken 4 < slice_index m.completed 2
+
+waits_behind : (mode : Mode) (m : State ℕ) (n : ℕ) → Waits (circle_of mode) m 0 → Waits (circle_of mode) m 1 → Waits (circle_of mode) m 4 → slice_index m.taken 4 ≡ 0 → slice_index m.completed 2 ≡ suc n → IsBlockedBehind mode m
+waits_behind mode m n first second behind none some =
+    record { circle = record { first = first; second = second }; behind = behind; ahead = omega arith }
 
 only_at : (x up i : ℕ) → i < 1 → get_or (x ∷ []) i up ≡ up → x ≡ up
 only_at x up zero lt at = at
@@ -119,8 +123,7 @@ led_to_one = (refl, refl, (refl, refl, (refl, refl, (refl, refl, (refl, refl, (r
 
 blocked_one : IsBlockedBehind Single one
 unfolding Rattle.dr_meaning.specs.Meaning.Machine.least_outside
-blocked_one =
-    record { circle = record { first = (refl, refl); second = (refl, refl) }; behind = (refl, refl); ahead = (let less : 0 < 1 = omega arith in less) }
+blocked_one = waits_behind Single one 0 (refl, refl) (refl, refl) (refl, refl) refl refl
 
 stuck_of_circle : CompletesAll circle one 0 → ⊥
 unfolding Rattle.dr_meaning.specs.Meaning.Machine.least_outside
@@ -209,10 +212,9 @@ returns-clause-claim_of_two c = (
       (let producer : 0 < 1 = omega arith in
       let some : 0 < 2 = omega arith in
       let limit : 4 ≤ 4 = omega arith in
-      let less : 0 < 2 = omega arith in
       elim (holds producer some refl limit limit) [
         | inl granted ↦ (let no : Refused NoRoom ≡ Claimed 2 3 = granted in cc)
-        | inr awaits ↦ claim_is_stuck Single (after_all circle two_completed) 2 (record { circle = record { first = (refl, refl); second = (refl, refl) }; behind = (refl, refl); ahead = less }) refl limit awaits
+        | inr awaits ↦ claim_is_stuck Single (after_all circle two_completed) 2 (waits_behind Single (after_all circle two_completed) 1 (refl, refl) (refl, refl) (refl, refl) refl refl) refl limit awaits
       ]),
 )
 
@@ -228,7 +230,7 @@ returns-clause-claim_of_the_second_producer c = (
       let left : 3 ≤ 3 = omega arith in
       elim (holds producer some refl limit limit) [
         | inl granted ↦ (let no : Refused NoRoom ≡ Claimed 2 2 = granted in cc)
-        | inr awaits ↦ claim_is_stuck (Multi 2) (after_all shared_circle one_completed) 1 (record { circle = record { first = (refl, refl); second = (refl, refl) }; behind = (refl, refl); ahead = some }) refl left awaits
+        | inr awaits ↦ claim_is_stuck (Multi 2) (after_all shared_circle one_completed) 1 (waits_behind (Multi 2) (after_all shared_circle one_completed) 0 (refl, refl) (refl, refl) (refl, refl) refl refl) refl left awaits
       ]),
 )
 
@@ -237,8 +239,7 @@ parted = after_all circle one_retired
 
 blocked_parted : IsBlockedBehind Single parted
 unfolding Rattle.dr_meaning.specs.Meaning.Machine.least_outside
-blocked_parted =
-    record { circle = record { first = (refl, refl); second = (refl, refl) }; behind = (refl, refl); ahead = (let less : 0 < 1 = omega arith in less) }
+blocked_parted = waits_behind Single parted 0 (refl, refl) (refl, refl) (refl, refl) refl refl
 
 -- the last one alone gates a claim there
 waits_parted : ClaimAwaits circle parted 2 → ⊥
@@ -272,50 +273,30 @@ led_to_late = (refl, refl, (refl, refl, (refl, refl, (refl, refl, (refl, refl, (
 
 blocked_late : IsBlockedBehind Single late
 unfolding Rattle.dr_meaning.specs.Meaning.Machine.least_outside
-blocked_late =
-    record { circle = record { first = (refl, refl); second = (refl, refl) }; behind = (refl, refl); ahead = (let less : 0 < 1 = omega arith in less) }
+blocked_late = waits_behind Single late 0 (refl, refl) (refl, refl) (refl, refl) refl refl
+
+drains_no_more : (h max : ℕ) → h < 5 → 0 < max → reply_to circle late (Poll h max) ≡ Gating → (AwaitedGoesOn circle late h → ⊥) → Drains circle late h max → ⊥
+unfolding Rattle.dr_meaning.specs.Meaning.Machine.least_outside
+drains_no_more h max inside some reply stuck holds =
+    elim (holds inside refl some refl refl) [
+      | inl drained ↦ (let no : Gating ≡ Drained = subst (λ r. r ≡ Drained) reply drained in cc)
+      | inr awaits ↦ stuck awaits
+    ]
 
 pub returns-clause-after_a_halt : goal.returns-clause-after_a_halt
 unfolding Rattle.dr_meaning.specs.Meaning.Machine.least_outside
-returns-clause-after_a_halt c = (
-  late,
-  led_to_late,
-  λ holds.
-      (let inside : 0 < 5 = omega arith in
-      let some : 0 < 1 = omega arith in
-      elim (holds inside refl some refl refl) [
-        | inl drained ↦ (let no : Gating ≡ Drained = drained in cc)
-        | inr awaits ↦ circle_is_stuck Single late blocked_late.circle 0 (inl refl) awaits
-      ]),
-)
+returns-clause-after_a_halt c =
+    (late, led_to_late, drains_no_more 0 1 (omega arith) (omega arith) refl (circle_is_stuck Single late blocked_late.circle 0 (inl refl)))
 
 pub returns-clause-after_a_halt_with_room : goal.returns-clause-after_a_halt_with_room
 unfolding Rattle.dr_meaning.specs.Meaning.Machine.least_outside
-returns-clause-after_a_halt_with_room c = (
-  late,
-  led_to_late,
-  λ holds.
-      (let inside : 1 < 5 = omega arith in
-      let some : 0 < 2 = omega arith in
-      elim (holds inside refl some refl refl) [
-        | inl drained ↦ (let no : Gating ≡ Drained = drained in cc)
-        | inr awaits ↦ circle_is_stuck Single late blocked_late.circle 1 (inr refl) awaits
-      ]),
-)
+returns-clause-after_a_halt_with_room c =
+    (late, led_to_late, drains_no_more 1 2 (omega arith) (omega arith) refl (circle_is_stuck Single late blocked_late.circle 1 (inr refl)))
 
 pub returns-clause-after_a_halt_behind : goal.returns-clause-after_a_halt_behind
 unfolding Rattle.dr_meaning.specs.Meaning.Machine.least_outside
-returns-clause-after_a_halt_behind c = (
-  late,
-  led_to_late,
-  λ holds.
-      (let inside : 4 < 5 = omega arith in
-      let some : 0 < 1 = omega arith in
-      elim (holds inside refl some refl refl) [
-        | inl drained ↦ (let no : Gating ≡ Drained = drained in cc)
-        | inr awaits ↦ behind_is_stuck Single late blocked_late awaits
-      ]),
-)
+returns-clause-after_a_halt_behind c =
+    (late, led_to_late, drains_no_more 4 1 (omega arith) (omega arith) refl (behind_is_stuck Single late blocked_late))
 
 pub returns-clause-claimed_by_nobody : goal.returns-clause-claimed_by_nobody
 unfolding Rattle.dr_meaning.specs.Meaning.Machine.least_outside
