@@ -108,9 +108,10 @@ pub fn nobody_is_stuck<E>()
 
 /// That nobody is stuck says each of its four facts, and is false where somebody is. Where two handlers
 /// wait for each other, as in no graph, neither goes on, nor does the last one, which waits for them,
-/// though others can; a claim that this one gates is not accepted, of whichever producer, and after a
-/// halt none of the three is told `Drained`. Nor does a handler go on that follows a retired one, nor
-/// is a sequence published whose producer is none of those that there are.
+/// though others can. A claim that this one gates is not accepted, also of two sequences, of a second
+/// producer, or after a retirement; after a halt none of the three is told `Drained`, the second one at
+/// a poll with room for two. Nor does a handler go on that follows a retired one, nor is a sequence
+/// published whose producer is none of those that there are.
 pub fn a_circle_is_stuck()
     ensures each { (c : Setup) (m : State ℕ) → NobodyIsStuck c m → PublishesFront c m × ((h : ℕ) → CompletesAll c m h) × ((p n : ℕ) → ClaimsRound c m p n) × ((h max : ℕ) → Drains c m h max) }
     ensures whole { IsFalseAfter circle one_completed (λ m. NobodyIsStuck circle m) }

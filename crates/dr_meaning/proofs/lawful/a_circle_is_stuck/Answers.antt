@@ -8,7 +8,7 @@ use Rattle.dr_meaning.specs.declared.mode.Mode.TheVariants.{Single, Multi}
 use Rattle.dr_meaning.specs.declared.refusal.Refusal.TheVariants.{NoRoom, NoProducer}
 use Rattle.dr_meaning.specs.Meaning.Machine.{Setup, State, opening, step, next, gating}
 use Rattle.dr_meaning.specs.Meaning.Transcript.{Transcript, LeadsTo}
-use Rattle.dr_meaning.specs.Meaning.Progress.{MayTake, MayComplete, WaitsFor, IsPathUp, CompletesAll, AwaitedGoesOn, ClaimAwaits, Drains, reply_to}
+use Rattle.dr_meaning.specs.Meaning.Progress.{MayTake, MayComplete, WaitsFor, IsPathUp, CompletesAll, AwaitedGoesOn, reply_to}
 use Rattle.dr_meaning.specs.Meaning.Stuck.{circle_of, circle, shared_circle, line, one_completed, two_completed, one_retired, halted, left_behind}
 use Rattle.dr_meaning.specs.Meaning.TooFar.{two_published}
 use Rattle.dr_meaning.proofs.lawful.a_circle_is_stuck.Goals as goal
@@ -28,18 +28,41 @@ GoesOn c m h = MayTake c m h ⊎ MayComplete c m h
 abbrev Waits : Setup → State ℕ → ℕ → Type 0
 Waits c m h = (reply_to c m (Poll h 1) ≡ Gating) × (slice_index m.completed h ≡ slice_index m.taken h)
 
-waiting_stays : (c : Setup) (m : State ℕ) (h : ℕ) → Waits c m h → GoesOn c m h → ⊥
-waiting_stays c m h waits goes =
+waiting_stays : (c : Setup) (m : State ℕ) (h : ℕ) → (MayComplete c m h → slice_index m.completed h < slice_index m.taken h) → Waits c m h → GoesOn c m h → ⊥
+waiting_stays c m h reads waits goes =
     elim goes [
       | inl take ↦ (let no : Gating ≡ Batch (slice_index m.taken h) 1 take.0 = subst (λ r. r ≡ Batch (slice_index m.taken h) 1 take.0) waits.0 take.1 in cc)
       | inr may ↦
           (let same : slice_index m.completed h ≡ slice_index m.taken h = waits.1 in
-          let more : slice_index m.completed h < slice_index m.taken h = may.more in
+          let more : slice_index m.completed h < slice_index m.taken h = reads may in
           omega arith)
     ]
 
+-- what the definitions say, which the answer that an edit of one names reads itself
+record Reads (mode : Mode) (m : State ℕ) : Type 0 where
+  pub upstream : (h up : ℕ) → WaitsFor (circle_of mode) m h up → Contains (upstreams_of circle.upstreams h) up
+  pub taken : (h up : ℕ) → WaitsFor (circle_of mode) m h up → slice_index m.completed up ≤ slice_index m.taken h
+  pub ends : (from to : ℕ) → IsPathUp (circle_of mode) m from [] to → from ≡ to
+  pub more : (h : ℕ) → MayComplete (circle_of mode) m h → slice_index m.completed h < slice_index m.taken h
+
+read_upstream : (mode : Mode) (m : State ℕ) (h up : ℕ) → WaitsFor (circle_of mode) m h up → Contains (upstreams_of circle.upstreams h) up
+read_upstream mode m h up waits = waits.upstream
+
+read_taken : (mode : Mode) (m : State ℕ) (h up : ℕ) → WaitsFor (circle_of mode) m h up → slice_index m.completed up ≤ slice_index m.taken h
+read_taken mode m h up waits = waits.taken
+
+read_end : (mode : Mode) (m : State ℕ) (from to : ℕ) → IsPathUp (circle_of mode) m from [] to → from ≡ to
+read_end mode m from to leads = leads
+
+read_more : (mode : Mode) (m : State ℕ) (h : ℕ) → MayComplete (circle_of mode) m h → slice_index m.completed h < slice_index m.taken h
+read_more mode m h may = may.more
+
+reads : (mode : Mode) (m : State ℕ) → Reads mode m
+reads mode m = record { upstream = read_upstream mode m; taken = read_taken mode m; ends = read_end mode m; more = read_more mode m }
+
 -- both of the circle wait
 record IsBlocked (mode : Mode) (m : State ℕ) : Type 0 where
+  pub reads : Reads mode m
   pub first : Waits (circle_of mode) m 0
   pub second : Waits (circle_of mode) m 1
 
@@ -49,9 +72,9 @@ record IsBlockedBehind (mode : Mode) (m : State ℕ) : Type 0 where
   pub behind : Waits (circle_of mode) m 4
   pub ahead : slice_index m.taken 4 < slice_index m.completed 2
 
-waits_behind : (mode : Mode) (m : State ℕ) (n : ℕ) → Waits (circle_of mode) m 0 → Waits (circle_of mode) m 1 → Waits (circle_of mode) m 4 → slice_index m.taken 4 ≡ 0 → slice_index m.completed 2 ≡ suc n → IsBlockedBehind mode m
-waits_behind mode m n first second behind none some =
-    record { circle = record { first = first; second = second }; behind = behind; ahead = omega arith }
+waits_behind : (mode : Mode) (m : State ℕ) (n : ℕ) → Reads mode m → Waits (circle_of mode) m 0 → Waits (circle_of mode) m 1 → Waits (circle_of mode) m 4 → slice_index m.taken 4 ≡ 0 → slice_index m.completed 2 ≡ suc n → IsBlockedBehind mode m
+waits_behind mode m n read first second behind none some =
+    record { circle = record { reads = read; first = first; second = second }; behind = behind; ahead = omega arith }
 
 only_at : (x up i : ℕ) → i < 1 → get_or (x ∷ []) i up ≡ up → x ≡ up
 only_at x up zero lt at = at
@@ -61,35 +84,35 @@ either_at : (x y up i : ℕ) → i < 2 → get_or (x ∷ y ∷ []) i up ≡ up �
 either_at x y up zero lt at = inl at
 either_at x y up (suc i) lt at = inr (only_at y up i (omega arith) at)
 
-circle_up : (mode : Mode) (m : State ℕ) (h up : ℕ) → IsOfCircle h → WaitsFor (circle_of mode) m h up → IsOfCircle up
-circle_up mode m h up (inl e) waits =
-    let has : Contains (1 ∷ []) up = subst (λ k. Contains (upstreams_of circle.upstreams k) up) e waits.upstream in
+circle_up : (mode : Mode) (m : State ℕ) → Reads mode m → (h up : ℕ) → IsOfCircle h → WaitsFor (circle_of mode) m h up → IsOfCircle up
+circle_up mode m r h up (inl e) waits =
+    let has : Contains (1 ∷ []) up = subst (λ k. Contains (upstreams_of circle.upstreams k) up) e (r.upstream h up waits) in
     inr (sym (only_at 1 up has.0 has.1 has.2))
-circle_up mode m h up (inr e) waits =
-    let has : Contains (0 ∷ []) up = subst (λ k. Contains (upstreams_of circle.upstreams k) up) e waits.upstream in
+circle_up mode m r h up (inr e) waits =
+    let has : Contains (0 ∷ []) up = subst (λ k. Contains (upstreams_of circle.upstreams k) up) e (r.upstream h up waits) in
     inl (sym (only_at 0 up has.0 has.1 has.2))
 
-path_in_circle : (mode : Mode) (m : State ℕ) (path : List ℕ) (from to : ℕ) → IsOfCircle from → IsPathUp (circle_of mode) m from path to → IsOfCircle to
-path_in_circle mode m [] from to here leads = subst IsOfCircle leads here
-path_in_circle mode m (up ∷ ups) from to here leads = path_in_circle mode m ups up to (circle_up mode m from up here leads.0) leads.1
+path_in_circle : (mode : Mode) (m : State ℕ) → Reads mode m → (path : List ℕ) (from to : ℕ) → IsOfCircle from → IsPathUp (circle_of mode) m from path to → IsOfCircle to
+path_in_circle mode m r [] from to here leads = subst IsOfCircle (r.ends from to leads) here
+path_in_circle mode m r (up ∷ ups) from to here leads = path_in_circle mode m r ups up to (circle_up mode m r from up here leads.0) leads.1
 
 blocked : (mode : Mode) (m : State ℕ) → IsBlocked mode m → (h : ℕ) → IsOfCircle h → GoesOn (circle_of mode) m h → ⊥
-blocked mode m b h (inl e) goes = waiting_stays (circle_of mode) m 0 b.first (subst (GoesOn (circle_of mode) m) e goes)
-blocked mode m b h (inr e) goes = waiting_stays (circle_of mode) m 1 b.second (subst (GoesOn (circle_of mode) m) e goes)
+blocked mode m b h (inl e) goes = waiting_stays (circle_of mode) m 0 (b.reads.more 0) b.first (subst (GoesOn (circle_of mode) m) e goes)
+blocked mode m b h (inr e) goes = waiting_stays (circle_of mode) m 1 (b.reads.more 1) b.second (subst (GoesOn (circle_of mode) m) e goes)
 
 circle_is_stuck : (mode : Mode) (m : State ℕ) → IsBlocked mode m → (h : ℕ) → IsOfCircle h → AwaitedGoesOn (circle_of mode) m h → ⊥
 circle_is_stuck mode m b h here awaits =
-    blocked mode m b awaits.awaited (path_in_circle mode m awaits.path h awaits.awaited here awaits.leads) awaits.goes_on
+    blocked mode m b awaits.awaited (path_in_circle mode m b.reads awaits.path h awaits.awaited here awaits.leads) awaits.goes_on
 
 path_behind : (mode : Mode) (m : State ℕ) → IsBlockedBehind mode m → (path : List ℕ) (to : ℕ) → IsPathUp (circle_of mode) m 4 path to → GoesOn (circle_of mode) m to → ⊥
-path_behind mode m b [] to leads goes = waiting_stays (circle_of mode) m 4 b.behind (subst (GoesOn (circle_of mode) m) (sym leads) goes)
+path_behind mode m b [] to leads goes = waiting_stays (circle_of mode) m 4 (b.circle.reads.more 4) b.behind (subst (GoesOn (circle_of mode) m) (sym (b.circle.reads.ends 4 to leads)) goes)
 path_behind mode m b (up ∷ ups) to leads goes =
     let waits : WaitsFor (circle_of mode) m 4 up = leads.0 in
-    let has : Contains (1 ∷ 2 ∷ []) up = waits.upstream in
+    let has : Contains (1 ∷ 2 ∷ []) up = b.circle.reads.upstream 4 up waits in
     elim (either_at 1 2 up has.0 has.1 has.2) [
-      | inl second ↦ blocked mode m b.circle to (path_in_circle mode m ups up to (inr (sym second)) leads.1) goes
+      | inl second ↦ blocked mode m b.circle to (path_in_circle mode m b.circle.reads ups up to (inr (sym second)) leads.1) goes
       | inr third ↦
-          let low : slice_index m.completed up ≤ slice_index m.taken 4 = waits.taken in
+          let low : slice_index m.completed up ≤ slice_index m.taken 4 = b.circle.reads.taken 4 up waits in
           let same : slice_index m.completed 2 ≡ slice_index m.completed up = ap (λ k. slice_index m.completed k) third in
           let more : slice_index m.taken 4 < slice_index m.completed 2 = b.ahead in
           absurd (omega arith)
@@ -99,16 +122,14 @@ behind_is_stuck : (mode : Mode) (m : State ℕ) → IsBlockedBehind mode m → A
 behind_is_stuck mode m b awaits = path_behind mode m b awaits.path awaits.awaited awaits.leads awaits.goes_on
 
 -- a claim waits for nobody that can go on, where the last two gate it and the fourth left room
-claim_is_stuck : (mode : Mode) (m : State ℕ) (n : ℕ) → IsBlockedBehind mode m → gating (circle_of mode) m ≡ 3 ∷ 4 ∷ [] → next m + n ≤ 2 + slice_index m.completed 3 → ClaimAwaits (circle_of mode) m n → ⊥
-claim_is_stuck mode m n b gates room awaits =
-    let last : ℕ = awaits.last in
-    let has : Contains (3 ∷ 4 ∷ []) last = subst (λ hs. Contains hs last) gates awaits.gates in
+claim_is_stuck : (mode : Mode) (m : State ℕ) (n : ℕ) → IsBlockedBehind mode m → gating (circle_of mode) m ≡ 3 ∷ 4 ∷ [] → next m + n ≤ 2 + slice_index m.completed 3 → (last : ℕ) → Contains (gating (circle_of mode) m) last → 2 + slice_index m.completed last < next m + n → AwaitedGoesOn (circle_of mode) m last → ⊥
+claim_is_stuck mode m n b gates room last gating_last low goes_on =
+    let has : Contains (3 ∷ 4 ∷ []) last = subst (λ hs. Contains hs last) gates gating_last in
     elim (either_at 3 4 last has.0 has.1 has.2) [
       | inl beside ↦
-          let low : 2 + slice_index m.completed last < next m + n = awaits.behind in
           let same : slice_index m.completed 3 ≡ slice_index m.completed last = ap (λ k. slice_index m.completed k) beside in
           omega arith
-      | inr behind ↦ behind_is_stuck mode m b (subst (AwaitedGoesOn (circle_of mode) m) (sym behind) awaits.goes_on)
+      | inr behind ↦ behind_is_stuck mode m b (subst (AwaitedGoesOn (circle_of mode) m) (sym behind) goes_on)
     ]
 
 abbrev after_all : Setup → Transcript ℕ → State ℕ
@@ -121,38 +142,45 @@ led_to_one : LeadsTo circle one_completed one
 unfolding Rattle.dr_meaning.specs.Meaning.Machine.least_outside
 led_to_one = (refl, refl, (refl, refl, (refl, refl, (refl, refl, (refl, refl, (refl, refl, (refl, refl, (refl, refl, refl))))))))
 
-blocked_one : IsBlockedBehind Single one
+blocked_one : Reads Single one → IsBlockedBehind Single one
 unfolding Rattle.dr_meaning.specs.Meaning.Machine.least_outside
-blocked_one = waits_behind Single one 0 (refl, refl) (refl, refl) (refl, refl) refl refl
+blocked_one read = waits_behind Single one 0 read (refl, refl) (refl, refl) (refl, refl) refl refl
 
-stuck_of_circle : CompletesAll circle one 0 → ⊥
+stuck_of_circle : Reads Single one → CompletesAll circle one 0 → ⊥
 unfolding Rattle.dr_meaning.specs.Meaning.Machine.least_outside
-stuck_of_circle holds =
+stuck_of_circle read holds =
     let inside : 0 < 5 = omega arith in
     elim (holds inside refl) [
       | inl all ↦ (let no : ◌≡◌ {A = ℕ} 0 2 = all in omega arith)
-      | inr awaits ↦ circle_is_stuck Single one blocked_one.circle 0 (inl refl) awaits
+      | inr awaits ↦ circle_is_stuck Single one (blocked_one read).circle 0 (inl refl) awaits
     ]
 
 pub returns-clause-each : goal.returns-clause-each
 returns-clause-each c c' m holds = (holds.publishes, holds.completes, holds.claims, holds.drains)
 
 pub returns-clause-whole : goal.returns-clause-whole
-returns-clause-whole c = (one, led_to_one, λ whole. stuck_of_circle (whole.completes 0))
+returns-clause-whole c = (one, led_to_one, λ whole. stuck_of_circle (reads Single one) (whole.completes 0))
 
 pub returns-clause-of_the_circle : goal.returns-clause-of_the_circle
-returns-clause-of_the_circle c = (one, led_to_one, stuck_of_circle)
+returns-clause-of_the_circle c = (
+  one,
+  led_to_one,
+  stuck_of_circle (record { upstream = read_upstream Single one; taken = read_taken Single one; ends = λ from to leads. leads; more = λ h may. may.more }),
+)
+
+abbrev first_state : State ℕ
+first_state = after_all circle two_published
 
 pub returns-clause-of_the_circle_at_first : goal.returns-clause-of_the_circle_at_first
 unfolding Rattle.dr_meaning.specs.Meaning.Machine.least_outside
 returns-clause-of_the_circle_at_first c = (
-  after_all circle two_published,
+  first_state,
   (refl, refl, (refl, refl, (refl, refl, (refl, refl, refl)))),
   λ holds.
       (let inside : 1 < 5 = omega arith in
       elim (holds inside refl) [
         | inl all ↦ (let no : ◌≡◌ {A = ℕ} 0 2 = all in omega arith)
-        | inr awaits ↦ circle_is_stuck Single (after_all circle two_published) (record { first = (refl, refl); second = (refl, refl) }) 1 (inr refl) awaits
+        | inr awaits ↦ circle_is_stuck Single first_state (record { reads = record { upstream = λ h up waits. waits.upstream; taken = read_taken Single first_state; ends = read_end Single first_state; more = read_more Single first_state }; first = (refl, refl); second = (refl, refl) }) 1 (inr refl) awaits
       ]),
 )
 
@@ -165,17 +193,17 @@ returns-clause-behind_the_circle c = (
       (let inside : 4 < 5 = omega arith in
       elim (holds inside refl) [
         | inl all ↦ (let no : ◌≡◌ {A = ℕ} 0 2 = all in omega arith)
-        | inr awaits ↦ behind_is_stuck Single one blocked_one awaits
+        | inr awaits ↦ behind_is_stuck Single one (blocked_one (record { upstream = read_upstream Single one; taken = λ h up waits. waits.taken; ends = read_end Single one; more = read_more Single one })) awaits
       ]),
 )
 
-path_from_left_behind : (path : List ℕ) (to : ℕ) → IsPathUp line left_behind 2 path to → GoesOn line left_behind to → ⊥
+path_from_left_behind : ((up : ℕ) → WaitsFor line left_behind 2 up → left_behind.retired up ≡ false) → (path : List ℕ) (to : ℕ) → IsPathUp line left_behind 2 path to → GoesOn line left_behind to → ⊥
 unfolding Rattle.dr_meaning.specs.Meaning.Machine.least_outside
-path_from_left_behind [] to leads goes = waiting_stays line left_behind 2 (refl, refl) (subst (GoesOn line left_behind) (sym leads) goes)
-path_from_left_behind (up ∷ ups) to leads goes =
+path_from_left_behind left [] to leads goes = waiting_stays line left_behind 2 (λ may. may.more) (refl, refl) (subst (GoesOn line left_behind) (sym leads) goes)
+path_from_left_behind left (up ∷ ups) to leads goes =
     let waits : WaitsFor line left_behind 2 up = leads.0 in
     let has : Contains (1 ∷ []) up = waits.upstream in
-    let no : true ≡ false = subst (λ h. left_behind.retired h ≡ false) (sym (only_at 1 up has.0 has.1 has.2)) waits.left in
+    let no : true ≡ false = subst (λ h. left_behind.retired h ≡ false) (sym (only_at 1 up has.0 has.1 has.2)) (left up waits) in
     cc
 
 pub returns-clause-behind_one_retired : goal.returns-clause-behind_one_retired
@@ -184,7 +212,7 @@ returns-clause-behind_one_retired c = λ holds.
     (let inside : 2 < 3 = omega arith in
     elim (holds inside refl) [
       | inl all ↦ (let no : ◌≡◌ {A = ℕ} 0 1 = all in omega arith)
-      | inr awaits ↦ path_from_left_behind awaits.path awaits.awaited awaits.leads awaits.goes_on
+      | inr awaits ↦ path_from_left_behind (λ up waits. waits.left) awaits.path awaits.awaited awaits.leads awaits.goes_on
     ])
 
 pub returns-clause-claim : goal.returns-clause-claim
@@ -199,7 +227,7 @@ returns-clause-claim c = (
       let left : 3 ≤ 3 = omega arith in
       elim (holds producer some refl limit limit) [
         | inl granted ↦ (let no : Refused NoRoom ≡ Claimed 2 2 = granted in cc)
-        | inr awaits ↦ claim_is_stuck Single one 1 blocked_one refl left awaits
+        | inr awaits ↦ claim_is_stuck Single one 1 (blocked_one (reads Single one)) refl left awaits.last awaits.gates awaits.behind awaits.goes_on
       ]),
 )
 
@@ -214,7 +242,7 @@ returns-clause-claim_of_two c = (
       let limit : 4 ≤ 4 = omega arith in
       elim (holds producer some refl limit limit) [
         | inl granted ↦ (let no : Refused NoRoom ≡ Claimed 2 3 = granted in cc)
-        | inr awaits ↦ claim_is_stuck Single (after_all circle two_completed) 2 (waits_behind Single (after_all circle two_completed) 1 (refl, refl) (refl, refl) (refl, refl) refl refl) refl limit awaits
+        | inr awaits ↦ claim_is_stuck Single (after_all circle two_completed) 2 (waits_behind Single (after_all circle two_completed) 1 (reads Single (after_all circle two_completed)) (refl, refl) (refl, refl) (refl, refl) refl refl) refl limit awaits.last awaits.gates awaits.behind awaits.goes_on
       ]),
 )
 
@@ -230,7 +258,7 @@ returns-clause-claim_of_the_second_producer c = (
       let left : 3 ≤ 3 = omega arith in
       elim (holds producer some refl limit limit) [
         | inl granted ↦ (let no : Refused NoRoom ≡ Claimed 2 2 = granted in cc)
-        | inr awaits ↦ claim_is_stuck (Multi 2) (after_all shared_circle one_completed) 1 (waits_behind (Multi 2) (after_all shared_circle one_completed) 0 (refl, refl) (refl, refl) (refl, refl) refl refl) refl left awaits
+        | inr awaits ↦ claim_is_stuck (Multi 2) (after_all shared_circle one_completed) 1 (waits_behind (Multi 2) (after_all shared_circle one_completed) 0 (reads (Multi 2) (after_all shared_circle one_completed)) (refl, refl) (refl, refl) (refl, refl) refl refl) refl left awaits.last awaits.gates awaits.behind awaits.goes_on
       ]),
 )
 
@@ -239,15 +267,14 @@ parted = after_all circle one_retired
 
 blocked_parted : IsBlockedBehind Single parted
 unfolding Rattle.dr_meaning.specs.Meaning.Machine.least_outside
-blocked_parted = waits_behind Single parted 0 (refl, refl) (refl, refl) (refl, refl) refl refl
+blocked_parted = waits_behind Single parted 0 (reads Single parted) (refl, refl) (refl, refl) (refl, refl) refl refl
 
 -- the last one alone gates a claim there
-waits_parted : ClaimAwaits circle parted 2 → ⊥
+stuck_parted : (last : ℕ) → Contains (gating circle parted) last → AwaitedGoesOn circle parted last → ⊥
 unfolding Rattle.dr_meaning.specs.Meaning.Machine.least_outside
-waits_parted awaits =
-    let last : ℕ = awaits.last in
-    let has : Contains (4 ∷ []) last = awaits.gates in
-    behind_is_stuck Single parted blocked_parted (subst (AwaitedGoesOn circle parted) (sym (only_at 4 last has.0 has.1 has.2)) awaits.goes_on)
+stuck_parted last gates goes_on =
+    let has : Contains (4 ∷ []) last = gates in
+    behind_is_stuck Single parted blocked_parted (subst (AwaitedGoesOn circle parted) (sym (only_at 4 last has.0 has.1 has.2)) goes_on)
 
 pub returns-clause-claim_after_a_retirement : goal.returns-clause-claim_after_a_retirement
 unfolding Rattle.dr_meaning.specs.Meaning.Machine.least_outside
@@ -260,7 +287,7 @@ returns-clause-claim_after_a_retirement c = (
       let limit : 4 ≤ 4 = omega arith in
       elim (holds producer some refl limit limit) [
         | inl granted ↦ (let no : Refused NoRoom ≡ Claimed 2 3 = granted in cc)
-        | inr awaits ↦ waits_parted awaits
+        | inr awaits ↦ stuck_parted awaits.last awaits.gates awaits.goes_on
       ]),
 )
 
@@ -273,30 +300,47 @@ led_to_late = (refl, refl, (refl, refl, (refl, refl, (refl, refl, (refl, refl, (
 
 blocked_late : IsBlockedBehind Single late
 unfolding Rattle.dr_meaning.specs.Meaning.Machine.least_outside
-blocked_late = waits_behind Single late 0 (refl, refl) (refl, refl) (refl, refl) refl refl
+blocked_late = waits_behind Single late 0 (reads Single late) (refl, refl) (refl, refl) (refl, refl) refl refl
 
-drains_no_more : (h max : ℕ) → h < 5 → 0 < max → reply_to circle late (Poll h max) ≡ Gating → (AwaitedGoesOn circle late h → ⊥) → Drains circle late h max → ⊥
-unfolding Rattle.dr_meaning.specs.Meaning.Machine.least_outside
-drains_no_more h max inside some reply stuck holds =
-    elim (holds inside refl some refl refl) [
+halt_is_stuck : (h max : ℕ) → reply_to circle late (Poll h max) ≡ Gating → (AwaitedGoesOn circle late h → ⊥) → (reply_to circle late (Poll h max) ≡ Drained) ⊎ AwaitedGoesOn circle late h → ⊥
+halt_is_stuck h max reply stuck either =
+    elim either [
       | inl drained ↦ (let no : Gating ≡ Drained = subst (λ r. r ≡ Drained) reply drained in cc)
       | inr awaits ↦ stuck awaits
     ]
 
 pub returns-clause-after_a_halt : goal.returns-clause-after_a_halt
 unfolding Rattle.dr_meaning.specs.Meaning.Machine.least_outside
-returns-clause-after_a_halt c =
-    (late, led_to_late, drains_no_more 0 1 (omega arith) (omega arith) refl (circle_is_stuck Single late blocked_late.circle 0 (inl refl)))
+returns-clause-after_a_halt c = (
+  late,
+  led_to_late,
+  λ holds.
+      (let inside : 0 < 5 = omega arith in
+      let some : 0 < 1 = omega arith in
+      halt_is_stuck 0 1 refl (circle_is_stuck Single late blocked_late.circle 0 (inl refl)) (holds inside refl some refl refl)),
+)
 
 pub returns-clause-after_a_halt_with_room : goal.returns-clause-after_a_halt_with_room
 unfolding Rattle.dr_meaning.specs.Meaning.Machine.least_outside
-returns-clause-after_a_halt_with_room c =
-    (late, led_to_late, drains_no_more 1 2 (omega arith) (omega arith) refl (circle_is_stuck Single late blocked_late.circle 1 (inr refl)))
+returns-clause-after_a_halt_with_room c = (
+  late,
+  led_to_late,
+  λ holds.
+      (let inside : 1 < 5 = omega arith in
+      let some : 0 < 2 = omega arith in
+      halt_is_stuck 1 2 refl (circle_is_stuck Single late blocked_late.circle 1 (inr refl)) (holds inside refl some refl refl)),
+)
 
 pub returns-clause-after_a_halt_behind : goal.returns-clause-after_a_halt_behind
 unfolding Rattle.dr_meaning.specs.Meaning.Machine.least_outside
-returns-clause-after_a_halt_behind c =
-    (late, led_to_late, drains_no_more 4 1 (omega arith) (omega arith) refl (behind_is_stuck Single late blocked_late))
+returns-clause-after_a_halt_behind c = (
+  late,
+  led_to_late,
+  λ holds.
+      (let inside : 4 < 5 = omega arith in
+      let some : 0 < 1 = omega arith in
+      halt_is_stuck 4 1 refl (behind_is_stuck Single late blocked_late) (holds inside refl some refl refl)),
+)
 
 pub returns-clause-claimed_by_nobody : goal.returns-clause-claimed_by_nobody
 unfolding Rattle.dr_meaning.specs.Meaning.Machine.least_outside
