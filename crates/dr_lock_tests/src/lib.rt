@@ -25,8 +25,6 @@ mod playing;
 #[cfg(test)]
 mod ringing;
 #[cfg(test)]
-mod rounds;
-#[cfg(test)]
 mod rows;
 #[cfg(test)]
 mod turns;

@@ -113,6 +113,7 @@ pub unhalted_before : (e e' : SenderEnd) → ClosesOnceDone e e' → FoundUnhalt
 unhalted_before e e' closes found = subst (λ (l : List Look). last_look 0 l halt_word ≡ 0) closes.saw found
 
 -- where nobody else halted the ring, none is: of a new ring's sender that leaves nothing open, and claims no more than its slots, as its limit allows
+-- (that a ring has slots is told by a claim that was tried, so the premise on their number may lean on it)
 pub no_refusal_within : (k : Shape) (given last back : SenderEnd) (calls : List (InletCall Event)) (n : ℕ) (trouble : Trouble) → given.knows ≡ fresh_sender k
     → CallsLead sender_does given calls back → back.knows.sent.pending ≡ [] → FoundUnhalted back.knows → 0 < n → (0 < k.size → n ≤ k.size)
     → length back.knows.sent.published + n ≤ k.limit → trouble ≢ Refused NoRoom
