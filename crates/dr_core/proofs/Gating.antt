@@ -1,5 +1,5 @@
 -- The least count of the finals, and what of it is remembered.
-use Rattle.std.proofs.Common.{◌≡◌, ℕ, zero, suc, ◌+◌, ◌-◌, ◌<◌, ◌≤◌, ◌≢◌, ◌^◌, inl, inr, Bool, true, false, List, [], ◌∷◌, arith}
+use Rattle.std.proofs.Common.{◌≡◌, ℕ, zero, suc, ◌+◌, ◌<◌, ◌≤◌, ◌≢◌, ◌^◌, inl, inr, Bool, false, List, [], ◌∷◌, arith}
 use Rattle.std.proofs.Common.{refl, ap, sym, ◌∙◌, length, map, filter, slice_index, Option, Some, None, Vec, Global}
 use Rattle.std.specs.Vec.{with_items}
 use Rattle.std.proofs.lemmas.List.{with_items_is}
@@ -8,7 +8,7 @@ use Rattle.std.specs.Prelude.{Contains, nat_le, nat_lt}
 use Rattle.std.proofs.lemmas.Bool.{cases_Bool, lt-leb, le-leb, le-ltb, lt-ltb, leb-true, leb-false, ltb-false, ne_eqb, or_from}
 use Rattle.dr_seq.proofs.Sizes.{size_at_most}
 use Rattle.dr_graph.specs.Meaning.Graph.{flagged, is_final_without, finals_without, least_of, least_without, IsGated}
-use Rattle.dr_graph.proofs.Gating.{filter_more, final_left, least_above_some}
+use Rattle.dr_graph.proofs.Gating.{filter_more, least_above_some}
 use Rattle.dr_core.specs.Calls.CoreView.{CoreView, AreGating, retired_in, gate_of}
 use Rattle.dr_meaning.specs.declared.command.Command.TheVariants.{Claim}
 use Rattle.dr_meaning.specs.declared.command.Reply.TheVariants.{Refused}
@@ -17,7 +17,7 @@ use Rattle.dr_meaning.specs.declared.refusal.Refusal.TheVariants.{Halted, Exhaus
 use Rattle.dr_meaning.specs.Meaning.Machine.{State, producers, next, gate, refusals}
 use Rattle.dr_core.specs.Calls.Shows.{Shows, IsStep}
 use Rattle.dr_core.specs.Inside.Availability.{claim_fault}
-use Rattle.dr_core.specs.Inside.Fields.{IsWhole, IsSeen, IsClaimable}
+use Rattle.dr_core.specs.Inside.Fields.{IsWhole, IsSeen}
 use Rattle.dr_meaning.proofs.Steps.{Refuses}
 use Rattle.dr_core.proofs.CoreSteps.{refused_step, finals_least, gate_same}
 use Rattle.dr_core.proofs.Shown.{same_next, same_halted}
@@ -50,32 +50,11 @@ module _ {E : Type 0} (v : CoreView E) (whole : IsWhole v) where
       let one : IsGated v.setup.upstreams (retired_in v) (λ h. 0) whole.left.0 = whole.graph.gate (retired_in v) (λ h. 0) (λ h u has. omega arith) whole.left.0 whole.left.1 whole.left.2 in
       least_above_some (λ h. slice_index v.completed h) count one.last (finals_without v.setup.upstreams (retired_in v)) one.final all
 
-  -- up to a claimable sequence there is room
-  pub claimable_room : (upto : ℕ) → IsClaimable v.setup v.next v.halted (retired_in v) v.completed upto → upto ≤ v.setup.size + gate_of v
-  claimable_room upto claimable =
-      let least : upto - v.setup.size ≤ gate_of v = seen_below (upto - v.setup.size) (λ f has. let room : upto ≤ v.setup.size + slice_index v.completed f = claimable.room f has in omega arith) in
-      omega arith
-
-  -- what is claimed had room
-  pub final_room : (f : ℕ) → Contains (finals_without v.setup.upstreams (retired_in v)) f → v.next ≤ v.setup.size + slice_index v.completed f
-  final_room f has =
-      let left : (f < length v.setup.upstreams) × (retired_in v f ≡ false) = final_left v.setup.upstreams (retired_in v) f has in
-      whole.room f left.0 left.1
-
   -- no final is below the least one
   pub seen_now : (count : ℕ) → count ≤ gate_of v → IsSeen v.setup (retired_in v) v.completed count
   seen_now count low f has =
       let least : gate_of v ≤ slice_index v.completed f = least_of-member (λ h. slice_index v.completed h) (finals_without v.setup.upstreams (retired_in v)) f has in
       omega arith
-
-  -- what a scan finds may be remembered
-  pub claimable_now : v.halted ≡ false → (upto : ℕ) → upto ≤ v.setup.limit → upto ≤ v.setup.size + gate_of v
-      → IsClaimable v.setup v.next v.halted (retired_in v) v.completed upto
-  claimable_now going upto limit room = record {
-    going = λ e. absurd (let no : ◌≡◌ {A = Bool} true false = sym e ∙ going in cc);
-    limit = limit;
-    room = λ f has. (let least : gate_of v ≤ slice_index v.completed f = least_of-member (λ h. slice_index v.completed h) (finals_without v.setup.upstreams (retired_in v)) f has in omega arith);
-  }
 
   -- the least count is a count of sequences, so no sum with a size wraps
   pub room_fits : v.setup.size + gate_of v < 2 ^ 63

@@ -13,9 +13,9 @@ use Rattle.dr_graph.proofs.Gating.{found_in, any_agree, followed_agree, final_le
 use Rattle.dr_meaning.specs.Meaning.Machine.{State, handlers, retired_with}
 use Rattle.dr_core.specs.Calls.CoreView.{CoreView, retired_in, gate_of}
 use Rattle.dr_core.specs.Calls.Shows.{Shows, IsStep}
-use Rattle.dr_core.specs.Inside.Fields.{IsWhole, IsSeen, IsClaimable}
+use Rattle.dr_core.specs.Inside.Fields.{IsWhole, IsSeen}
 use Rattle.dr_core.proofs.CoreSteps.{accepted_step, refused_step, finals_least}
-use Rattle.dr_core.proofs.Gating.{seen_below, claimable_room}
+use Rattle.dr_core.proofs.Gating.{seen_below}
 use Rattle.dr_core.proofs.Shown.{same_retired}
 use Rattle.dr_meaning.proofs.Sound.{orderly}
 use Rattle.dr_meaning.proofs.Pushes.{or-false}
@@ -97,18 +97,6 @@ module _ {E : Type 0} (v : CoreView E) (h : ℕ) (whole : IsWhole v) (inside : h
           let at : (k : ℕ) × (0 ≤ k) × (k < 0 + handlers v.setup) × (not (retired_in v k || k == h) ≡ true) =
           found_in (λ k. not (retired_in v k || k == h)) 0 (handlers v.setup) others in
           (at.0, omega (arith, at.2), flagged_more v.retired h at.0 within ∙ not-true _ at.3)
-
-      -- what was claimable before is so after
-      pub retire_claimable : (upto : ℕ) → IsClaimable v.setup v.next v.halted (retired_in v) v.completed upto
-          → IsClaimable v.setup v.next v.halted (retired_in (retired_core v h)) v.completed upto
-      retire_claimable upto claimable = record {
-        going = claimable.going;
-        limit = claimable.limit;
-        room = λ f has. (let now : (f < handlers v.setup) × (retired_in (retired_core v h) f ≡ false) = final_left v.setup.upstreams (retired_in (retired_core v h)) f has in
-            let a : upto ≤ v.setup.size + gate_of v = claimable_room v whole upto claimable in
-            let b : gate_of v ≤ slice_index v.completed f = finals_least v whole f now.0 (fewer f now.1) in
-            omega arith);
-      }
 
       -- what was remembered before is so after
       pub retire_seen : (count : ℕ) → IsSeen v.setup (retired_in v) v.completed count → IsSeen v.setup (retired_in (retired_core v h)) v.completed count

@@ -38,8 +38,8 @@ pub struct Core<E> {
     events: Slots<E>,
     blank: E,
     gate: GateCache,
-    // A claim of sequences that all lie below this one is granted by one test: it is the least of the
-    // limit and the remembered count with the size, or after a halt what is claimed.
+    // A claim of sequences that all lie below this one is granted by one test. It is the lesser of the
+    // limit and the remembered count with the size; after a halt it is what is claimed.
     claimable: u64,
     next: u64,
     front: u64,

@@ -1,5 +1,5 @@
 -- What a core's fields keep.
-use Rattle.std.specs.Prelude.{◌≡◌, ℕ, ◌+◌, ◌<◌, ◌≤◌, Bool, true, false, ◌&&◌, ◌==◌, if◌then◌else◌, List, length, Contains, slice_index}
+use Rattle.std.specs.Prelude.{◌≡◌, ℕ, ◌+◌, ◌<◌, ◌≤◌, min, Bool, true, false, ◌&&◌, ◌==◌, if◌then◌else◌, List, length, Contains, slice_index}
 use Rattle.dr_seq.specs.Rounds.{is_marked}
 use Rattle.dr_core.specs.declared.engine.Core.TheInside.{Inside}
 use Rattle.dr_graph.specs.Meaning.Graph.{flagged, finals_without}
@@ -49,23 +49,17 @@ pub record IsAvailable {E : Type 0} (a : KeptBySlot E) (size next : ℕ) : Type 
   pub unpublished : (s : ℕ) → next ≤ s → is_ahead a.mode a.published s ≡ false
   pub unwritten : (s : ℕ) → next ≤ s → is_marked a.written s ≡ false
 
--- what a claim up to a sequence needs beside its producer and its count: that nothing is halted, that the limit is not passed, and that each final of those that are left completed what lay in the slots
-pub record IsClaimable (c : Setup) (next : ℕ) (halted : Bool) (gone : ℕ → Bool) (completed : List ℕ) (upto : ℕ) : Type 0 where
-  pub going : halted ≡ true → upto ≤ next
-  pub limit : upto ≤ c.limit
-  pub room : (f : ℕ) → Contains (finals_without c.upstreams gone) f → upto ≤ c.size + slice_index completed f
-
 -- a remembered count is no more than what any final of those that are left completed
 abbrev pub IsSeen : Setup → (ℕ → Bool) → List ℕ → ℕ → Type 0
 IsSeen c gone completed count = (f : ℕ) → Contains (finals_without c.upstreams gone) f → count ≤ slice_index completed f
 
--- the two rounds, the flags of those that gate, the remembered least count, and a remembered sequence up to which nothing refuses a claim
+-- the two rounds, the flags of those that gate, the remembered least count, and up to which sequence a claim is granted by it: within the limit, and after a halt none further
 pub record IsKept {E : Type 0} (a : Inside E) : Type 0 where
   pub whole : IsWhole (view_of a)
   pub available : IsAvailable (kept_of a) a.size a.next
   pub gating : AreGating a.gating.items a.graph.upstreams (flagged a.retired.items)
   pub seen : IsSeen (view_of a).setup (flagged a.retired.items) a.completed.items a.gate
-  pub claimable : IsClaimable (view_of a).setup a.next a.halted (flagged a.retired.items) a.completed.items a.claimable
+  pub claimable : a.claimable ≡ (if a.halted then a.next else min a.limit (a.size + a.gate))
 
 -- why a poll hands nothing out to a handler that took so many events, as many as are offered
 abbrev pub IsNothing : {E : Type 0} → CoreView E → ℕ → Polled → Type 0

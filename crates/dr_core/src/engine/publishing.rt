@@ -12,8 +12,8 @@ use crate::least::least_flagged;
 use dr_meaning::{Claimed, Command, Refusal, Reply};
 
 impl<E: Copy> Core<E> {
-    /// Whether a claim up to `wanted` has room, after a scan of the gating handlers. What it finds
-    /// is remembered for the claims to come.
+    /// Whether a claim up to `wanted` has room, by a scan of the gating handlers. The least count that
+    /// it finds is remembered, and with it up to which sequence nothing refuses a claim to come.
     fn has_room(&mut self, wanted: u64) -> bool
         requires going { self.old.halted ≡ false }
         ensures room { result ≡ nat_le wanted (self.old.setup.size + gate_of self.old) }
@@ -26,9 +26,8 @@ impl<E: Copy> Core<E> {
         wanted <= room
     }
 
-    /// What refuses a claim of `n` sequences, where a claim may be of so many. Up to the sequence
-    /// that was last found to be claimable nothing does, which is known without a further look; and
-    /// that there is no room is answered only after a scan.
+    /// What refuses a claim of `n` sequences, where a claim may be of so many. Up to `claimable`
+    /// nothing does, and that there is no room is answered only after a scan.
     fn claim_fault(&mut self, n: u64) -> Option<Refusal>
         requires some { n ≢ 0 }
         requires fits { n ≤ self.old.setup.size }

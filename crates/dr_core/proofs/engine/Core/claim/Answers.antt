@@ -1,4 +1,4 @@
-use Rattle.std.proofs.Common.{arith, ℕ, ◌≡◌, ◌+◌, ◌-◌, [], ◌<◌, ◌≤◌, length, sym, ap, ◌∙◌, List, Vec, Global, false, true, inl, inr, refl}
+use Rattle.std.proofs.Common.{ℕ, ◌≡◌, ◌+◌, ◌-◌, [], ◌<◌, ◌≤◌, length, sym, ap, ◌∙◌, List, Vec, Global, false, true, inl, inr, refl}
 use Rattle.std.specs.Vec.{with_items}
 use Rattle.std.proofs.lemmas.List.{with_items_is}
 use Rattle.std.specs.Prelude.{◌==◌, ◌||◌, nat_lt}
@@ -47,9 +47,10 @@ owners_are (Multi producers) owners lent new from n p a b =
     let e : new ≡ owners_after (Multi producers) owners.items from n p = b ∙ ap (λ l. owners_after (Multi producers) l from n p) a in
     with_items_is owners new (ap length e ∙ length-stamped (λ s. p) owners.items from n ∙ sym owners.ok.0) ∙ e
 
-owned : (g : Over) (c : After-own g) → (with_items c.self-2.inside.owners c.own.new.owners).items
+-- the producer owns what it claims
+abbrev IsOwned : (g : Over) → After-own g → Type 0
+IsOwned g c = (with_items c.self-2.inside.owners c.own.new.owners).items
     ≡ owners_after c.self-2.inside.mode c.self-2.inside.owners.items c.self-2.inside.next c.args.n c.args.p
-owned g c = owners_are c.self-2.inside.mode c.self-2.inside.owners _ _ _ _ _ c.deref_mut.ensures.value c.own.ensures
 
 -- the look for what refuses it changes nothing
 unchanged : (g : Over) (c : After-own g) → view_of c.self-2.inside ≡ view_of c.self.inside
@@ -62,15 +63,15 @@ free : (g : Over) (c : After-own g)
 free g c = claim_accepted (view_of c.self-2.inside) c.args.n (ap (λ w. claim_fault w c.args.n) (unchanged g c ∙ c.self.view_is) ∙ sym c.claim_fault.ensures.fault ∙ c.in_default.is)
 
 -- the claim is the machine's
-claimed : (g : Over) (c : After-own g)
+claimed : (g : Over) (c : After-own g) → IsOwned g c
     → IsStep (view_of c.self-2.inside) (Claim c.args.p c.args.n) (Claimed c.self-2.inside.next (c.self-2.inside.next + c.args.n - 1)) []
     (view_of (record c.self-2.inside { owners = with_items c.self-2.inside.owners c.own.new.owners; next = c.self-2.inside.next + c.args.n }))
-claimed g c =
+claimed g c owned =
     let v : CoreView g.row.E.Denot = view_of c.self-2.inside in
     let same : v ≡ view_of c.self.inside = unchanged g c in
     let producer : c.args.p < producers v.setup.mode = rw (ap (λ w. w.setup.mode) same) (rw c.producers.ensures at c.if-p-producers.false) in
     let fits : c.args.n ≤ v.setup.size = rw (ap (λ w. w.setup.size) same) (rw c.get.ensures.value at c.if-n-get.false) in
-    rw (owned g c)
+    rw owned
     (claim_step v c.args.p c.args.n _
     (claims_known v (kept_of c.self-2.inside) (known_there c.self-2.inside) c.self-2.invariant.available c.self-2.invariant.whole.front
     (size_positive v.setup.size c.self-2.invariant.whole.size) c.args.n c.args.p
@@ -81,19 +82,19 @@ pub invariant_of-self : goal.invariant_of-self
 invariant_of-self g c =
     let v : CoreView g.row.E.Denot = view_of c.self-2.inside in
     let at : After-own g = (goal.at.invariant_of-self g c).After-own in
+    let owned : IsOwned g at = owners_are c.self-2.inside.mode c.self-2.inside.owners _ _ _ _ _ c.deref_mut.ensures.value c.own.ensures in
     record {
-      whole = step_whole (claimed g at) refl c.self-2.invariant.whole;
-      available = rw (owned g at)
+      whole = step_whole (claimed g at owned) refl c.self-2.invariant.whole;
+      available = rw owned
           (claims_available v (kept_of c.self-2.inside) (known_there c.self-2.inside) c.self-2.invariant.available c.self-2.invariant.whole.front
           (size_positive v.setup.size c.self-2.invariant.whole.size) c.args.n c.args.p);
       gating = c.self-2.invariant.gating;
       seen = c.self-2.invariant.seen;
-      claimable = record {
-        going = λ e. (let old : c.self-2.inside.claimable ≤ c.self-2.inside.next = c.self-2.invariant.claimable.going e in omega arith);
-        limit = c.self-2.invariant.claimable.limit;
-        room = c.self-2.invariant.claimable.room;
-      };
+      claimable = rw (free g at).0 (rw (free g at).0 at c.self-2.invariant.claimable);
     }
 
 pub returns-clause-step : goal.returns-clause-step
-returns-clause-step g c = rw (← c.claim_fault.ensures.same, ← c.self-2.view_is) (claimed g (goal.at.returns-clause-step g c).After-own)
+returns-clause-step g c =
+    rw (← c.claim_fault.ensures.same, ← c.self-2.view_is)
+    (claimed g (goal.at.returns-clause-step g c).After-own
+    (owners_are c.self-2.inside.mode c.self-2.inside.owners _ _ _ _ _ c.deref_mut.ensures.value c.own.ensures))

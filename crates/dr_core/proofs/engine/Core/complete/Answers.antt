@@ -1,4 +1,4 @@
-use Rattle.std.proofs.Common.{refl, ◌≡◌, ◌<◌, ◌≤◌, ◌+◌, slice_index, length, get_or, false, arith}
+use Rattle.std.proofs.Common.{refl, ◌≡◌, ◌<◌, ◌≤◌, slice_index, length, get_or, false, arith}
 use Rattle.std.proofs.lemmas.List.{get_or_read}
 use Rattle.dr_meaning.specs.Meaning.Machine.{handlers}
 use Rattle.dr_core.specs.Calls.CoreView.{CoreView}
@@ -38,12 +38,7 @@ invariant_of-self g c =
       gating = c.self.invariant.gating;
       seen = λ f has. (let old : c.self.inside.gate ≤ slice_index v.completed f = c.self.invariant.seen f has in
           omega (arith, completed_grows v c.args.h c.args.upto c.self.invariant.whole can f));
-      claimable = record {
-        going = c.self.invariant.claimable.going;
-        limit = c.self.invariant.claimable.limit;
-        room = λ f has. (let old : c.self.inside.claimable ≤ v.setup.size + slice_index v.completed f = c.self.invariant.claimable.room f has in
-            omega (arith, completed_grows v c.args.h c.args.upto c.self.invariant.whole can f));
-      };
+      claimable = c.self.invariant.claimable;
     }
 
 pub returns-clause-step : goal.returns-clause-step

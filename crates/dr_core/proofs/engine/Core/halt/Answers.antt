@@ -1,7 +1,6 @@
-use Rattle.std.proofs.Common.{refl, arith}
+use Rattle.std.proofs.Common.{refl}
 use Rattle.dr_core.specs.Inside.Fields.{view_of}
 use Rattle.dr_core.proofs.CoreSteps.{halt_step}
-use Rattle.dr_core.proofs.Gating.{final_room}
 use Rattle.dr_core.proofs.Whole.{step_whole}
 use Rattle.dr_core.proofs.engine.Core.halt.Goals as goal
 
@@ -11,7 +10,7 @@ invariant_of-self g c = record {
   available = c.self.invariant.available;
   gating = c.self.invariant.gating;
   seen = c.self.invariant.seen;
-  claimable = record { going = λ e. omega arith; limit = c.self.invariant.whole.claimed; room = λ f has. final_room (view_of c.self.inside) c.self.invariant.whole f has };
+  claimable = refl;
 }
 
 pub returns : goal.returns

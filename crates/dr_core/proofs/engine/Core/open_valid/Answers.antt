@@ -27,7 +27,7 @@ invariant_of-result g c =
       };
       gating = rw c.deref.ensures.value at c.in_ok-gating.ensures;
       seen = λ f has. omega arith;
-      claimable = record { going = λ e. absurd (cc); limit = omega arith; room = λ f has. omega arith };
+      claimable = omega arith;
     }
 
 pub returns : goal.returns

@@ -1,7 +1,7 @@
-use Rattle.std.proofs.Common.{refl, ◌≡◌, ℕ, ◌+◌, ◌-◌, ◌<◌, min, length, map, sym, ap, ◌∙◌, arith, List, take, drop, ◌++◌, slice_index, false}
+use Rattle.std.proofs.Common.{refl, ◌≡◌, ℕ, ◌+◌, ◌-◌, ◌<◌, ◌≤◌, inl, min, length, map, sym, ap, ◌∙◌, arith, List, take, drop, ◌++◌, slice_index, false}
 use Rattle.std.specs.Prelude.{◌==◌}
 use Rattle.std.specs.List.{range_with_len}
-use Rattle.std.proofs.lemmas.Bool.{eqb-false}
+use Rattle.std.proofs.lemmas.Bool.{eqb-false, le-leb}
 use Rattle.std.proofs.lemmas.List.{take_at}
 use Rattle.std.proofs.lemmas.List.FromFn.{length-map-range_with_len}
 use Rattle.dr_seq.specs.Slots.{event_at}
@@ -9,9 +9,12 @@ use Rattle.dr_graph.specs.Meaning.Graph.{upstreams_of}
 use Rattle.dr_core.specs.Calls.CoreView.{CoreView}
 use Rattle.dr_core.specs.Inside.Fields.{view_of, IsNothing}
 use Rattle.dr_core.specs.Calls.Shows.{IsStep, offered_to}
+use Rattle.dr_meaning.specs.Meaning.Machine.{handlers}
+use Rattle.dr_meaning.specs.declared.refusal.Refusal.TheVariants.{NoHandler}
 use Rattle.dr_meaning.specs.declared.command.Command.TheVariants.{Poll}
 use Rattle.dr_meaning.specs.declared.command.Reply.TheVariants.{Batch}
 use Rattle.std.specs.Vec.{with_item}
+use Rattle.dr_core.proofs.CoreSteps.{refused_step}
 use Rattle.dr_core.proofs.Polling.{PollsAt, polls_at, batch_step, nothing_step, gives_nothing, takes_nothing}
 use Rattle.dr_core.proofs.Recents.{shown_event}
 use Rattle.dr_core.proofs.Retiring.{told}
@@ -19,6 +22,11 @@ use Rattle.dr_core.proofs.Whole.{step_whole}
 use Rattle.dr_core.proofs.engine.Core.poll_into.Goals as goal
 use Rattle.dr_core.proofs.engine.Core.poll_into.Given.{Over}
 use Rattle.dr_core.proofs.engine.Core.poll_into.Goals.{After-available-available, After-copy_out}
+
+pub returns-then-h-len-clause-step : goal.returns-then-h-len-clause-step
+returns-then-h-len-clause-step g c =
+    let past : handlers (view_of c.self.inside).setup ≤ c.args.h = omega (arith, c.len.ensures.handlers) in
+    rw (← c.self.view_is) (refused_step (view_of c.self.inside) (Poll c.args.h (length c.args.out.now)) NoHandler (λ m sh. inl (le-leb _ _ past, refl)))
 
 -- the events that stand at the front of the buffer
 copied : {E : Type 0} (d : E) (events : List E) (first count : ℕ) (out old : List E)

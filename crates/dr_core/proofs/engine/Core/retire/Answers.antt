@@ -6,7 +6,7 @@ use Rattle.dr_graph.specs.Meaning.Graph.{is_some_left, is_final_without}
 use Rattle.dr_meaning.specs.Meaning.Machine.{handlers}
 use Rattle.dr_core.specs.Calls.CoreView.{CoreView, retired_in}
 use Rattle.dr_core.specs.Inside.Fields.{view_of}
-use Rattle.dr_core.proofs.Retiring.{told, others_told, not_final_step, last_step, retire_step, retire_seen, retire_claimable, retire_room}
+use Rattle.dr_core.proofs.Retiring.{told, others_told, not_final_step, last_step, retire_step, retire_seen, retire_room}
 use Rattle.dr_core.proofs.Gating.{written_back}
 use Rattle.dr_core.proofs.Whole.{step_whole}
 use Rattle.dr_core.proofs.engine.Core.retire.Goals as goal
@@ -74,7 +74,7 @@ invariant_of-self g c =
           written_back c.self.inside.gating c.flag_gating.new.flags c.deref-3.result.now _ c.self.inside.graph.upstreams
           (c.flag_gating.auto.flags ∙ c.deref_mut.ensures.len) c.deref-3.ensures.value c.flag_gating.ensures;
       seen = retire_seen v c.args.h c.self.invariant.whole L.inside L.left L.final L.others c.self.inside.gate c.self.invariant.seen;
-      claimable = retire_claimable v c.args.h c.self.invariant.whole L.inside L.left L.final L.others c.self.inside.claimable c.self.invariant.claimable;
+      claimable = c.self.invariant.claimable;
     }
 
 pub returns-clause-step : goal.returns-clause-step

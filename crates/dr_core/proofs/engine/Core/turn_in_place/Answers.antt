@@ -1,4 +1,4 @@
-use Rattle.std.proofs.Common.{◌≡◌, ◌<◌, ◌≤◌, ◌+◌, ◌-◌, ◌∙◌, inl, inr, arith, refl, map, [], Ok, true, false, slice_index}
+use Rattle.std.proofs.Common.{◌≡◌, ◌<◌, ◌≤◌, ◌-◌, ◌∙◌, inl, inr, arith, refl, map, [], Ok, true, false, slice_index}
 use Rattle.std.specs.List.{range_with_len}
 use Rattle.std.proofs.lemmas.Bool.{le-leb, lt-leb}
 use Rattle.dr_meaning.specs.declared.command.Command.TheVariants.{Poll}
@@ -72,12 +72,7 @@ invariant_of-self g c =
       available = c.self.invariant.available;
       gating = c.self.invariant.gating;
       seen = λ f has. (let old : c.self.inside.gate ≤ slice_index v.completed f = c.self.invariant.seen f has in omega (arith, turn.grows f));
-      claimable = record {
-        going = c.self.invariant.claimable.going;
-        limit = c.self.invariant.claimable.limit;
-        room = λ f has. (let old : c.self.inside.claimable ≤ v.setup.size + slice_index v.completed f = c.self.invariant.claimable.room f has in
-            omega (arith, turn.grows f));
-      };
+      claimable = c.self.invariant.claimable;
     }
 
 pub returns-clause-turn : goal.returns-clause-turn

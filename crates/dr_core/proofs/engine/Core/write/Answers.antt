@@ -1,4 +1,4 @@
-use Rattle.std.proofs.Common.{◌≡◌, [], ◌+◌, ◌≤◌, sym, ◌∙◌, Bool, true, false, cond, Some, None, refl}
+use Rattle.std.proofs.Common.{◌≡◌, [], ◌+◌, ◌≤◌, ◌%◌, length, slice_set, sym, ◌∙◌, Bool, true, false, cond, Some, None, refl}
 use Rattle.std.specs.Prelude.{◌==◌, nat_lt}
 use Rattle.std.proofs.lemmas.Bool.{eq-eqb, ne_eqb, le-ltb, or_right, or_from}
 use Rattle.dr_seq.proofs.Sizes.{size_positive}
@@ -52,15 +52,15 @@ mine : (g : Over) (c : After-put g) → owner_at c.self.inside.mode c.self.insid
 mine g c = sym (rw c.deref.ensures.value at c.owner_of.ensures) ∙ c.if-owner_of-p.false
 
 -- the write is the machine's
-written : (g : Over) (c : After-put g)
+written : (g : Over) (c : After-put g) → c.put.new.self ≡ slice_set c.self.inside.events (c.args.s % length c.self.inside.events) c.args.event
     → is_published_at (kept_of c.self.inside) c.args.s ≡ false
     → write_fault (known_at (view_of c.self.inside) c.args.s) c.args.p ≡ None
     → IsStep (view_of c.self.inside) (Write c.args.p c.args.s c.args.event) Written []
     (view_of (record c.self.inside { filled = c.note-self-inside.result; written = c.note-self-inside.new.written; events = c.put.new.self }))
-written g c unshown free =
+written g c put unshown free =
     let v : CoreView g.row.E.Denot = view_of c.self.inside in
     let recent : v.next ≤ c.args.s + v.setup.size = near v c.self.invariant.whole c.args.s c.if-s-self-2.false in
-    rw c.put.ensures
+    rw put
     (write_step v c.args.p c.args.s c.args.event c.self.invariant.whole (rw c.producers.ensures at c.if-p-producers.false) c.if-s-self.false c.if-s-self-2.false _
     (writes_known v (kept_of c.self.inside) (known_there c.self.inside) c.self.invariant.available c.self.invariant.whole.front (size_positive v.setup.size c.self.invariant.whole.size)
     c.args.p c.args.s c.args.event c.note-self-inside.result _ c.if-s-self.false
@@ -73,7 +73,7 @@ invariant_of-self g c =
     let put : After-put g = (goal.at.invariant_of-self g c).After-put in
     let recent : v.next ≤ c.args.s + v.setup.size = near v c.self.invariant.whole c.args.s c.if-s-self-2.false in
     record {
-      whole = step_whole (written g put (unpublished g at) (unpublished_fault g at true (eq-eqb _ _ (mine g put)))) refl c.self.invariant.whole;
+      whole = step_whole (written g put c.put.ensures (unpublished g at) (unpublished_fault g at true (eq-eqb _ _ (mine g put)))) refl c.self.invariant.whole;
       available = rw c.put.ensures
           (writes_available v (kept_of c.self.inside) (known_there c.self.inside) c.self.invariant.available c.self.invariant.whole.front (size_positive v.setup.size c.self.invariant.whole.size)
           c.args.p c.args.s c.args.event c.note-self-inside.result _ c.if-s-self.false recent c.note-self-inside.ensures);
@@ -86,4 +86,4 @@ pub returns-clause-step : goal.returns-clause-step
 returns-clause-step g c =
     let at : After-owner_of g = (goal.at.returns-clause-step g c).After-owner_of in
     let put : After-put g = (goal.at.returns-clause-step g c).After-put in
-    rw (← c.self.view_is) (written g put (unpublished g at) (unpublished_fault g at true (eq-eqb _ _ (mine g put))))
+    rw (← c.self.view_is) (written g put c.put.ensures (unpublished g at) (unpublished_fault g at true (eq-eqb _ _ (mine g put))))
