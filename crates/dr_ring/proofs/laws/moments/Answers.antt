@@ -1,5 +1,5 @@
 use Rattle.dr_seq.specs.declared.event.Event.{Event}
-use Rattle.std.proofs.Common.{◌≡◌, ℕ, inl, inr, [], ◌∷◌, ◌++◌, Result, Ok, Err, subst, refl, ap, ◌∙◌, arith}
+use Rattle.std.proofs.Common.{◌≡◌, ℕ, ⊎_elim, [], ◌∷◌, ◌++◌, Result, Ok, Err, subst, refl, ap, ◌∙◌, arith}
 use Rattle.dr_runs.specs.Words.{halt_word, count_word}
 use Rattle.dr_runs.specs.declared.look.Look.{Look}
 use Rattle.dr_runs.specs.Looks.{look, last_look}
@@ -58,21 +58,30 @@ returns-clause-progress c k steps entries w graph some_slot runs =
 at_last : (w : World) (seen xs : List Look) (v : ℕ) → FoundHalt w seen → seen ≡ xs ++ look halt_word v ∷ [] → slice_index w.words halt_word ≡ v
 at_last w seen xs v found are = found ∙ ap (λ (ys : List Look). last_look 0 ys halt_word) are ∙ last_look_more 0 xs halt_word v
 
-decided : (k : Shape) (w : World) (K : KeepsRule k w) (n : ℕ) (r : SenderRecord) (seen : List Look) (result : Result Claimed Refusal)
-    → w.sender ≡ record r { looks = w.sender.looks } → LooksToClaim r n seen result → DecidesClaim k w n seen result → Decided k w K n result
-decided k w K n r seen (Err BadCount) same looks D = tt
-decided k w K n r seen (Err Halted) same (inl one) D = at_last w seen [] 1 D one
-decided k w K n r seen (Err Halted) same (inr late) D = at_last w seen (look halt_word 0 ∷ gate_looks r late.counts) 1 D late.saw
-decided k w K n r seen (Err Exhausted) same one D = at_last w seen [] 0 D one
-decided k w K n r seen (Err NoRoom) same looks D = let found = looks.1 in
-    no_room_at k w K n found.before r looks.0 same found.last found.among found.behind
-    (subst (λ (xs : List Look). (i : ℕ) (x : Look) → get_elem? xs i ≡ some x → slice_index w.words x.word ≤ x.value) looks.2 D)
-decided k w K n r seen (Err other) same looks D = absurd looks
-decided k w K n r seen (Ok c) same looks D = (at_last w seen (look halt_word 0 ∷ gate_looks r looks.0) 0 D.0 looks.2, D.1, D.2)
+abbrev Decides : (k : Shape) (w : World) → KeepsRule k w → ℕ → SenderRecord → List Look → Result Claimed Refusal → Type 0
+Decides k w K n r seen result =
+    w.sender ≡ record r { looks = w.sender.looks } → LooksToClaim r n seen result → DecidesClaim k w n seen result → Decided k w K n result
+
+-- any, where one that found the ring halted is decided, and one that found no room
+decided : (k : Shape) (w : World) (K : KeepsRule k w) → ((n : ℕ) (r : SenderRecord) (seen : List Look) → Decides k w K n r seen (Err Halted))
+    → ((n : ℕ) (r : SenderRecord) (seen : List Look) → Decides k w K n r seen (Err NoRoom))
+    → (n : ℕ) (r : SenderRecord) (seen : List Look) (result : Result Claimed Refusal) → Decides k w K n r seen result
+decided k w K halted behind n r seen (Err BadCount) same looks D = tt
+decided k w K halted behind n r seen (Err Halted) same looks D = halted n r seen same looks D
+decided k w K halted behind n r seen (Err Exhausted) same one D = at_last w seen [] 0 D one
+decided k w K halted behind n r seen (Err NoRoom) same looks D = behind n r seen same looks D
+decided k w K halted behind n r seen (Err other) same looks D = absurd looks
+decided k w K halted behind n r seen (Ok c) same looks D = (at_last w seen (look halt_word 0 ∷ gate_looks r looks.0) 0 D.0 looks.2, D.1, D.2)
 
 pub returns-clause-replies : goal.returns-clause-replies
 returns-clause-replies c k steps entries w graph some_slot runs =
-    let K = keeps_runs k steps entries (new_world k) w runs (kept_opening k graph some_slot) in replies k w K (decided k w K)
+    let K = keeps_runs k steps entries (new_world k) w runs (kept_opening k graph some_slot) in
+    replies k w K (decided k w K
+    (λ n r seen same looks D. ⊎_elim (λ one. at_last w seen [] 1 D one) (λ late. at_last w seen (look halt_word 0 ∷ gate_looks r late.counts) 1 D late.saw) looks)
+    (λ n r seen same looks D.
+    let found = looks.1 in
+    no_room_at k w K n found.before r looks.0 same found.last found.among found.behind
+    (subst (λ (xs : List Look). (i : ℕ) (x : Look) → get_elem? xs i ≡ some x → slice_index w.words x.word ≤ x.value) looks.2 D)))
 
 pub returns-clause-hands : goal.returns-clause-hands
 returns-clause-hands c k steps more entries rest w u graph some_slot runs on =
