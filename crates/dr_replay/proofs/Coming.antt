@@ -20,7 +20,7 @@ handled is = record { calls = is.calls.calls; lead = is.calls.lead; holds = tt }
 
 sent : {begun : History Event} {p cut : ℕ} {script : List Event} {may_stop must_stop : ℕ → Type 0} {back : EndView Event} {answer : Option WorkFault}
     → HasSent begun p cut script may_stop must_stop back answer → IsProducers begun p back
-sent is = record { calls = is.calls.calls; lead = is.calls.lead; holds = tt }
+sent is = record { calls = is.sends.calls.calls; lead = is.sends.calls.lead; holds = tt }
 
 module _ {L Z : Type 0} (begun : History Event) (may_stop must_stop : ℕ → ℕ → Type 0) (size : ℕ) (scripts : List (Vec Event Z)) (joined : Joined L)
     (is : IsJoined begun may_stop must_stop size scripts joined) where

@@ -28,6 +28,7 @@ use Rattle.dr_replay.specs.Calls.LockWorkers.{HasSent}
 use Rattle.dr_replay.specs.Inside.LockWorkers.{IsJoined}
 use Rattle.dr_replay.specs.Meaning.Scripts.{producers_in, script_in, scripts_in}
 use Rattle.dr_replay.specs.Calls.Workers.{AreThrough, IsRun, NoProducerHadToStop, NoneHadToStop}
+use Rattle.dr_reports.proofs.Answering.{one_of_both}
 use Rattle.dr_replay.proofs.Stopping.{some_of}
 
 -- whoever has no fault was not stopped
@@ -44,8 +45,9 @@ some_batch : (event : Event) (events : List Event) (batches : List (Dealt Event)
 some_batch event events [] is = absurd (cc)
 some_batch event events (b ∷ batches) is = one_more b batches
 
-fine_before : (fault answer : Option WorkFault) → AnswersFor fault answer → answer ≡ None → fault ≡ None
-fine_before fault answer answers fine = ⊎_elim (λ same. sym same ∙ fine) (λ memory. absurd (none-some Memory (sym fine ∙ memory))) answers
+fine_before : (failed : Bool) (fault answer : Option WorkFault) → AnswersFor failed fault answer → answer ≡ None → fault ≡ None
+fine_before failed fault answer answers fine =
+    ⊎_elim (λ same. sym same ∙ fine) (λ memory. absurd (none-some Memory (sym fine ∙ memory))) (one_of_both failed fault answer answers)
 
 -- a handler that received events
 heeds : {A : Type 0} (goes : Relation Event A) (IsNew : A → Type 0) (failed : A → Bool) (may_stop must_stop : ℕ → Type 0) (given back : ReceiverEnd)
@@ -56,7 +58,7 @@ heeds goes IsNew failed may_stop must_stop given back answer event events is non
     let batches = batches_in is.calls.calls in
     let handed : HandsOut batches (received_of given.knows) (received_of back.knows) = is.calls.holds.works.handed in
     let dealt : event ∷ events ≡ dealt_events batches = sym received ∙ handed.0 ∙ ap (λ (l : List Event). l ++ dealt_events batches) none in
-    ends_unstopped gate.stopped is.calls.calls is.fault gate.answers (fine_before is.fault answer is.answers fine)
+    ends_unstopped gate.stopped is.calls.calls is.fault gate.answers (fine_before (failed is.after) is.fault answer is.answers fine)
     (gate.must 0 (some_batch event events batches dealt) (omega arith) must)
 
 -- a claim comes before the writes of its part
@@ -110,7 +112,7 @@ module _ (may_stop must_stop : ℕ → ℕ → Type 0) (size : ℕ) where
   run_heeds [] s j r b ran is first second third through = tt
   run_heeds (event ∷ events) s j r b ran is first second third through =
       let Passes : ℕ → Type 0 = λ who. must_stop who 0 → ⊥ in
-      let calls = is.sending.calls in
+      let calls = is.sending.sends.calls in
       All-cons Passes 0 (1 ∷ 2 ∷ 16 ∷ []) (heeds _ _ _ _ _ j ran.journal.receiver _ event events is.journal.served first through.journal.0 through.journal.1)
       (All-cons Passes 1 (2 ∷ 16 ∷ []) (heeds _ _ _ _ _ r ran.replica.receiver _ event events is.replica.served second through.replica.0 through.replica.1)
       (All-cons Passes 2 (16 ∷ []) (heeds _ _ _ _ _ b ran.business.receiver _ event events is.business.served third through.business.0 through.business.1)
@@ -127,7 +129,7 @@ sent_heeds : (begun : History Event) (p cut : ℕ) (script : List Event) (may_st
     → HasSent begun p cut script may_stop must_stop back answer → answer ≡ None → script ≢ [] → must_stop 0 → ⊥
 sent_heeds begun p cut [] may_stop must_stop back answer is fine some must = some refl
 sent_heeds begun p cut (event ∷ events) may_stop must_stop back answer is fine some must =
-    sends_heed cut event events may_stop must_stop is.produced is.calls.calls is.calls.holds (sym is.answers ∙ fine) must
+    sends_heed cut event events may_stop must_stop is.produced is.sends.calls.calls is.sends.calls.holds (sym is.answers ∙ fine) must
 
 -- of several producers' workers without a fault, none had to stop that had an event to send
 pub joined_heeds : {L Z : Type 0} (begun : History Event) (may_stop must_stop : ℕ → ℕ → Type 0) (size : ℕ) (scripts : List (Vec Event Z)) (joined : Joined L)

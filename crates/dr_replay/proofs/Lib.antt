@@ -1,4 +1,3 @@
-pub mod Asking
 pub mod Coming
 pub mod Crossing
 pub mod Endings

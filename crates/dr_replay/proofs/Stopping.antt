@@ -1,5 +1,5 @@
 -- No worker of an exchange was stopped but by its gate.
-use Rattle.std.proofs.Common.{◌≡◌, ◌+◌, ◌^◌, ◌<◌, ◌≤◌, ℕ, suc, List, [], ◌∷◌, length, map, get_or, Option, Some, Result, Ok, Err, Vec, subst, arith}
+use Rattle.std.proofs.Common.{◌≡◌, ◌+◌, ◌^◌, ◌<◌, ◌≤◌, ℕ, suc, List, [], ◌∷◌, length, map, get_or, Option, Some, Result, Ok, Err, Vec, subst, sym, ◌∙◌, arith}
 use Rattle.std.proofs.lemmas.List.Elements.{All-nil, All-cons}
 use Rattle.dr_seq.specs.declared.event.Event.{Event}
 use Rattle.dr_meaning.specs.declared.refusal.Refusal.{Refusal}
@@ -70,7 +70,7 @@ run_stopped may_stop events s j r b ran is =
     more at_some_passage 0 (error_of ran.journal.part) others (λ e. is.journal.stopped (ended_with ran.journal.part Stopped e))
     (more at_some_passage 1 (error_of ran.replica.part) later (λ e. is.replica.stopped (ended_with ran.replica.part Stopped e))
     (more at_some_passage 2 (error_of ran.business.part) sender (λ e. is.business.stopped (ended_with ran.business.part Stopped e))
-    (more at_some_passage 16 ran.produced.fault [] is.sending.stopped (All-nil (λ (e : Ended). e.fault ≡ Some Stopped → at_some_passage e.who)))))
+    (more at_some_passage 16 ran.produced.fault [] is.sending.sends.stopped (All-nil (λ (e : Ended). e.fault ≡ Some Stopped → at_some_passage e.who)))))
 
 -- and over a new ring that nobody else halted none was refused a call
 pub run_served : {may_stop must_stop : ℕ → ℕ → Type 0} {size : ℕ} (k : Shape) (events : List Event) (s : SenderEnd) (j r b : ReceiverEnd) (ran : Ran)
@@ -100,4 +100,6 @@ joined_stopped begun may_stop must_stop size scripts joined is =
     (map (λ s. s.fault) joined.producers.items)
     is.journal.stopped is.replica.stopped is.business.stopped
     (numbered_stopped at_some_passage (λ s. s.fault) 16 joined.producers.items
-    (λ k d below. (is.producers.each k d (some_of scripts k (subst (λ n. k < n) is.producers.many below)) below).stopped))
+    (λ k d below e.
+    let sent = is.producers.each k d (some_of scripts k (subst (λ n. k < n) is.producers.many below)) below in
+    sent.sends.stopped (sym sent.answers ∙ e)))

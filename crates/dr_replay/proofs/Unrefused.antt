@@ -31,7 +31,7 @@ pub sender_served : {may_stop must_stop : ℕ → Type 0} (k : Shape) (size : �
     → length events ≤ 2 ^ 62
     → FoundUnhalted back.knows → (refusal : Refusal) → produced.fault ≡ Some (Refused refusal) → ⊥
 sender_served k size events given back produced S fresh slots limit short unhalted refusal is =
-    let done = S.done in let calls = S.calls in let cut : ℕ = size in let some : 0 < size = S.some in
+    let done = S.done in let calls = S.sends.calls in let cut : ℕ = size in let some : 0 < size = S.sends.some in
     let before : given.knows.sent.pending ≡ [] = ap (λ (r : SenderRecord). r.sent.pending) fresh in
     let complete : done.knows.sent.pending ≡ [] = S.complete before in
     let found : FoundUnhalted done.knows = ring.unhalted_before done back S.closes unhalted in

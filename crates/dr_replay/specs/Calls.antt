@@ -5,4 +5,5 @@ pub mod LockWorkers
 pub mod Replayed
 pub mod ReplayFaults
 pub mod RingRuns
+pub mod Sending
 pub mod Workers

@@ -1,3 +1,4 @@
+pub mod Answering
 pub mod Graphs
 pub mod Refusing
 pub mod Rounds

@@ -15,12 +15,13 @@ abbrev pub error_of : {A E : Type 0} → Result A E → Option E
 error_of (Ok x) = None
 error_of (Err e) = Some e
 
--- a worker answers what its calls came to, or that its part of the report found no memory
-abbrev pub AnswersFor : Option WorkFault → Option WorkFault → Type 0
-AnswersFor fault answer = (answer ≡ fault) ⊎ (answer ≡ Some Memory)
+-- a worker whose handler found no memory answers just that; any other what its calls came to, or that there was none for its part of the report
+abbrev pub AnswersFor : Bool → Option WorkFault → Option WorkFault → Type 0
+AnswersFor true fault answer = answer ≡ Some Memory
+AnswersFor false fault answer = (answer ≡ fault) ⊎ (answer ≡ Some Memory)
 
 -- a worker took a new handler through what its end handed out to room for 256 events, came to its gate with each batch, and answers for what these calls came to: a refusal of the end, or a stop at the gate;
--- the handler had not failed at first, and has not after all of it where the worker answers no fault
+-- the handler had not failed at first
 pub record IsServed {A : Type 0} (goes : Relation Event A) (IsNew : A → Type 0) (failed : A → Bool) (may_stop must_stop : ℕ → Type 0) (given back : ReceiverEnd) (answer : Option WorkFault) : Type 0 where
   pub start : A
   pub after : A
@@ -28,8 +29,7 @@ pub record IsServed {A : Type 0} (goes : Relation Event A) (IsNew : A → Type 0
   pub new : IsNew start
   pub well : failed start ≡ false
   pub calls : SomeCalls receiver_does given back (Serves 256 goes start after (Some (received_of given.knows)) (Some (received_of back.knows)) may_stop must_stop fault)
-  pub answers : AnswersFor fault answer
-  pub fine : answer ≡ None → failed after ≡ false
+  pub answers : AnswersFor (failed after) fault answer
 
 -- a worker gives back the end that it was given, and what it says is the part of the report of what that end received, which was told that the ring drained;
 -- that it was stopped it answers only where its gate may stop it, and that it was refused something never, where that end completed no more than it took

@@ -7,10 +7,11 @@ use Rattle.dr_workers.specs.declared.fault.WorkFault.TheVariants.{Stopped}
 use Rattle.dr_workers.specs.declared.producer.Produced.{Produced}
 use Rattle.dr_lock.specs.Calls.Asking.{InletAsks, OutletAsks}
 use Rattle.dr_lock.specs.Calls.Lock.{EndView, no_calls}
-use Rattle.dr_workers.specs.Calls.Serving.{Sends, Serves}
+use Rattle.dr_workers.specs.Calls.Serving.{Serves}
 use Rattle.dr_lock.specs.Meaning.History.{History}
 use Rattle.dr_reports.specs.Keeping.{AnswersFor}
 use Rattle.dr_replay.specs.Calls.Listing.{Listed, Lists}
+use Rattle.dr_replay.specs.Calls.Sending.{SendsInClaims}
 
 -- the list of a part of the report, where a worker gives one back
 abbrev pub list_of : {A F : Type 0} → Result A F → (A → List Event) → Option (List Event)
@@ -31,13 +32,12 @@ pub record HasHandled (begun : History Event) (h : ℕ) (may_stop must_stop : �
   pub new : start.list ≡ []
   pub well : start.failed ≡ false
   pub calls : SomeCalls (OutletAsks begun h) no_calls back (Serves 256 Lists start after None None may_stop must_stop fault)
-  pub answers : AnswersFor fault answer
+  pub answers : AnswersFor after.failed fault answer
   pub stopped : answer ≡ Some Stopped → (passage : ℕ) × may_stop passage
   pub lists : GivesList answer after list
 
--- the worker of the producer p began with an unused end, sent the first of a script in such claims, came to its gate with each, and answers what these calls came to, each a call of that producer
+-- the worker of the producer p began with an unused end, and sent the first of a script in such claims, each call of them one of that producer
 pub record HasSent (begun : History Event) (p cut : ℕ) (script : List Event) (may_stop must_stop : ℕ → Type 0) (back : EndView Event) (answer : Option WorkFault) : Type 0 where
   pub produced : Produced
-  pub calls : SomeCalls (InletAsks begun p) no_calls back (Sends cut script may_stop must_stop produced)
+  pub sends : SendsInClaims (InletAsks begun p) cut script may_stop must_stop no_calls back produced
   pub answers : answer ≡ produced.fault
-  pub stopped : answer ≡ Some Stopped → (passage : ℕ) × may_stop passage

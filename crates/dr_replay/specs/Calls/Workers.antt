@@ -2,12 +2,10 @@
 use Rattle.std.specs.Prelude.{◌≡◌, ◌≢◌, ◌⊎◌, ℕ, ◌+◌, ◌<◌, ◌++◌, true, List, [], ◌∷◌, length, map, take, Option, None, Some, Result, Ok, Err, All, IfOk, string_bytes}
 use Rattle.dr_seq.specs.declared.event.Event.{Event}
 use Rattle.dr_meaning.specs.declared.refusal.Refusal.{Refusal}
-use Rattle.dr_meaning.specs.Calls.Calling.{SomeCalls}
 use Rattle.dr_ring.specs.Calls.Ends.{SenderEnd, ReceiverEnd, HalterEnd, sender_place}
 use Rattle.dr_ring.specs.Calls.Sending.{ClosesOnceDone}
 use Rattle.dr_ring.specs.Calls.Settling.{HasRun}
 use Rattle.dr_ring.specs.Calls.Telling.{sender_does}
-use Rattle.dr_workers.specs.Calls.Serving.{Sends}
 use Rattle.dr_workers.specs.declared.producer.Produced.{Produced}
 use Rattle.dr_workers.specs.declared.fault.WorkFault.{WorkFault}
 use Rattle.dr_workers.specs.declared.fault.WorkFault.TheVariants as work
@@ -28,20 +26,19 @@ use Rattle.dr_operations.specs.declared.cause.Cause.{Cause}
 use Rattle.dr_replay.specs.declared.fault.ReplayFault.{ReplayFault}
 use Rattle.dr_replay.specs.declared.fault.ReplayFault.TheVariants as fault
 use Rattle.dr_reports.specs.Keeping.{Keeps, error_of}
+use Rattle.dr_replay.specs.Calls.Sending.{SendsInClaims}
 use Rattle.dr_replay.specs.declared.ring.Ran.{Ran}
 use Rattle.dr_accounts.specs.Handlers.{Books, Copies, IsBusinessOf, IsJournalOf, IsReplicaOf, Journals}
 use Rattle.dr_reports.specs.declared.worker.Worked.{Worked}
 use Rattle.dr_accounts.specs.Report.{journal_part, replica_part, business_part}
 
--- a sender sent the first of some events in such claims, of one or more, came to its gate with each, left none open, and answers what these calls came to; after them, and not before, it closed the ring
+-- a sender sent the first of some events in such claims and left none open; after them, and not before, it closed the ring
 pub record IsSending (cut : ℕ) (events : List Event) (may_stop must_stop : ℕ → Type 0) (given back : SenderEnd) (produced : Produced) : Type 0 where
-  pub some : 0 < cut
   pub place : sender_place back ≡ sender_place given
   pub published : back.knows.sent.published ≡ given.knows.sent.published ++ take produced.sent events
   pub all : produced.fault ≡ None → produced.sent ≡ length events
-  pub stopped : produced.fault ≡ Some work.Stopped → (passage : ℕ) × may_stop passage
   pub done : SenderEnd
-  pub calls : SomeCalls sender_does given done (Sends cut events may_stop must_stop produced)
+  pub sends : SendsInClaims sender_does cut events may_stop must_stop given done produced
   pub complete : LeavesNothingOpen given.knows.sent done.knows.sent
   pub closes : ClosesOnceDone done back
 

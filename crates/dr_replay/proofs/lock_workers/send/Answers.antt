@@ -22,13 +22,16 @@ returns g c =
     let ends : c.into_end-end.result ≡ run.new.inlet.end = c.into_end-end.ensures ∙ ap (λ (inlet : LockedInlet _ _ _). inlet.end) c.into_end-back.ensures in
     let sent : HasSent begun task.p c.get-cut.result task.script.now may_stop must_stop c.into_end-end.result run.result.fault = record {
       produced = run.result;
-      calls = asked (λ (old : LockedInlet _ _ _) call (new : LockedInlet _ _ _). (new.p ≡ old.p) × InletAsks begun old.p old.end call new.end)
-          (InletAsks begun task.p) (λ inlet. inlet.end) (λ inlet. inlet.p ≡ task.p)
-          (λ old new call here is. (is.0 ∙ here, subst (λ n. InletAsks begun n old.end call new.end) here is.1))
-          {Holds = Sends {E = Event} c.get-cut.result task.script.now may_stop must_stop run.result}
-          c.new-inlet.result run.new.inlet no_calls c.into_end-end.result number begins ends run.ensures.sends;
+      sends = record {
+        some = size_positive c.get-cut.result c.get-cut.ensures.size;
+        calls = asked (λ (old : LockedInlet _ _ _) call (new : LockedInlet _ _ _). (new.p ≡ old.p) × InletAsks begun old.p old.end call new.end)
+            (InletAsks begun task.p) (λ inlet. inlet.end) (λ inlet. inlet.p ≡ task.p)
+            (λ old new call here is. (is.0 ∙ here, subst (λ n. InletAsks begun n old.end call new.end) here is.1))
+            {Holds = Sends {E = Event} c.get-cut.result task.script.now may_stop must_stop run.result}
+            c.new-inlet.result run.new.inlet no_calls c.into_end-end.result number begins ends run.ensures.sends;
+        stopped = run.ensures.stopped;
+      };
       answers = refl;
-      stopped = run.ensures.stopped;
     }
     in
     subst (λ n. HasSent begun task.p n task.script.now may_stop must_stop c.into_end-end.result run.result.fault) c.get-cut.ensures.value sent

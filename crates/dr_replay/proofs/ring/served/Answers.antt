@@ -6,13 +6,11 @@ returns-clause-sending g c =
     let sent = c.sent-produced in
     let close = rw c.into_end-sender.ensures at c.close.ensures in
     rw (← c.new-live.ensures) (record {
-      some = sent.ensures.some;
       place = close.place ∙ sent.ensures.place;
       published = close.published ∙ sent.ensures.published;
       all = sent.ensures.all;
-      stopped = sent.ensures.stopped;
       done = sent.new.sender;
-      calls = sent.ensures.calls;
+      sends = record { some = sent.ensures.some; calls = sent.ensures.calls; stopped = sent.ensures.stopped };
       complete = sent.ensures.open;
       closes = close;
     })

@@ -1,4 +1,4 @@
-use Rattle.std.proofs.Common.{◌≡◌, ◌∙◌, ◌++◌, ℕ, Bool, false, List, [], Option, None, Some, Result, Ok, Err, IfOk, ap, arith, inl, inr, string_bytes, subst, sym, true}
+use Rattle.std.proofs.Common.{◌≡◌, ◌∙◌, ◌++◌, ℕ, Bool, false, List, [], Option, Some, Result, Ok, Err, IfOk, ap, arith, string_bytes, subst, sym, true}
 use Rattle.dr_seq.specs.declared.event.Event.{Event}
 use Rattle.dr_meaning.specs.Calls.Calling.{SomeCalls}
 use Rattle.dr_meaning.specs.Calls.Handling.{Relation}
@@ -7,8 +7,8 @@ use Rattle.dr_ring.specs.Calls.Telling.{receiver_does}
 use Rattle.dr_workers.specs.Calls.Serving.{Serves}
 use Rattle.dr_workers.specs.Meaning.Work.{HandsOut, batches_in, dealt_events}
 use Rattle.dr_workers.specs.declared.fault.WorkFault.{WorkFault}
-use Rattle.dr_workers.specs.declared.fault.WorkFault.TheVariants.{Stopped}
 use Rattle.dr_reports.specs.Keeping.{AnswersFor, IsServed, error_of}
+use Rattle.dr_reports.proofs.Answering.{answers_calls, lacks_memory, stopped_by}
 use Rattle.dr_reports.proofs.Refusing.{never_refused}
 use Rattle.dr_reports.proofs.worker.work.Goals.{in-Err-default, in-Ok-Some+in-Ok-this-2, in-Ok-Some+in-Err-1, in-Ok-None}
 use Rattle.dr_reports.proofs.worker.work.Goals as goal
@@ -16,26 +16,18 @@ use Rattle.dr_reports.proofs.worker.work.Goals as goal
 where_none : {A E : Type 0} (part : Result A E) (e : E) (Says : A → Type 0) → part ≡ Err e → IfOk part Says
 where_none part e Says is = subst (λ p. IfOk p Says) (sym is) tt
 
--- a part that is an error leaves no worker without a fault
-some_error : {A E : Type 0} {part : Result A E} {e : E} {P : Type 0} → part ≡ Err e → error_of part ≡ None → P
-some_error is none = absurd (let clash = sym (ap error_of is) ∙ none in cc)
-
 where_ok : {A E P : Type 0} {result : Result A E} {part : A} → result ≡ Ok part → IfOk result (λ x. P) → P
 where_ok {P = P} is holds = subst (λ r. IfOk r (λ x. P)) is holds
-
-stopped_by : {May : Type 0} (fault answer : Option WorkFault) → AnswersFor fault answer → (fault ≡ Some Stopped → May) → answer ≡ Some Stopped → May
-stopped_by fault answer (inl same) may is = may (sym same ∙ is)
-stopped_by fault answer (inr memory) may is = absurd (cc)
 
 shown_all : (old new : List Event) (dealt : List Event) → old ≡ [] → new ≡ old ++ dealt → dealt ≡ new
 shown_all old new dealt none is = sym (is ∙ ap (λ l. l ++ dealt) none)
 
 served_by : {A : Type 0} {goes : Relation Event A} {IsNew : A → Type 0} {failed : A → Bool} {may_stop must_stop : ℕ → Type 0} {given back : ReceiverEnd} {answer : Option WorkFault}
-    (start after : A) (fault : Option WorkFault) → IsNew start → failed start ≡ false → AnswersFor fault answer → (answer ≡ None → failed after ≡ false)
+    (start after : A) (fault : Option WorkFault) → IsNew start → failed start ≡ false → AnswersFor (failed after) fault answer
     → SomeCalls receiver_does given back (Serves 256 goes start after (Some (received_of given.knows)) (Some (received_of back.knows)) may_stop must_stop fault)
     → IsServed goes IsNew failed may_stop must_stop given back answer
-served_by start after fault new well answers fine calls =
-    record { start = start; after = after; fault = fault; new = new; well = well; calls = calls; answers = answers; fine = fine }
+served_by start after fault new well answers calls =
+    record { start = start; after = after; fault = fault; new = new; well = well; calls = calls; answers = answers }
 
 pub returns : goal.returns
 returns g c =
@@ -46,18 +38,15 @@ returns g c =
     let part = c.match-part.part in
     let serves = run.ensures.serves in
     let batches = batches_in serves.calls in
-    let answers : AnswersFor fault (error_of part) = elim c.match-part.branch [
-      | in-Err-default w ↦ inr (ap error_of w.part-is)
-      | in-Ok-Some+in-Ok-this-2 w ↦ inl (ap error_of w.part-is ∙ sym w.in-Ok-Some.is-1)
-      | in-Ok-Some+in-Err-1 w ↦ inl (ap error_of w.part-is ∙ sym w.in-Ok-Some.is-1)
-      | in-Ok-None w ↦ inl (ap error_of w.part-is ∙ sym w.in-Ok-None.is-1)
-    ]
-    in
-    let fine : error_of part ≡ None → g.P.Reporter.failed run.new.handler ≡ false = λ none. elim c.match-part.branch [
-      | in-Err-default w ↦ some_error w.part-is none
-      | in-Ok-Some+in-Ok-this-2 w ↦ some_error w.part-is none
-      | in-Ok-Some+in-Err-1 w ↦ some_error w.part-is none
-      | in-Ok-None w ↦ where_ok w.in-Ok-None.is-0 c.part.ensures.well
+    let failed : Bool = g.P.Reporter.failed run.new.handler in
+    let answers : AnswersFor failed fault (error_of part) = elim c.match-part.branch [
+      | in-Err-default w ↦ lacks_memory failed fault (error_of part) (ap error_of w.part-is)
+      | in-Ok-Some+in-Ok-this-2 w ↦ answers_calls failed fault (error_of part) (where_ok w.in-Ok-Some.is-0 c.part.ensures.well)
+          (ap error_of w.part-is ∙ sym w.in-Ok-Some.is-1)
+      | in-Ok-Some+in-Err-1 w ↦ answers_calls failed fault (error_of part) (where_ok w.in-Ok-Some.is-0 c.part.ensures.well)
+          (ap error_of w.part-is ∙ sym w.in-Ok-Some.is-1)
+      | in-Ok-None w ↦ answers_calls failed fault (error_of part) (where_ok w.in-Ok-None.is-0 c.part.ensures.well)
+          (ap error_of w.part-is ∙ sym w.in-Ok-None.is-1)
     ]
     in
     record {
@@ -80,7 +69,7 @@ returns g c =
             (subst (λ p. IfOk p (λ text. string_bytes text ≡ g.P.Reporter.part_of back.knows.received)) w.in-Ok-None.is-0
             (subst (λ l. IfOk c.part.result (λ text. string_bytes text ≡ g.P.Reporter.part_of l)) all says))
       ];
-      stopped = λ is. stopped_by fault (error_of part) answers run.ensures.stopped (ap error_of is);
-      refused = never_refused 256 _ _ _ _ _ _ _ fault part (omega arith) answers serves;
-      served = served_by c.begin-handler.result run.new.handler fault c.begin-handler.ensures.new c.begin-handler.ensures.well answers fine serves;
+      stopped = λ is. stopped_by failed fault (error_of part) answers run.ensures.stopped (ap error_of is);
+      refused = never_refused 256 _ _ _ _ _ _ _ fault part failed (omega arith) answers serves;
+      served = served_by c.begin-handler.result run.new.handler fault c.begin-handler.ensures.new c.begin-handler.ensures.well answers serves;
     }
