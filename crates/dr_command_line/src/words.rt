@@ -309,7 +309,8 @@ fn plan_of(alloc: Global, matches: &ArgMatches<'_>) -> Result<Plan, LineFault> {
     }
 }
 
-/// Reads a command line, of which the first word is the program's own name.
+/// Reads a command line: the words as `env::args` gives them, of which the first is the program's own
+/// name. An error is what a program prints, and with which status it ends.
 pub fn plan(alloc: Global, words: &[String]) -> Result<Plan, LineFault> {
     match command(alloc)?.try_get_matches_from(words) {
         Ok(matches) => plan_of(alloc, &matches),
