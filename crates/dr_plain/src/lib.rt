@@ -6,7 +6,6 @@ mod body;
 mod claiming;
 pub mod events;
 mod exchanges;
-mod filling;
 pub mod finishing;
 pub mod inlet;
 pub mod laws;
@@ -22,7 +21,6 @@ mod reclaiming;
 pub mod record;
 pub mod sender;
 pub mod settled;
-mod turning;
 mod updating;
 
 pub use dr_cells::Values;

@@ -10,7 +10,6 @@ mod looks;
 mod play;
 mod texts;
 mod threads;
-mod turns;
 mod workers;
 
 use crate::graphs::{Shape, graph};

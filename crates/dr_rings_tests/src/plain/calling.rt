@@ -69,7 +69,7 @@ impl ShowsTexts for Receiver<String> {
     }
 }
 
-fn came<T>(settled: &Settled<T>) -> Came {
+fn came(settled: &Settled) -> Came {
     let mut handlers = [(0u64, 0u64); 3];
     for (h, counts) in handlers.iter_mut().enumerate() {
         if h < settled.handlers() {
