@@ -1,6 +1,6 @@
 //! Rows of tokens, one a cell or a slot, which have no bytes, and of other things.
 
-ghost use Rattle.std.specs.Fn.{FnOnceReturnsAtMut};
+ghost use Rattle.std.specs.Fn.{FnOnceReturnsAtMut, CalledWithState};
 ghost use Rattle.std.specs.Prelude.{◌≡◌, ◌<◌, ◌≤◌, [], ◌∷◌, ◌++◌, replicate, length, map, slice_set, All, Some, IfOk};
 ghost use mathlib.Core.Option.{some};
 ghost use lib.ListN.{get_elem?};
@@ -75,6 +75,22 @@ pub fn change_in<T, F: FnOnce(&mut T)>(
     ensures { (was : T) × (now : T) × (token.old.hold ≡ whole was) × (token.new ≡ token_at cells.ptr place (whole now)) × FnOnceReturnsAtMut F.FnOnce change was tt now }
 {
     change(token.get_mut(cells, place));
+}
+
+/// The same by a closure that may be called again, with a number: what it becomes is told.
+pub fn change_by<T, F: FnMut(&mut T, u64)>(
+    token: &mut Token<T>,
+    cells: Cells<T>,
+    place: usize,
+    fill: &mut F,
+    number: u64,
+)
+    requires cell { IsOf cells.ptr place token.old × IsWhole token.old.hold }
+    requires callable { F.IsAlwaysCallable fill.old }
+    ensures changed { (was : T) × (now : T) × (token.old.hold ≡ whole was) × (token.new ≡ token_at cells.ptr place (whole now)) × CalledWithState F.FnMut fill.old was number tt fill.new now }
+    ensures callable { F.IsAlwaysCallable fill.new }
+{
+    fill(token.get_mut(cells, place), number);
 }
 
 /// One of a row, where it lies.

@@ -1,5 +1,5 @@
 -- The run of a ring's ends, once its receivers' seats have come to the sender's.
-use Rattle.std.proofs.Common.{◌≡◌, ℕ, ◌<◌, List, map, sym, ap, ◌∙◌, subst}
+use Rattle.std.proofs.Common.{◌≡◌, ℕ, ◌<◌, false, List, map, sym, ap, ◌∙◌, subst}
 use Rattle.std.proofs.lemmas.List.{length-map}
 use mathlib.Core.Option.{some}
 use lib.ListN.{get_elem?}
@@ -13,19 +13,21 @@ use Rattle.dr_runs.proofs.Gathering.{InRun, in_run}
 use Rattle.dr_runs.proofs.Lists.{same_lists, at_map, map_there}
 use Rattle.dr_plain.specs.declared.record.SenderRecord.{SenderRecord}
 use Rattle.dr_plain.specs.declared.record.ReceiverRecord.{ReceiverRecord}
+use Rattle.dr_plain.specs.declared.record.HalterRecord.{HalterRecord}
 use Rattle.dr_plain.specs.declared.record.EndRecord.{EndRecord}
 use Rattle.dr_plain.specs.declared.record.Step.{Step}
 use Rattle.dr_plain.specs.Meaning.Shape.{Shape, handlers_of, ring_setup}
 use Rattle.dr_plain.specs.Meaning.Rule.{World, KeepsRule}
 use Rattle.dr_plain.specs.Meaning.Moments.{new_world, picture_of, Runs}
 use Rattle.dr_plain.specs.Meaning.Stores.{stores_of_sender, stores_of_receiver}
-use Rattle.dr_plain.specs.Meaning.Settling.{Settles}
+use Rattle.dr_plain.specs.Meaning.Settling.{FoundUnhalted, Settles}
 use Rattle.dr_plain.specs.Inside.Seats.{ring_ends, exchange}
 use Rattle.dr_plain.specs.Inside.Gathering.{sender_known, receiver_known, halter_known}
 use Rattle.dr_plain.specs.Calls.Ends.{SenderEnd, ReceiverEnd, HalterStand}
 use Rattle.dr_plain.specs.Calls.Settling.{AreAllEnds, HasRun}
 use Rattle.dr_plain.proofs.Beginning.{kept_opening, keeps_runs}
 use Rattle.dr_plain.proofs.Settling.{settles}
+use Rattle.dr_plain.proofs.Unhalted.{unhalted_since}
 
 module _ {T : Type 0} where
   kept_of : (k : Shape) (w : World T) → IsReached (exchange k) w → KeepsRule k w
@@ -76,6 +78,15 @@ module _ {T : Type 0} where
       settles k w s.knows (map knows_of es) A.sender
       (λ h r at. (let here = ap (λ (xs : List (ReceiverRecord T)). get_elem? xs h) A.receivers ∙ at in
       ap (λ (n : ℕ). get_elem? w.receivers n) (A.rule.received h r here).number ∙ here)) A.rule
+
+  -- where a halter never halted, the sender found no halt but its own
+  pub all_unhalted : (k : Shape) (v now : View (EndRecord T) (Step T)) (s : SenderEnd T) (es : List (ReceiverEnd T)) (t : HalterStand T)
+      → IsInView ring_ends now (halter_known t) → Together k v now s es → t.knows.halted ≡ false → FoundUnhalted s.knows
+  all_unhalted k v now s es t I G off =
+      let H : InRun (exchange k) G.ran.world G.ran.reached.steps (halter_known t) = in_run (exchange k) now G.ran (halter_known t) I in
+      let R = G.ran.reached in
+      subst FoundUnhalted (all_stand k v now s es G).sender
+      (unhalted_since k R.steps R.entries G.ran.world R.made.0 R.made.1 R.runs (ap (λ (q : HalterRecord T). q.halted) H.stands ∙ off))
 
   abbrev Moments : (Shape → List (Step T) → Transcript T → World T → Type 0) → Type 0
   Moments P = (k : Shape) (steps : List (Step T)) (entries : Transcript T) (w : World T) → IsGraph k.upstreams → 0 < k.size

@@ -8,7 +8,7 @@ use mathlib.Core.Option.{some, some-injective, some-ne-none}
 use lib.ListN.{get_elem?}
 use Rattle.atomic_table.proofs.Lists.{set_here, set_else}
 use Rattle.dr_cells.specs.declared.token.Token.{Token}
-use Rattle.dr_cells.specs.Hold.{whole, kept, held}
+use Rattle.dr_cells.specs.Hold.{whole, kept}
 use Rattle.dr_cells.specs.Tokens.{token_at}
 use Rattle.dr_runs.proofs.Lists.{at_map, map_there, at_behind}
 use Rattle.dr_lent.proofs.Lists.{at_slice}

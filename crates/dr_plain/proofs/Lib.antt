@@ -9,6 +9,8 @@ pub mod Allowed
 pub mod Machine
 pub mod Pictures
 pub mod Halting
+pub mod Unhalted
+pub mod Unrefused
 pub mod Rising
 pub mod Replies
 pub mod Later

@@ -1,19 +1,32 @@
 -- What a run of a ring says of its ends, once they come together.
-use Rattle.std.proofs.Common.{◌≡◌, ℕ, ◌+◌, ◌≤◌, List, length, get_or, ap, ◌∙◌, subst, arith}
-use Rattle.std.specs.Prelude.{Contains}
+use Rattle.std.proofs.Common.{◌≡◌, ℕ, ◌+◌, ◌<◌, ◌≤◌, List, length, get_or, ap, ◌∙◌, ⊎_elim, subst, arith}
+use Rattle.std.specs.Prelude.{◌⊎◌, Contains}
 use mathlib.Core.Option.{some}
 use lib.ListN.{get_elem?}
 use Rattle.dr_graph.specs.Meaning.Graph.{upstreams_of, finals}
 use Rattle.dr_runs.proofs.Lists.{take_whole}
-use Rattle.dr_plain.specs.Meaning.Shape.{Shape}
-use Rattle.dr_runs.specs.Words.{count_word}
+use Rattle.dr_plain.specs.Meaning.Shape.{Shape, handlers_of}
+use Rattle.dr_runs.specs.Words.{count_word, cursor_word}
+use Rattle.dr_runs.specs.declared.look.Look.{Look}
 use Rattle.dr_plain.specs.declared.record.SenderRecord.{SenderRecord}
 use Rattle.dr_plain.specs.declared.record.ReceiverRecord.{ReceiverRecord}
 use Rattle.dr_plain.specs.Meaning.Records.{claimed}
 use Rattle.dr_plain.specs.Meaning.Rule.{World, KeepsRule}
+use Rattle.dr_plain.proofs.Keeps.{receiver_of_handler}
 use Rattle.dr_plain.specs.Meaning.Settling.{HasBeginning, FollowsUpstream, Settles}
 
 module _ {T : Type 0} where
+  -- what a receiver saw of publications and completions is there now, and no more is completed than published
+  saw_published : (k : Shape) (w : World T) (h i u : ℕ) (r : ReceiverRecord T) (x : Look) → get_elem? w.receivers h ≡ some r → KeepsRule k w
+      → get_elem? r.looks i ≡ some x → (x.word ≡ cursor_word) ⊎ (x.word ≡ count_word u) → x.value ≤ length w.sender.published
+  saw_published k w h i u r x at K there which =
+      let past = (K.received h r at).looks i x there in let before = past.before in let rises = past.rises in
+      ⊎_elim (λ cursor. (let now : get_or w.words x.word 0 ≡ length w.sender.published = ap (λ (n : ℕ). get_or w.words n 0) cursor ∙ K.counts.cursor in omega arith))
+      (λ count. (let below : u < handlers_of k = omega arith in let other = receiver_of_handler k w K u below in
+      let now : get_or w.words x.word 0 ≡ other.0.completed = ap (λ (n : ℕ). get_or w.words n 0) count ∙ other.2.count in
+      let completed = other.2.completed in let taken = other.2.taken in omega arith))
+      which
+
   agrees : (k : Shape) (w : World T) (s : SenderRecord T) (r : ReceiverRecord T) → w.sender ≡ s → get_elem? w.receivers r.number ≡ some r → KeepsRule k w
       → HasBeginning s r
   agrees k w s r same at K = let was = K.received r.number r at in subst (λ (q : SenderRecord T). HasBeginning q r) same (record {
@@ -21,6 +34,7 @@ module _ {T : Type 0} where
     taken = was.taken;
     drained = λ told. was.beginning ∙ take_whole w.sender.published (length r.received) (was.told told).1;
     completed = was.completed;
+    seen = λ i u x there which. saw_published k w r.number i u r x at K there which;
     room = λ has. (let e : claimed w.sender ≤ k.size + get_or w.words (count_word r.number) 0 = K.room r.number (subst (λ (p : Shape). Contains (finals p.upstreams) r.number) K.sender_plan has) in
         let size : w.sender.plan.size ≡ k.size = ap (λ (p : Shape). p.size) K.sender_plan in let count = was.count in omega arith);
   })

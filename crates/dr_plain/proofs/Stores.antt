@@ -12,7 +12,8 @@ use Rattle.dr_plain.specs.Meaning.Shape.{Shape, handlers_of}
 use Rattle.dr_plain.specs.Meaning.Words.{words_of}
 use Rattle.dr_runs.specs.Words.{cursor_word, closed_word, halt_word, count_word, HaltAndClose}
 use Rattle.dr_plain.specs.declared.record.ReceiverRecord.{ReceiverRecord}
-use Rattle.dr_plain.specs.Meaning.Records.{claimed, taken_at, published_more, sender_halted, sender_closed, closed_looked}
+use Rattle.dr_plain.specs.Meaning.Records.{claimed, taken_at, published_more, seen_before, sender_halted, sender_closed, closed_looked}
+use Rattle.dr_runs.specs.declared.look.Look.{Look}
 use Rattle.dr_runs.specs.Looks.{look}
 use Rattle.dr_plain.specs.Meaning.Records.{receiver_looked, tells_drained, cursor_looked, completed_to, halter_halted}
 use Rattle.dr_plain.specs.Meaning.Rule.{World, Room, ReceiverKept, KeepsRule}
@@ -61,10 +62,10 @@ module _ {T : Type 0} where
       }
 
   -- halt or closed becomes 1: what speaks of neither stays
-  flagged : (k : Shape) (w : World T) (i : ℕ) → 0 < i → i < 32 → word_at w.words i ≤ 1 → (a b c : Bool)
+  flagged : (k : Shape) (w : World T) (i : ℕ) → 0 < i → i < 32 → word_at w.words i ≤ 1 → (a b c : Bool) (before : List Look)
       → HaltAndClose (set w.words i 1) w.sender.pending a b c → KeepsRule k w
-      → KeepsRule k (record w { words = set w.words i 1; sender = record w.sender { halted = a; closed = b }; halter = record w.halter { halted = c } })
-  flagged k w i pos lt flag a b c flags K =
+      → KeepsRule k (record w { words = set w.words i 1; sender = record w.sender { halted = a; closed = b; before = before }; halter = record w.halter { halted = c } })
+  flagged k w i pos lt flag a b c before flags K =
       let wide = K.wide in let us = set w.words i 1 in let inside : i < length w.words = omega arith in
       let rises : i < words_of k → word_at w.words i ≤ 1 = λ _. flag in
       let here : word_at us i ≡ 1 = get_or-set_same w.words i 1 0 inside in
@@ -86,16 +87,16 @@ module _ {T : Type 0} where
       }
 
   pub keeps_sender_halts : (k : Shape) (w : World T) → KeepsRule k w → KeepsRule k (sender_stores w halt_word 1 (sender_halted w.sender))
-  keeps_sender_halts k w K = flagged k w halt_word (omega arith) (omega arith) K.flags.halt true w.sender.closed w.halter.halted (halts_flags w.words w.sender.pending w.sender.halted w.sender.closed w.halter.halted true w.halter.halted (let wide = K.wide in omega arith) (inl refl) K.flags) K
+  keeps_sender_halts k w K = flagged k w halt_word (omega arith) (omega arith) K.flags.halt true w.sender.closed w.halter.halted (seen_before w.sender) (halts_flags w.words w.sender.pending w.sender.halted w.sender.closed w.halter.halted true w.halter.halted (let wide = K.wide in omega arith) (inl refl) K.flags) K
 
   pub keeps_halter_halts : (k : Shape) (w : World T) → KeepsRule k w
       → KeepsRule k (record w { words = set w.words halt_word 1; halter = halter_halted w.halter })
-  keeps_halter_halts k w K = flagged k w halt_word (omega arith) (omega arith) K.flags.halt w.sender.halted w.sender.closed true (halts_flags w.words w.sender.pending w.sender.halted w.sender.closed w.halter.halted w.sender.halted true (let wide = K.wide in omega arith) (inr refl) K.flags) K
+  keeps_halter_halts k w K = flagged k w halt_word (omega arith) (omega arith) K.flags.halt w.sender.halted w.sender.closed true w.sender.before (halts_flags w.words w.sender.pending w.sender.halted w.sender.closed w.halter.halted w.sender.halted true (let wide = K.wide in omega arith) (inr refl) K.flags) K
 
   pub keeps_closes : (k : Shape) (w : World T) → w.sender.halted ≡ true → w.sender.pending ≡ 0 → KeepsRule k w
       → KeepsRule k (sender_stores w closed_word 1 (sender_closed w.sender))
   keeps_closes k w halted all K =
-      flagged k w closed_word (omega arith) (omega arith) K.flags.close w.sender.halted true w.halter.halted
+      flagged k w closed_word (omega arith) (omega arith) K.flags.close w.sender.halted true w.halter.halted w.sender.before
       (closes_flags w.words w.sender.pending w.sender.halted w.sender.closed w.halter.halted (let wide = K.wide in omega arith) halted all K.flags) K
 
   -- one receiver's record changes, and no word

@@ -6,6 +6,7 @@ pub mod Making
 pub mod Settling
 pub mod Sending
 pub mod Receiving
+pub mod Turning
 pub mod Replies
 pub mod Handing
 pub mod Inlets

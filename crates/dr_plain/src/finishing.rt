@@ -1,6 +1,6 @@
 //! All ends of a ring come together, and its events come back.
 
-ghost use Rattle.std.specs.Prelude.{◌≡◌, ◌<◌, List, length, map, slice_set, Some};
+ghost use Rattle.std.specs.Prelude.{◌≡◌, ◌<◌, false, List, length, map, slice_set, Some};
 ghost use Rattle.std.specs.Arc.{arc_value};
 ghost use Rattle.dr_cells.specs.Tokens.{IsAll};
 ghost use Rattle.dr_cells.specs.declared.token.Token.{Token as TokenValue};
@@ -11,7 +11,7 @@ ghost use Rattle.dr_lent.specs.Rows.{cells_of};
 ghost use Rattle.dr_plain.specs.declared.record.EndRecord.{EndRecord};
 ghost use Rattle.dr_plain.specs.declared.record.Step.{Step};
 ghost use Rattle.dr_plain.specs.Meaning.Records.{claimed as claimed_of};
-ghost use Rattle.dr_plain.specs.Meaning.Settling.{Settles};
+ghost use Rattle.dr_plain.specs.Meaning.Settling.{FoundUnhalted, Settles};
 ghost use Rattle.dr_plain.specs.Calls.Settling.{AreAllEnds, IsHalterOf, HasRun, handler_counts};
 ghost use Rattle.dr_plain.specs.Calls.Ends.{SenderEnd, ReceiverEnd, HalterStand};
 ghost use Rattle.dr_plain.specs.Inside.Fits.{PartsFit};
@@ -32,6 +32,7 @@ use dr_lent::rows::{put_at, whole_row};
 use dr_runs::HandlerCounts;
 use std::alloc::Global;
 use std::marker::Brand;
+use std::snapshot::Snapshot;
 use std::sync::Arc;
 
 /// A receiver's seat comes to the sender's, and its counts and tokens to their places.
@@ -107,25 +108,17 @@ pub(crate) fn take_back<T>(
     whole_row(cells, tokens)
 }
 
-/// Brings all ends of a ring together, and gives its events back: of each cell what was last written
-/// there, or what the ring began with. Each is there once, whatever the ends had in hand. They may
-/// be used, and are dropped with the answer. It takes no memory, and never fails.
-///
-/// Each receiver has the beginning of what the sender published, all of it where it was told that
-/// the ring drained; no handler took more than its upstreams completed; and no more is claimed
-/// than a round beyond what each final handler completed. There is one run of all ends that came
-/// to what they know, in which each end stored exactly what it did, and its transcript is lawful.
-pub fn finish<T: Drop>(
+// All ends come together in the sender's seat, and give each handler's counts, and the events.
+fn bring_together<T: Drop>(
     sender: Sender<T>,
     receivers: Vec<Receiver<T>>,
     halter: Halter<T>,
-) -> (Settled, Values<T>)
+) -> (Vec<HandlerCounts>, Values<T>)
     requires ends { AreAllEnds sender receivers.items }
     requires halter { IsHalterOf sender halter }
-    ensures claimed { result.0.claimed ≡ claimed_of sender.knows }
-    ensures published { result.0.published ≡ length sender.knows.published }
-    ensures handlers { result.0.handlers.items ≡ map (λ e. handler_counts e.knows) receivers.items }
+    ensures handlers { result.0.items ≡ map (λ e. handler_counts e.knows) receivers.items }
     ensures lists { Settles sender.knows (map (λ e. e.knows) receivers.items) }
+    ensures unhalted { halter.knows.halted ≡ false → FoundUnhalted sender.knows }
     ensures run { HasRun sender receivers.items halter }
     ensures events { map (λ event. Some event) result.1 ≡ sender.cells }
 {
@@ -146,10 +139,46 @@ pub fn finish<T: Drop>(
         sends.tokens,
     );
     moments::<T>();
+    (counts, sends.strip.close(row))
+}
+
+/// Brings all ends of a ring together, and gives its events back: of each cell what was last written
+/// there, or what the ring began with. Each is there once, whatever the ends had in hand. They may
+/// be used, and are dropped with the answer. It takes no memory, and never fails.
+///
+/// Each receiver has the beginning of what the sender published, all of it where it was told that
+/// the ring drained; no handler took more than its upstreams completed; and no more is claimed
+/// than a round beyond what each final handler completed. There is one run of all ends that came
+/// to what they know, in which each end stored exactly what it did, and its transcript is lawful.
+/// Where the halter never halted the ring, the sender found no halt but its own.
+pub fn finish<T: Drop>(
+    sender: Sender<T>,
+    receivers: Vec<Receiver<T>>,
+    halter: Halter<T>,
+) -> (Settled<T>, Values<T>)
+    requires ends { AreAllEnds sender receivers.items }
+    requires halter { IsHalterOf sender halter }
+    ensures ends { (result.0.sender.value ≡ sender) × (result.0.receivers.value.items ≡ receivers.items) × (result.0.halter.value ≡ halter) }
+    ensures claimed { result.0.claimed ≡ claimed_of sender.knows }
+    ensures published { result.0.published ≡ length sender.knows.published }
+    ensures handlers { result.0.handlers.items ≡ map (λ e. handler_counts e.knows) receivers.items }
+    ensures lists { Settles sender.knows (map (λ e. e.knows) receivers.items) }
+    ensures unhalted { halter.knows.halted ≡ false → FoundUnhalted sender.knows }
+    ensures run { HasRun sender receivers.items halter }
+    ensures events { map (λ event. Some event) result.1 ≡ sender.cells }
+{
+    let sent = Snapshot::of(&sender);
+    let received = Snapshot::of(&receivers);
+    let halted = Snapshot::of(&halter);
+    let (claimed, published) = (sender.claimed(), sender.published());
+    let (handlers, events) = bring_together(sender, receivers, halter);
     let settled = Settled {
-        claimed: sends.claimed,
-        published: sends.published,
-        handlers: counts,
+        claimed,
+        published,
+        handlers,
+        sender: sent,
+        receivers: received,
+        halter: halted,
     };
-    (settled, sends.strip.close(row))
+    (settled, events)
 }

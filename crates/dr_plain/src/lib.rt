@@ -6,6 +6,7 @@ mod body;
 mod claiming;
 pub mod events;
 mod exchanges;
+mod filling;
 pub mod finishing;
 pub mod inlet;
 pub mod laws;
@@ -21,6 +22,7 @@ mod reclaiming;
 pub mod record;
 pub mod sender;
 pub mod settled;
+mod turning;
 mod updating;
 
 pub use dr_cells::Values;

@@ -5,8 +5,9 @@ pub use dr_lent::Lent;
 use dr_runs::Look;
 use std::collections::LinkedList;
 
-/// What the sender knows: which events it published, each as it was lent, how many sequences it claimed past them, whether it halted or closed the ring, and
-/// what it saw.
+/// What the sender knows: which events it published, each as it was lent, how many sequences it
+/// claimed past them, whether it halted or closed the ring, what it saw and, once it halted, what of
+/// that it saw before.
 pub struct SenderRecord<T> {
     pub plan: Plan<T>,
     pub published: LinkedList<Lent<T>>,
@@ -14,6 +15,7 @@ pub struct SenderRecord<T> {
     pub halted: bool,
     pub closed: bool,
     pub looks: LinkedList<Look>,
+    pub before: LinkedList<Look>,
 }
 
 /// What a receiver knows: its number, the events that it received, each as it was lent, how many it

@@ -3,17 +3,24 @@
 ghost use Rattle.std.specs.Prelude.{◌≡◌, ◌<◌, length};
 ghost use Rattle.dr_runs.specs.Gathering.{counts_at};
 
+use crate::laws::Halter;
+use crate::receiver::Receiver;
+use crate::sender::Sender;
 use dr_runs::HandlerCounts;
+use std::snapshot::Snapshot;
 
-/// How far a ring came.
+/// How far a ring came, and, in contracts alone, which ends came together.
 #[derive(Drop)]
-pub struct Settled {
+pub struct Settled<T> {
     pub(crate) claimed: u64,
     pub(crate) published: u64,
     pub(crate) handlers: Vec<HandlerCounts>,
+    pub(crate) sender: Snapshot<Sender<T>>,
+    pub(crate) receivers: Snapshot<Vec<Receiver<T>>>,
+    pub(crate) halter: Snapshot<Halter<T>>,
 }
 
-impl Settled {
+impl<T> Settled<T> {
     /// How many sequences were claimed.
     pub fn claimed(&self) -> u64
         ensures { result ≡ self.now.claimed }

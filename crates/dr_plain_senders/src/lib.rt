@@ -11,6 +11,7 @@ mod body;
 mod claiming;
 mod events;
 mod exchanges;
+mod filling;
 mod finishing;
 mod gathered;
 mod giving_up;

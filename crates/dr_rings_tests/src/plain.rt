@@ -10,6 +10,7 @@ mod looks;
 mod play;
 mod texts;
 mod threads;
+mod turns;
 mod workers;
 
 use crate::graphs::{Shape, graph};

@@ -4,6 +4,7 @@ ghost use Rattle.dr_plain_senders.specs.Calls.Settling.{AreAllEnds};
 
 mod calling;
 mod endings;
+mod filling;
 mod leaving;
 mod opening;
 mod play;

@@ -53,25 +53,12 @@ impl InPlaceHandler<Order> for Sum {
     }
 }
 
-/// Takes a handler through the next orders, each where it lies.
-fn read(receiver: &mut Receiver<Order>, sum: &mut Sum) -> Result<Polled, Refusal> {
-    let polled = receiver.poll(BATCH)?;
-    if let Polled::Batch { first, count, end } = polled {
-        for (k, order) in receiver.events().enumerate() {
-            let s = first.wrapping_add(k as u64);
-            sum.on_event_in_place(order, s, end);
-        }
-        receiver.complete(first.wrapping_add(count))?;
-    }
-    Ok(polled)
-}
-
 /// Takes a handler through all orders, until the ring has drained.
 fn serve<R: Wait>(rt: &R, mut receiver: Receiver<Order>) -> Result<u64, Fault> {
     let mut sum = Sum { total: 0 };
     let mut waiting = Waiting::new(BATCH);
     for _ in rt.forever() {
-        match read(&mut receiver, &mut sum) {
+        match receiver.turn(&mut sum, BATCH) {
             Ok(Polled::Batch { count, .. }) => waiting.found(count),
             Ok(Polled::Drained) => return Ok(sum.total),
             Ok(Polled::Gating | Polled::Idle) => waiting.wait(),

@@ -4,7 +4,7 @@ use mathlib.Core.Option.{some}
 use lib.ListN.{get_elem?}
 use denote.RawPtr.{Ptr}
 use Rattle.dr_cells.specs.declared.token.Token.{Token}
-use Rattle.dr_cells.specs.Hold.{whole, kept, held}
+use Rattle.dr_cells.specs.Hold.{whole, kept}
 use Rattle.dr_cells.specs.Tokens.{token_at}
 use Rattle.dr_graph.specs.Meaning.Graph.{finals}
 use Rattle.dr_runs.specs.Stretches.{stretch, rows}

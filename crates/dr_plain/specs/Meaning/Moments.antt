@@ -28,7 +28,7 @@ use Rattle.dr_runs.specs.Entries.{entry, told_drained}
 module _ {T : Type 0} where
   -- the ends of a new ring
   abbrev pub fresh_sender : Shape → SenderRecord T
-  fresh_sender k = record { plan = k; published = []; pending = 0; halted = false; closed = false; looks = [] }
+  fresh_sender k = record { plan = k; published = []; pending = 0; halted = false; closed = false; looks = []; before = [] }
 
   abbrev pub fresh_receiver : Shape → ℕ → ReceiverRecord T
   fresh_receiver k h = record { plan = k; number = h; received = []; completed = 0; told = false; looks = [] }

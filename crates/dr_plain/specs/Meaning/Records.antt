@@ -40,8 +40,12 @@ module _ {T : Type 0} where
   abbrev pub published_more : SenderRecord T → List (Lent T) → SenderRecord T
   published_more r lents = record r { published = r.published ++ lents; pending = r.pending - length lents }
 
+  -- what the sender saw before it halted the ring itself
+  abbrev pub seen_before : SenderRecord T → List Look
+  seen_before r = if r.halted then r.before else r.looks
+
   abbrev pub sender_halted : SenderRecord T → SenderRecord T
-  sender_halted r = record r { halted = true }
+  sender_halted r = record r { halted = true; before = seen_before r }
 
   abbrev pub sender_closed : SenderRecord T → SenderRecord T
   sender_closed r = record r { closed = true }

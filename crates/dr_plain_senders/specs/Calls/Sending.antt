@@ -116,9 +116,13 @@ module _ {T : Type 0} where
     pub gained : (s : ℕ) → lo ≤ s → s < lo + n → (x : T) × (get_elem? cells' (cell_of k s) ≡ some (Some x)) × LayThere k r s x
     pub others : (i : ℕ) → ((s : ℕ) → lo ≤ s → s < lo + n → cell_of k s ≢ i) → get_elem? cells' i ≡ get_elem? cells i
 
-  -- nothing is written of what a claim adds
+  -- all that a sender has is below a sequence
+  abbrev pub IsBehind : SenderRecord T → ℕ → Type 0
+  IsBehind r lo = (s : ℕ) (t : Stage T) → Owns r s t → s < lo
+
+  -- nothing is written of what a claim adds, which is behind all that the sender had
   abbrev pub ClaimGains : SenderEnd T → ℕ → SenderEnd T → Result Claimed ClaimFault → Type 0
-  ClaimGains e n e' (Ok c) = (e'.writes ≡ e.writes ++ replicate n None) × GainsCells e.plan e.knows c.lo n e.cells e'.cells
+  ClaimGains e n e' (Ok c) = (e'.writes ≡ e.writes ++ replicate n None) × GainsCells e.plan e.knows c.lo n e.cells e'.cells × IsBehind e.knows c.lo
   ClaimGains e n e' (Err fault) = (e'.writes ≡ e.writes) × (e'.cells ≡ e.cells)
 
   -- the call of a sender's end

@@ -69,7 +69,7 @@ impl ShowsTexts for Receiver<String> {
     }
 }
 
-fn came(settled: &Settled) -> Came {
+fn came<T>(settled: &Settled<T>) -> Came {
     let mut handlers = [(0u64, 0u64); 3];
     for (h, counts) in handlers.iter_mut().enumerate() {
         if h < settled.handlers() {

@@ -1,4 +1,4 @@
-use Rattle.std.proofs.Common.{◌≡◌, ℕ, ◌<◌, ◌≤◌, inl, inr, List, [], ◌∷◌, ◌++◌, Option, length, Result, Ok, Err, subst, refl, ap, ◌∙◌}
+use Rattle.std.proofs.Common.{◌≡◌, ℕ, ◌<◌, ◌≤◌, ⊎_elim, List, [], ◌∷◌, ◌++◌, Option, length, Result, Ok, Err, subst, refl, ap, ◌∙◌}
 use Rattle.std.specs.Prelude.{slice_index}
 use mathlib.Core.Option.{some}
 use lib.ListN.{get_elem?}
@@ -74,21 +74,31 @@ returns-clause-progress g c k steps entries w graph some_slot runs =
 at_last : {T : Type 0} (w : World T) (seen xs : List Look) (v : ℕ) → FoundHalt w seen → seen ≡ xs ++ look halt_word v ∷ [] → slice_index w.words halt_word ≡ v
 at_last w seen xs v found are = found ∙ ap (λ (ys : List Look). last_look 0 ys halt_word) are ∙ last_look_more 0 xs halt_word v
 
-decided : {T : Type 0} (k : Shape) (w : World T) (K : KeepsRule k w) (n : ℕ) (r : SenderRecord T) (seen : List Look) (result : Result Claimed Refusal)
-    → w.sender ≡ record r { looks = w.sender.looks } → LooksToClaim r n seen result → DecidesClaim k w n seen result → Decided k w K n result
-decided k w K n r seen (Err BadCount) same looks D = tt
-decided k w K n r seen (Err Halted) same (inl one) D = at_last w seen [] 1 D one
-decided k w K n r seen (Err Halted) same (inr late) D = at_last w seen (look halt_word 0 ∷ gate_looks r late.counts) 1 D late.saw
-decided k w K n r seen (Err Exhausted) same one D = at_last w seen [] 0 D one
-decided k w K n r seen (Err NoRoom) same looks D = let found = looks.1 in
-    no_room_at k w K n found.before r looks.0 same found.last found.among found.behind
-    (subst (λ (xs : List Look). (i : ℕ) (x : Look) → get_elem? xs i ≡ some x → slice_index w.words x.word ≤ x.value) looks.2 D)
-decided k w K n r seen (Err other) same looks D = absurd looks
-decided k w K n r seen (Ok c) same looks D = (at_last w seen (look halt_word 0 ∷ gate_looks r looks.0) 0 D.0 looks.2, D.1, D.2)
+abbrev Decides : {T : Type 0} (k : Shape) (w : World T) → KeepsRule k w → ℕ → SenderRecord T → List Look → Result Claimed Refusal → Type 0
+Decides k w K n r seen result =
+    w.sender ≡ record r { looks = w.sender.looks } → LooksToClaim r n seen result → DecidesClaim k w n seen result → Decided k w K n result
+
+-- any, where one that found the ring halted is decided, and one that found no room
+decided : {T : Type 0} (k : Shape) (w : World T) (K : KeepsRule k w)
+    → ((n : ℕ) (r : SenderRecord T) (seen : List Look) → Decides k w K n r seen (Err Halted))
+    → ((n : ℕ) (r : SenderRecord T) (seen : List Look) → Decides k w K n r seen (Err NoRoom))
+    → (n : ℕ) (r : SenderRecord T) (seen : List Look) (result : Result Claimed Refusal) → Decides k w K n r seen result
+decided k w K halted behind n r seen (Err BadCount) same looks D = tt
+decided k w K halted behind n r seen (Err Halted) same looks D = halted n r seen same looks D
+decided k w K halted behind n r seen (Err Exhausted) same one D = at_last w seen [] 0 D one
+decided k w K halted behind n r seen (Err NoRoom) same looks D = behind n r seen same looks D
+decided k w K halted behind n r seen (Err other) same looks D = absurd looks
+decided k w K halted behind n r seen (Ok c) same looks D = (at_last w seen (look halt_word 0 ∷ gate_looks r looks.0) 0 D.0 looks.2, D.1, D.2)
 
 pub returns-clause-replies : goal.returns-clause-replies
 returns-clause-replies g c k steps entries w graph some_slot runs =
-    let K = keeps k steps entries w graph some_slot runs in replies k w K (decided k w K)
+    let K = keeps k steps entries w graph some_slot runs in
+    replies k w K (decided k w K
+    (λ n r seen same looks D. ⊎_elim (λ one. at_last w seen [] 1 D one) (λ late. at_last w seen (look halt_word 0 ∷ gate_looks r late.counts) 1 D late.saw) looks)
+    (λ n r seen same looks D.
+    let found = looks.1 in
+    no_room_at k w K n found.before r looks.0 same found.last found.among found.behind
+    (subst (λ (xs : List Look). (i : ℕ) (x : Look) → get_elem? xs i ≡ some x → slice_index w.words x.word ≤ x.value) looks.2 D)))
 
 pub returns-clause-offers : goal.returns-clause-offers
 returns-clause-offers g c k steps more entries rest w u graph some_slot runs on =

@@ -15,7 +15,6 @@ use Rattle.dr_plain.specs.Inside.Views.{sender_end}
 use Rattle.dr_plain.proofs.Stations.{begins_same}
 use Rattle.dr_plain.proofs.Writing.{fits_write, write_done, answers_unclaimed, answers_published}
 use Rattle.dr_plain.proofs.sender.Sender.update.Goals as goal
-use Rattle.dr_plain.proofs.sender.Sender.update.Goals.{After-put_at}
 
 pub returns-then-sequence-self : goal.returns-then-sequence-self
 returns-then-sequence-self g c = (answers_unclaimed c.self.invariant c.self.view_is c.args.sequence c.if-sequence-self.true, refl)
@@ -23,22 +22,18 @@ returns-then-sequence-self g c = (answers_unclaimed c.self.invariant c.self.view
 pub returns-then-sequence-self-2 : goal.returns-then-sequence-self-2
 returns-then-sequence-self-2 g c = (answers_published c.self.invariant c.self.view_is c.args.sequence c.if-sequence-self.false c.if-sequence-self-2.true, refl)
 
--- the token goes back to its place
-put : (g : _) (c : After-put_at g) → (let place = c.place-place.result in
-    c.put_at.new.row.items ≡ set (set c.self.inside.tokens.items place c.blank.result) place (token_at c.self.inside.station.knows.plan.strip place (whole c.change_in.ensures.1)))
-put g c =
-    let place = c.place-place.result in let event = c.change_in.ensures.1 in
-    let token = c.change_in.ensures.3 ∙ ap (λ (p : Ptr). let t : Token g.row.T.Denot = token_at p place (whole event) in t) c.self.invariant.strip in
-    c.put_at.ensures.row ∙ (λ i. set (c.put_at-token.ensures.row i) place (token i))
-
 pub invariant_of-self : goal.invariant_of-self
 invariant_of-self g c =
-    fits_write c.blank.result c.args.sequence c.place-place.result c.change_in.ensures.1 c.self.invariant c.if-sequence-self-2.false c.if-sequence-self.false c.note.ensures
-    c.place-place.ensures.place (put g (goal.at.invariant_of-self g c).After-put_at)
+    let place = c.place-place.result in let event = c.change_in.ensures.1 in
+    let token = c.change_in.ensures.3 ∙ ap (λ (p : Ptr). let t : Token g.row.T.Denot = token_at p place (whole event) in t) c.self.invariant.strip in
+    fits_write c.blank.result c.args.sequence place event c.self.invariant c.if-sequence-self-2.false c.if-sequence-self.false c.note.ensures
+    c.place-place.ensures.place (c.put_at.ensures.row ∙ (λ i. set (c.put_at-token.ensures.row i) place (token i)))
 
 pub returns : goal.returns
 returns g c =
     let e = c.self.inside.station in let s = c.args.sequence in let t = c.put_at-token.result in let tokens = c.self.inside.tokens.items in
+    let place = c.place-place.result in let event = c.change_in.ensures.1 in
+    let token = c.change_in.ensures.3 ∙ ap (λ (p : Ptr). let x : Token g.row.T.Denot = token_at p place (whole event) in x) c.self.invariant.strip in
     let there : get_elem? tokens (cell_of e.knows.plan s) ≡ some t = ap (λ (i : ℕ). get_elem? tokens i) (sym c.place-place.ensures.place) ∙ c.put_at-token.ensures.was in
     subst (λ (E : SenderEnd g.row.T.Denot). UpdateCall (λ (x y : g.row.T.Denot). FnOnceReturnsAtMut g.F.FnOnce c.args.change x tt y) E s (sender_end e c.note.new.self (cells_of c.put_at.new.row.items)) (Ok tt)) c.self.view_is (
       c.change_in.ensures.0,
@@ -47,8 +42,8 @@ returns g c =
       c.change_in.ensures.4,
       (
         (refl, begins_same e.past),
-        write_done c.blank.result s c.place-place.result c.change_in.ensures.1 c.self.invariant c.if-sequence-self-2.false c.if-sequence-self.false c.note.ensures c.place-place.ensures.place
-            (put g (goal.at.returns g c).After-put_at) refl,
+        write_done c.blank.result s place event c.self.invariant c.if-sequence-self-2.false c.if-sequence-self.false c.note.ensures c.place-place.ensures.place
+            (c.put_at.ensures.row ∙ (λ i. set (c.put_at-token.ensures.row i) place (token i))) refl,
         refl,
       ),
     )

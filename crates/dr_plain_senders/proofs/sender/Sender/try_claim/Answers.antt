@@ -85,6 +85,7 @@ returns-in-Ok g c =
             grown _ _ _ (ap (λ (x : SenderStand g.row.T.Denot). x.plan) step ∙ C.stays.1)
             marks (ap (λ (x : SenderStand g.row.T.Denot). x.knows.own) step ∙ grown),
         gains_cells e o _ lo n _ _ F collected E.fits.1.0 E.fits.1.1 E.own e1.knows grown H.0 H.1 H.3 laid,
+        λ s t owns. (E.own s t owns).0,
       ),
     )
 

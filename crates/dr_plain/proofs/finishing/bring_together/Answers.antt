@@ -5,12 +5,12 @@ use Rattle.dr_plain.specs.Inside.Seats.{Sitting}
 use Rattle.dr_plain.specs.Inside.Gathering.{halter_known}
 use Rattle.dr_plain.specs.Inside.Stations.{sender_stand}
 use Rattle.dr_plain.specs.Calls.Ends.{SenderEnd, HalterStand}
-use Rattle.dr_plain.proofs.Gathering.{all_settle, has_run}
+use Rattle.dr_plain.proofs.Gathering.{all_settle, all_unhalted, has_run}
 use Rattle.dr_plain.proofs.Ending.{AllTogether, takes_in, has_all}
 use Rattle.dr_plain.proofs.Departed.{sender_in, halter_in, kept_of, together_of}
-use Rattle.dr_plain.proofs.finishing.finish.Goals as goal
-use Rattle.dr_plain.proofs.finishing.finish.Given.{Over}
-use Rattle.dr_plain.proofs.finishing.finish.Goals.{After-gather}
+use Rattle.dr_plain.proofs.finishing.bring_together.Goals as goal
+use Rattle.dr_plain.proofs.finishing.bring_together.Given.{Over}
+use Rattle.dr_plain.proofs.finishing.bring_together.Goals.{After-gather}
 
 -- all ends come together in the sender's seat
 come : (g : Over) (c : After-gather g)
@@ -77,6 +77,12 @@ returns-clause-lists g c =
     let s = c.args.sender in let es = c.args.receivers.items in let t = c.args.halter in
     let H = has_all _ _ _ s es t (come g (goal.at.returns-clause-lists g c).After-gather) in
     all_settle _ _ _ s es (together_of _ _ s es t H c.take_back-row.ensures.ran)
+
+pub returns-clause-unhalted : goal.returns-clause-unhalted
+returns-clause-unhalted g c =
+    let s = c.args.sender in let es = c.args.receivers.items in let t = c.args.halter in
+    let H = has_all _ _ _ s es t (come g (goal.at.returns-clause-unhalted g c).After-gather) in
+    all_unhalted _ _ _ s es t H.halter (together_of _ _ s es t H c.take_back-row.ensures.ran)
 
 pub returns-clause-run : goal.returns-clause-run
 returns-clause-run g c =
