@@ -18,6 +18,7 @@ from itertools import chain
 
 TOP = os.path.dirname(os.path.dirname(os.path.abspath(__file__)))
 BUILDS = ("", ".by-rattle")
+PROGRAMS = ("disruptor", "disruptor_hostile", "disruptor_waits", "disruptor_bench")
 # What each build is tried with, by the names of programs, the longest first; and what waits for quiet.
 EACH = (
     "tests/hostile/refused.py disruptor disruptor_hostile",
@@ -48,12 +49,25 @@ def words_of(line, build, is_anew=False):
     return [script, *["--anew"] * (is_anew and script in KEEPS), *(f"crates/{it}/out/{it}{build}" for it in programs)]
 
 
-def is_built(build):
-    """Whether there is such a build: where Rattle's own compiler compiles a program not, `rt ci` runs LLVM's alone."""
-    found = all(os.path.isfile(f"{TOP}/crates/{it}/out/{it}{build}") for it in ("disruptor", "disruptor_hostile"))
-    if not found:
-        print(f"{SKIPPED}the scripts over {build.removeprefix('.by-') or 'LLVM'}'s builds")
-    return found
+def lacking(build):
+    """Returns the programs of which there is no such build."""
+    return [it for it in PROGRAMS if not os.path.isfile(f"{TOP}/crates/{it}/out/{it}{build}")]
+
+
+def built():
+    """Returns the builds that there are, and how many there should be and are not. Where Rattle's own compiler compiles no program,
+    `rt ci` runs LLVM's alone."""
+    found, failed = [], 0
+    for build in BUILDS:
+        lost = lacking(build)
+        if not lost:
+            found.append(build)
+        elif build and len(lost) == len(PROGRAMS):
+            print(f"{SKIPPED}the scripts over Rattle's own builds")
+        else:
+            failed += 1
+            print(f"FAILED: rt ci left no {' and no '.join(it + build for it in lost)}")
+    return found, failed
 
 
 def amiss(said):
@@ -83,13 +97,10 @@ def ran(words):
 
 def main():
     is_anew = "--anew" in sys.argv[1:]
-    builds = [it for it in BUILDS if is_built(it)]
+    builds, failed = built()
     once = [words_of(it, "", is_anew) for it in (*(ONCE if "" in builds else ()), *OF_SCRIPTS)]
     each = [words_of(it, build) for it in EACH for build in builds]
     quiet = [words_of(it, build) for build in builds for it in QUIET]
-    failed = 0 if "" in builds else 1
-    if failed:
-        print("FAILED: rt ci left no disruptor or no disruptor_hostile")
     for has_failed, said in chain(ran([*once, *each]), map(run, quiet)):
         failed += has_failed
         print(said, flush=True)

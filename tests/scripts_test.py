@@ -1,5 +1,5 @@
 #!/usr/bin/env python3
-"""Tests of `scripts.py` and of `hostile/leaks.py`: which scripts pass, by what they say, and which cases of calls."""
+"""Tests of `scripts.py` and of `hostile/leaks.py`: which scripts pass, by what they say, which builds are tried, and which cases of calls."""
 
 import contextlib
 import io
@@ -39,6 +39,26 @@ CALLS = {
     "[ $alone ] && echo done; [ $alone ]": False,
     "echo done; [ $alone ]": False,
 }
+# What `rt ci` did not leave, and what is tried then, and how much of it fails.
+LOST = {
+    (): (["", ".by-rattle"], 0),
+    tuple(f"{it}.by-rattle" for it in scripts.PROGRAMS): ([""], 0),
+    ("disruptor_hostile.by-rattle",): ([""], 1),
+    ("disruptor_waits",): ([".by-rattle"], 1),
+}
+
+
+def built_without(room, lost):
+    """Which builds are tried, and how many fail, where these programs are missing."""
+    for it in scripts.PROGRAMS:
+        out = f"{room}/crates/{it}/out"
+        os.makedirs(out)
+        for build in scripts.BUILDS:
+            if it + build not in lost:
+                open(f"{out}/{it}{build}", "w", encoding="utf-8").close()
+    scripts.TOP = room
+    with contextlib.redirect_stdout(io.StringIO()):
+        return scripts.built()
 
 
 def are_whole(room, calls):
@@ -63,12 +83,17 @@ def main():
             if are_whole(room, calls) != holds:
                 failed += 1
                 print(f"FAILED: whether these calls are whole: {calls}")
+    for lost, found in LOST.items():
+        with together.folder("builds-") as room:
+            if built_without(room, lost) != found:
+                failed += 1
+                print(f"FAILED: which builds are tried without {' '.join(lost) or 'nothing'}")
     for line, words in (("tests/library.py disruptor", ["tests/library.py", "--anew", "crates/disruptor/out/disruptor"]),
                         ("tests/rows.py disruptor", ["tests/rows.py", "crates/disruptor/out/disruptor"])):
         if scripts.words_of(line, "", is_anew=True) != words:
             failed += 1
             print(f"FAILED: how a run that does all anew calls {line}")
-    print(f"scripts.py: {len(SCRIPTS) + len(CALLS) + 2} cases, {failed} failed")
+    print(f"scripts.py: {len(SCRIPTS) + len(CALLS) + len(LOST) + 2} cases, {failed} failed")
     return 1 if failed else 0
 
 
