@@ -1,0 +1,17 @@
+pub mod Showing
+pub mod Through
+pub mod Looking
+pub mod OneSender
+pub mod Stretches
+pub mod Ready
+pub mod Rounds
+pub mod OwnStretch
+pub mod OwnPublished
+pub mod ManySenders
+pub mod Marks
+pub mod Marked
+pub mod Owned
+pub mod Shown
+pub mod Merged
+pub mod Merging
+pub mod ManyReady

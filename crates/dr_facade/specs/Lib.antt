@@ -1,0 +1,15 @@
+pub mod Outlets
+pub mod Inlets
+pub mod Filling
+pub mod Sending
+pub mod Serving
+pub mod Handlers
+pub mod OneOf
+pub mod Teams
+pub mod OneSender
+pub mod Running
+pub mod Here
+pub mod Waits
+pub mod ManySenders
+pub mod Feeding
+pub mod Merging

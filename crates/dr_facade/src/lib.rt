@@ -1,0 +1,42 @@
+//! A ring with its threads, in one call, for events of any type.
+//!
+//! [`run`] makes the ring of a graph over the events that it is given, starts a thread for each handler, calls a closure
+//! with the ring's sender, and hands back the handlers and the events ([`Ran`]). Events are filled where they lie
+//! ([`LiveSender::publish_with`]), and handlers are shown them there. Begin with `specs/Running`.
+#![tactic(auto)]
+
+mod ends;
+mod fault;
+mod feed;
+mod feeds;
+mod handler;
+mod here;
+mod many_senders;
+mod one_of;
+mod one_sender;
+mod running;
+mod running_here;
+mod running_senders;
+mod sender;
+mod served;
+mod strategy;
+mod team;
+mod way;
+mod workers;
+
+pub use ends::{ClaimFault, InPlaceInlet, InPlaceOutlet};
+pub use fault::RunFault;
+pub use feed::Feed;
+pub use feeds::Sent;
+pub use handler::{ByValue, InPlaceHandler};
+pub use here::Here;
+pub use one_of::OneOf;
+pub use running::{Ran, run};
+pub use running_here::run_here;
+pub use running_senders::run_senders;
+pub use sender::LiveSender;
+pub use served::{Served, ServesPromise, serve};
+pub use strategy::{WaitStrategy, Waits};
+pub use team::Team;
+pub use way::Way;
+pub use workers::{Back, Worker, apart, join, start, wait_for};
