@@ -70,10 +70,11 @@ help:
 	@echo 'On a machine of four processors:'
 	@echo
 	@echo '  make                      shows after a minute or two what the shipped example prints, proves and builds'
-	@echo '                            ./disruptor, and runs it: up to twenty minutes from nothing, then seconds to minutes'
+	@echo '                            ./disruptor, and runs it: 10 to 16 minutes from nothing, then seconds to minutes'
 	@echo '  make try                  runs the shipped example before any proof: a minute or two'
 	@echo '  make check CRATE=dr_core  proves one crate over what is kept: seconds, 1 to 5 minutes from nothing'
-	@echo '  make test                 proves and tests everything, from nothing: some 45 minutes, twice that on slow processors or on two'
+	@echo '  make test                 proves and tests everything: from nothing 40 minutes, up to two hours on slow processors; then what'
+	@echo '                            changed, from 3 minutes on'
 	@echo '  make lib                  proves and builds out/libdisruptor.a and .so, for other languages: some minutes'
 	@echo '  make install PREFIX=/opt  installs program, libraries, headers and man page there, or else in /usr/local'
 	@echo '  make bench                events a second of core and ring: some minutes, and many where other work runs'
