@@ -13,8 +13,8 @@ A function is proved against its own contract and the contracts of what it calls
 bodies of different functions can stand in one copy of a crate, and one check of these functions refuses each by its own.
 Of several of one function, each but the first goes to a copy of that function, under another name. An edit counts as refused
 where that function is told as not proved, for a goal or a lemma of its own. What is not told so is tried once more, alone; and what that
-does not tell, nor that a proof file which cites a name is all that refuses it, is judged by a check of the whole crate. An edit whose
-definition or clause does not typecheck is a bad one. Each edit has a line that names the goal that refused it, or else the lemma in the
+does not tell, nor that a proof file which cites a name is all that refuses it, is judged by a check of the whole crate, but for an edit
+that names its judge or its goal. An edit whose definition or clause does not typecheck is a bad one. Each edit has a line that names the goal that refused it, or else the lemma in the
 files of the function's proof, and the last line is `N refused, M not, of which K were tried in this run`: the others are kept
 (`kept.py`), and neither their crates nor those below are proved for them. Above it stand those that only a goal refuses which the
 untouched crate has not. A new branch or name makes one, and it may be open though the contract allows the body: an edit whose line
@@ -231,10 +231,13 @@ class Trial:
         return said
 
     def judge(self, edit, said):
-        """Has the last check of an edit judge it, which is one of the whole crate if that of its functions did not tell."""
+        """Has the last check of an edit judge it, which is one of the whole crate if that of its functions did not tell. Where the edit names a
+        judge or a goal, nothing else refuses it."""
         why, text = verdicts.of_all(said)
         if bad := verdicts.ill_stated(said, edit):
             self.crates[edit.crate].failed[edit] = bad
+        elif edit.judge or edit.goal:
+            self.crates[edit.crate].failed[edit] = f"no goal of {edit.judge or 'its function'} is told as not proved; a check of the crate: {why or text}"
         elif why:
             self.note(edit, f"a check of the crate: {why[:200]}")
         else:

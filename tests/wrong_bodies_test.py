@@ -201,6 +201,7 @@ EDITS = {
     "defines_more": ("specs/Pairs.antt\njudge: four_times", "n + n", "n + n + 1", "refused by four_times, goal returns"),
     "defines_what_is_none": ("specs/Pairs.antt\njudge: four_times", "n + n", "refl", "NOT REFUSED: toy/defines_what_is_none: BAD EDIT: what it states"),
     "defines_less_for_another": ("specs/Pairs.antt\njudge: same", "n + n", "n", "NOT REFUSED: toy/defines_less_for_another: its judge same is still proved"),
+    "defines_more_for_nobody": ("specs/Pairs.antt\njudge: nobody", "n + n", "n + n + 2", "NOT REFUSED: toy/defines_more_for_nobody: no goal of nobody is told"),
     "proves_what_is_false": ("src/lib.rt", "u64 = 5", "u64 = 8", "refused by a check of the crate: src/lib.rt:7:15: error[failed-constant-evaluation]"),
     "says_less": ("src/lib.rt\njudge: four_times", "    ensures { result ≡ n + n }", "    ensures { n ≤ result }", "refused by four_times, goal"),
     "takes_a_name_away": (
@@ -282,7 +283,7 @@ def over_a_library(top):
     made_in(top, EDITS)
     wrong_bodies.prove.prove(top, "toy", [], 1, 0, ["lib"])
     made = ["begins_with_a_return: same, goal returns-then-n-gt100"]
-    last = "9 refused, 7 not, of which 14 were tried in this run"
+    last = "9 refused, 8 not, of which 15 were tried in this run"
     failed = failures(top, {name: it[3] for name, it in EDITS.items()}, last, "rt: toy proved\n", made=made)
     for name in EDITS:
         if name != "takes_a_name_away":
