@@ -254,8 +254,7 @@ module _ {E A B F : Type 0} (goes : Relation E A) (room : ℕ) (k : Shape E) (bl
     ends = wound.ends;
     events = events;
     order = sym in_order;
-    merge = merge;
-    through = go events all_through;
+    through = record { merge = merge; through = go events all_through };
     claimed = claimed_all;
     back = subst (λ (q : Shape E). GivesBack q settled.claimed (map (λ s. s.sender) sent) values) plan wound.back;
   }

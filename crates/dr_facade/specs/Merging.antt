@@ -70,6 +70,11 @@ module _ {E : Type 0} where
     pub handled : handlers ≡ map (λ s. s.handler) served
     pub answered : answers ≡ map (λ s. s.answer) sent
 
+  -- all handlers went through one list of events, which is a merge of these lists
+  pub record AllWentThroughMerge {T : Type 0} (went : ℕ → List E → T → T → Type 0) (most : ℕ) (lists : List (List E)) (events : List E) (handlers after : T) : Type 0 where
+    pub merge : IsMerge lists events
+    pub through : went most events handlers after
+
   -- what came of a new ring of this shape, over which each of these closures sent by a sender of its own
   pub record IsRanOver {F T B : Type 0} (gives : F → SenderEnd E → B → SenderEnd E → Type 0) (went : ℕ → List E → T → T → Type 0) (most : ℕ) (k : Shape E) (feeds : List F)
       (handlers : T) (ran : Ran E T (Settled E) (Vec B)) : Type 0 where
@@ -88,8 +93,7 @@ module _ {E : Type 0} where
     -- all handlers went through what was published, in the order of its sequences; it is a merge of what each sender published, and nothing else was claimed
     pub events : List E
     pub order : events ≡ events_of (published_events ends.run.world)
-    pub merge : IsMerge (map (λ s. (sending_of s.sender).published) senders) events
-    pub through : went most events handlers ran.handlers
+    pub through : AllWentThroughMerge went most (map (λ s. (sending_of s.sender).published) senders) events handlers ran.handlers
     pub claimed : ran.settled.claimed ≡ length events
     -- and the events are what lay in the cells at last
     pub back : GivesBack k ran.settled.claimed (map (λ s. s.sender) senders) ran.events

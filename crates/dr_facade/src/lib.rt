@@ -2,7 +2,8 @@
 //!
 //! [`run`] makes the ring of a graph over the events that it is given, starts a thread for each handler, calls a closure
 //! with the ring's sender, and hands back the handlers and the events ([`Ran`]). Events are filled where they lie
-//! ([`LiveSender::publish_with`]), and handlers are shown them there. Begin with `specs/Running`.
+//! ([`LiveSender::publish_with`]), and handlers are shown them there. [`run_senders`] has several senders, each of which a
+//! closure on a thread of its own sends by, and [`run_here`] has all on the calling thread. Begin with `specs/Running`.
 #![tactic(auto)]
 
 mod ends;

@@ -28,7 +28,7 @@ impl Feed<u64> for Ten {
 }
 
 /// The handlers of a ring of four slots, after ten events.
-fn ten(rt: &(impl Wait + Abort + Copy), alloc: Global, way: Way) -> (Tally, Count)
+fn after_ten(rt: &(impl Wait + Abort + Copy), alloc: Global, way: Way) -> (Tally, Count)
     requires { 0 < way.batch }
 {
     let graph = chain(rt, alloc);
@@ -44,7 +44,7 @@ fn ten(rt: &(impl Wait + Abort + Copy), alloc: Global, way: Way) -> (Tally, Coun
 
 #[test]
 fn each_turn_ends_with_a_mark(rt: HostRuntime) {
-    let (tally, count) = ten(&rt, rt.alloc(), Way::by(WaitStrategy::Spinning));
+    let (tally, count) = after_ten(&rt, rt.alloc(), Way::by(WaitStrategy::Spinning));
     let wanted = Tally {
         sum: 10,
         marked: 379,
@@ -56,7 +56,7 @@ fn each_turn_ends_with_a_mark(rt: HostRuntime) {
 #[test]
 fn in_batches_only_the_last_event_is_marked(rt: HostRuntime) {
     let way = Way::by(WaitStrategy::Spinning).in_batches(3);
-    let (tally, count) = ten(&rt, rt.alloc(), way);
+    let (tally, count) = after_ten(&rt, rt.alloc(), way);
     check(&rt, tally, Tally { sum: 10, marked: 9 });
     check(&rt, count, Count(10));
 }

@@ -11,5 +11,7 @@ mod refusals;
 #[cfg(test)]
 mod sending;
 #[cfg(test)]
+mod several;
+#[cfg(test)]
 mod teams;
 pub mod work;
