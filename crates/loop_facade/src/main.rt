@@ -4,7 +4,9 @@
 
 ghost use Rattle.std.specs.Prelude.{◌≡◌, IfOk, length};
 
-use dr_facade::{Feed, InPlaceHandler, InPlaceInlet, LiveSender, RunFault, WaitStrategy, Way, run, run_here};
+use dr_facade::{
+    Feed, InPlaceHandler, InPlaceInlet, LiveSender, RunFault, WaitStrategy, Way, run, run_here,
+};
 use dr_graph::GraphBuilder;
 use dr_meaning::Refusal;
 use dr_seq::Size;
@@ -94,7 +96,16 @@ fn main(rt: HostRuntime) -> Result<(), RunFault> {
     let way = Way::by(WaitStrategy::Parking).in_batches(4);
     let orders = blank(alloc, size.get())?;
     let both = (Sum { total: 0 }, Count(0));
-    let ran = run(rt, alloc, &graph, size, orders, both, way, |sender| Orders(1000).feed(sender))?;
+    let ran = run(
+        rt,
+        alloc,
+        &graph,
+        size,
+        orders,
+        both,
+        way,
+        |sender| Orders(1000).feed(sender),
+    )?;
     ran.sent?;
     let (sum, count) = ran.handlers;
     let _printed = rt.println(&sum.total);
