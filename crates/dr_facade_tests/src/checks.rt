@@ -1,5 +1,7 @@
 //! How the tests compare values, and the graphs that they run over.
 
+ghost use Rattle.std.specs.Prelude.{◌≡◌};
+
 use dr_graph::{Graph, GraphBuilder, GraphFault};
 use dr_seq::Size;
 use std::alloc::Global;

@@ -1,5 +1,7 @@
 //! A run on one thread: when handlers have their turns, and which events are marked.
 
+ghost use Rattle.std.specs.Prelude.{◌<◌};
+
 use crate::checks::{chain, check, size};
 use crate::work::{Count, Tally};
 use dr_facade::{ClaimFault, Feed, InPlaceInlet, LiveSender, WaitStrategy, Way, run_here};

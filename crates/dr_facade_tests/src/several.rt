@@ -1,5 +1,7 @@
 //! Several closures, each with a sender of its own on a thread of its own.
 
+ghost use Rattle.std.specs.Prelude.{◌<◌};
+
 use crate::checks::{chain, check, size};
 use crate::work::{Count, InOrder};
 use dr_facade::{LiveSender, RunFault, WaitStrategy, Way, run_senders};
