@@ -8,4 +8,3 @@ pub mod Opening
 pub mod OpeningBytes
 pub mod OpeningSeveral
 pub mod Places
-pub mod Slots

@@ -9,8 +9,6 @@ mod here;
 #[cfg(test)]
 mod refusals;
 #[cfg(test)]
-mod sending;
-#[cfg(test)]
 mod several;
 #[cfg(test)]
 mod teams;

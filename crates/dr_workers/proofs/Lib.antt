@@ -12,4 +12,3 @@ pub mod Closing
 pub mod Untroubled
 pub mod Unrefused
 pub mod Biding
-pub mod Lent
