@@ -3,7 +3,7 @@ program := crates/disruptor
 log := make.log
 sources = $(shell find crates \( -name '*.rt' -o -name '*.antt' \) -not -path '*/out/*')
 
-.PHONY: all run try test check lib install bench bench-plots hello clean help
+.PHONY: all run try test check lib install dist bench bench-plots hello clean help
 
 ifneq ($(filter-out help clean bench-plots,$(or $(MAKECMDGOALS),all)),)
 ifeq ($(shell command -v rt),)
@@ -42,15 +42,21 @@ into = $(DESTDIR)$(abspath $(PREFIX))
 lib:
 	@tools/prove.py --log $(log) dr_c
 	@tools/library.sh out $(abspath $(PREFIX))
+	@tools/packages.sh out
 
 install: disruptor lib
-	install -d $(into)/bin $(into)/lib/pkgconfig $(into)/include
+	install -d $(into)/bin $(into)/lib/pkgconfig $(into)/lib/cmake/disruptor $(into)/include
 	install -m 755 disruptor $(into)/bin
 	install -m 644 out/libdisruptor.a $(into)/lib
-	install -m 755 out/libdisruptor.so $(into)/lib
+	cp -P out/libdisruptor.so* $(into)/lib
 	install -m 644 out/disruptor.pc $(into)/lib/pkgconfig
-	install -m 644 include/disruptor.h include/disruptor.hpp $(into)/include
+	install -m 644 include/* $(into)/include
+	install -m 644 bindings/cpp/*.cmake $(into)/lib/cmake/disruptor
 	find share -type f -exec install -D -m 644 '{}' '$(into)/{}' ';'
+
+# For those who have no kit.
+dist: lib
+	@tools/dist.sh out
 
 bench:
 	@tools/prove.py --log $(log) disruptor_bench -- --list
@@ -75,7 +81,8 @@ help:
 	@echo '  make check CRATE=dr_core  proves one crate over what is kept: seconds, 1 to 5 minutes from nothing'
 	@echo '  make test                 proves and tests everything: from nothing 40 minutes, up to two hours on slow processors; then what'
 	@echo '                            changed, from 3 minutes on'
-	@echo '  make lib                  proves and builds out/libdisruptor.a and .so, for other languages: some minutes'
+	@echo '  make lib                  proves and builds in out/ the library for other languages, a wheel and a jar: some minutes'
+	@echo '  make dist                 packs library, headers and packages in a tarball in out/, for those who have no kit'
 	@echo '  make install PREFIX=/opt  installs program, libraries, headers and man page there, or else in /usr/local'
 	@echo '  make bench                events a second of core and ring: some minutes, and many where other work runs'
 	@echo '  make bench-plots          draws what bench/measured holds, as docs/pictures, and writes its tables: seconds'

@@ -1,6 +1,7 @@
-/* The proved rings for C, and for every language that calls C: one sender or several hand events of two words, or one events of
- * as many bytes as you say, to a graph of handlers, each end on a thread of its own. No call waits but disruptor_wait and
- * disruptor_sleep, and none but the openings and disruptor_free takes memory or gives it back.
+/* The proved rings for C, and for every language that calls C: one sender or several hand events to a graph of handlers, each end on
+ * a thread of its own. The events are of your own type and lie in an array of yours (a ring of slots), or the ring has them: two
+ * words each, or as many bytes as you say. No call waits but disruptor_wait and disruptor_sleep, and none but the openings and
+ * disruptor_free takes memory or gives it back.
  *
  * Each call that lists refusals answers DISRUPTOR_OK or the number of one (DISRUPTOR_REFUSALS): the first for which there is
  * cause. A refused call changes nothing; at most it has looked at what other ends stored.
@@ -19,6 +20,8 @@
  * array of no elements may be null, and bytes may lie anywhere. */
 #ifndef DISRUPTOR_H
 #define DISRUPTOR_H
+
+#define DISRUPTOR_VERSION "0.1.0"
 
 #include <stdbool.h>
 #include <stddef.h>
@@ -127,10 +130,13 @@ uint32_t disruptor_write_at(disruptor_sender *sender, size_t senders, uint64_t s
 uint32_t disruptor_write_bytes_at(disruptor_sender *sender, size_t senders, uint64_t sequence, const uint8_t *bytes, size_t there,
                                   size_t count);
 uint32_t disruptor_publish_at(disruptor_sender *sender, size_t senders, uint64_t lo, uint64_t hi);
+uint32_t disruptor_publish_slots_at(disruptor_sender *sender, size_t senders, uint64_t lo, uint64_t hi);
 uint32_t disruptor_close_at(disruptor_sender *sender, size_t senders);
 uint32_t disruptor_poll_at(disruptor_receiver *receiver, size_t receivers, disruptor_event *events, size_t places, size_t room,
                            disruptor_offer *offer, size_t offers);
 uint32_t disruptor_poll_bytes_at(disruptor_receiver *receiver, size_t receivers, uint64_t room, disruptor_offer *offer,
+                                 size_t offers);
+uint32_t disruptor_poll_slots_at(disruptor_receiver *receiver, size_t receivers, uint64_t room, disruptor_offer *offer,
                                  size_t offers);
 uint32_t disruptor_read_bytes_at(disruptor_receiver *receiver, size_t receivers, uint64_t sequence, uint8_t *into, size_t there,
                                  size_t count);
@@ -190,6 +196,30 @@ static inline uint32_t disruptor_open_bytes(uint64_t size, uint64_t limit, size_
                                    count, DISRUPTOR_ONE(disruptor_halter, halter));
 }
 
+/* Opens a ring of slots, of one sender or of several. The ring hands out sequences alone: the events lie in an array of yours of
+ * as many things as there are slots, of any type, that of a sequence at slots[DISRUPTOR_SLOT(sequence, size)]. Nothing is copied,
+ * and a batch takes two calls on each side, however long it is. Who may touch a slot:
+ *   - the sender that claimed its sequence, until it publishes it by disruptor_publish_slots;
+ *   - each handler whose batch has it, from the poll by disruptor_poll_slots until it completes it. All may read it. One may also
+ *     change it, if each other handler comes before it or after it in the graph: those after it see all that it wrote.
+ * Nobody else touches it meanwhile: that is proved of cell k of the ring, for each k. That cell k is element k of your array is an
+ * argument, since no contract speaks of memory that the library never sees; that you keep to this is up to you. In memory each
+ * hand-over is ordered by sequentially consistent words of the library.
+ *
+ * All other calls are the same. Refusals: those of disruptor_open, and of disruptor_open_several. */
+static inline uint32_t disruptor_open_slots(uint64_t size, uint64_t limit, const uint64_t *upstreams, size_t handlers,
+                                            disruptor_sender *sender, disruptor_receiver *receivers, size_t count,
+                                            disruptor_halter *halter) {
+    return disruptor_open_bytes(size, limit, 0, upstreams, handlers, sender, receivers, count, halter);
+}
+static inline uint32_t disruptor_open_several_slots(uint64_t size, uint64_t limit, const uint64_t *upstreams, size_t handlers,
+                                                    disruptor_sender *senders, size_t count, disruptor_receiver *receivers,
+                                                    size_t rooms, disruptor_halter *halter) {
+    return disruptor_open_several(size, limit, upstreams, handlers, senders, count, receivers, rooms, halter);
+}
+/* Where the event of a sequence lies in an array of `size` things. */
+#define DISRUPTOR_SLOT(sequence, size) ((size_t)((sequence) & ((size) - 1)))
+
 /* In masks for so many handlers, puts handler `upstream` before `handler`: the upstreams of a graph, pair by pair. The masks
  * begin as zeros. Refusals: BAD_POINTER, BAD_ORDER (it does not come before, there is no such handler, or it is above 63). */
 static inline uint32_t disruptor_before(uint64_t *upstreams, size_t handlers, size_t upstream, size_t handler) {
@@ -200,7 +230,12 @@ static inline uint32_t disruptor_before(uint64_t *upstreams, size_t handlers, si
 }
 
 /* Frees what a handle of any kind has. It is closed then, and may be opened again, though its bytes are not all zeros. A ring
- * is let go with its last end. A null pointer is let be. */
+ * is let go with its last end. A null pointer is let be.
+ *
+ * What an end leaves that is freed too early, others wait for in vain, and no answer names it: a handler that has not completed
+ * every event leaves the senders without room once the slots are full, and those that follow it without events; a sender that has
+ * not published a claim leaves the handlers of several senders GATING there, after a halt too; and one that did not close a ring of
+ * one leaves them IDLE. So halt the ring first, tell its threads, and publish each claim. */
 static inline void disruptor_free(void *handle) {
     size_t there = disruptor_there(handle, 8, sizeof(disruptor_sender), 1);
     disruptor_free_at(disruptor_or_nothing(handle, there), there);
@@ -233,6 +268,14 @@ static inline uint32_t disruptor_publish(disruptor_sender *sender, uint64_t lo, 
     return disruptor_publish_at(DISRUPTOR_ONE(disruptor_sender, sender), lo, hi);
 }
 
+/* The same in a ring of slots, where no call writes: publishes the sequences from lo to hi with what lies in their slots. In a ring
+ * of bytes each event is then what was written last of its slot. Refusals: BAD_POINTER, NOT_OPEN, WRONG_END (also the sender of one
+ * whose events are two words), BAD_COUNT, NOT_CLAIMED, ALREADY_PUBLISHED, OUT_OF_ORDER, as of disruptor_publish. A refused one may
+ * leave sequences of the stretch counted as written, which only disruptor_publish asks about. */
+static inline uint32_t disruptor_publish_slots(disruptor_sender *sender, uint64_t lo, uint64_t hi) {
+    return disruptor_publish_slots_at(DISRUPTOR_ONE(disruptor_sender, sender), lo, hi);
+}
+
 /* Closes the ring of one sender: no event comes from then on, and a receiver that took all of them is told DRAINED. It may be
  * repeated. Refusals: BAD_POINTER, NOT_OPEN, WRONG_END (also a sender of several), OPEN_CLAIM. */
 static inline uint32_t disruptor_close(disruptor_sender *sender) {
@@ -252,6 +295,12 @@ static inline uint32_t disruptor_poll(disruptor_receiver *receiver, disruptor_ev
  * as it was. */
 static inline uint32_t disruptor_poll_bytes(disruptor_receiver *receiver, uint64_t room, disruptor_offer *offer) {
     return disruptor_poll_bytes_at(DISRUPTOR_ONE(disruptor_receiver, receiver), room, DISRUPTOR_ONE(disruptor_offer, offer));
+}
+
+/* The same in a ring of slots, of one sender or of several: the handler may use the slots of the batch until it completes them.
+ * Refusals: those of disruptor_poll_bytes. */
+static inline uint32_t disruptor_poll_slots(disruptor_receiver *receiver, uint64_t room, disruptor_offer *offer) {
+    return disruptor_poll_slots_at(DISRUPTOR_ONE(disruptor_receiver, receiver), room, DISRUPTOR_ONE(disruptor_offer, offer));
 }
 
 /* Copies the bytes of an event that the handler took and did not complete to `into`: `length`, just as many as an event of the
@@ -307,10 +356,11 @@ typedef struct disruptor_bell { DISRUPTOR_ALIGNED uint32_t word; } disruptor_bel
 #define DISRUPTOR_NEW_BELL {0}
 
 /* How a thread waits that looks again and again for what others do: by pauses after the first four of several looks in a row
- * that find nothing, and by yielding its processor after each further one. The pauses tune themselves by how many events
- * were there after the last wait. With a bell it listens after DISRUPTOR_MOST_LOOKS such looks, and sleeps after each further one until a ring comes,
- * ten milliseconds at most: an idle thread costs next to nothing, and what nobody rings for is seen so much later. That is on
- * Linux; elsewhere it goes on yielding.
+ * that find nothing, and by yielding its processor after each further one. The pauses tune themselves by how many events were there
+ * after the last wait: a handler tells that by disruptor_found after each batch, and a sender by disruptor_found_room after each
+ * claim. With a bell it listens after DISRUPTOR_MOST_LOOKS such looks, and sleeps after each further one until a ring comes, ten
+ * milliseconds at most: an idle thread costs next to nothing, and what nobody rings for is seen so much later. That is on Linux;
+ * elsewhere it goes on yielding.
  *
  * That no change is missed is argued, and not proved. A thread that is about to sleep makes the bell's word odd, and then looks
  * once more; who changed something looks at the word afterwards. All these steps are sequentially consistent. So either that
@@ -321,12 +371,14 @@ typedef struct disruptor_waiting {
     uint32_t pauses, paused;
     disruptor_bell *bell;
     uint32_t looks, heard;
+    /* How many events a sender found room for since it last waited. */
+    uint64_t found;
 } disruptor_waiting;
 enum { DISRUPTOR_MOST_WAITS = 4, DISRUPTOR_MOST_LOOKS = 200 };
 
 /* For a thread that has room for so many events at once, and sleeps where `bell` is not null. */
 static inline disruptor_waiting disruptor_waits_by(uint64_t room, disruptor_bell *bell) {
-    disruptor_waiting waiting = {room, 1, 0, bell, 0, 0};
+    disruptor_waiting waiting = {room, 1, 0, bell, 0, 0, 0};
     return waiting;
 }
 
@@ -372,8 +424,32 @@ static inline void disruptor_sleep(disruptor_bell *bell, uint32_t heard) {
 #endif
 }
 
+/* Begins anew, after a poll that found so many events. */
+static inline void disruptor_found(disruptor_waiting *waiting, uint64_t count) {
+    if (waiting->paused) {
+        uint32_t pauses = waiting->pauses;
+        if (count > waiting->room / 3 || count < pauses / 64) {
+            if (pauses > 1) waiting->pauses = pauses / 2;
+        } else if (count < waiting->room / 6 && count >= pauses / 32) {
+            if (pauses < 1024) waiting->pauses = 2 * pauses;
+        }
+    }
+    waiting->paused = 0;
+    waiting->looks = waiting->heard = 0;
+}
+
+/* The same after a claim of so many events: a sender claims again at once, so what counts is how many found room until it waits
+ * again, which disruptor_wait tells disruptor_found. */
+static inline void disruptor_found_room(disruptor_waiting *waiting, uint64_t count) {
+    waiting->found += count;
+}
+
 /* Waits after a look that found nothing. */
 static inline void disruptor_wait(disruptor_waiting *waiting) {
+    if (waiting->found) {
+        disruptor_found(waiting, waiting->found);
+        waiting->found = 0;
+    }
     if (waiting->bell) {
         if (waiting->looks == DISRUPTOR_MOST_LOOKS) {
             disruptor_sleep(waiting->bell, waiting->heard);
@@ -389,20 +465,6 @@ static inline void disruptor_wait(disruptor_waiting *waiting) {
     }
     for (uint32_t k = 0; k < waiting->pauses; k++) disruptor_pause();
     waiting->paused++;
-}
-
-/* Begins anew, after a look that found so many events. */
-static inline void disruptor_found(disruptor_waiting *waiting, uint64_t count) {
-    if (waiting->paused) {
-        uint32_t pauses = waiting->pauses;
-        if (count > waiting->room / 3 || count < pauses / 64) {
-            if (pauses > 1) waiting->pauses = pauses / 2;
-        } else if (count < waiting->room / 6 && count >= pauses / 32) {
-            if (pauses < 1024) waiting->pauses = 2 * pauses;
-        }
-    }
-    waiting->paused = 0;
-    waiting->looks = waiting->heard = 0;
 }
 
 #ifdef __cplusplus

@@ -4,9 +4,11 @@
 #define DISRUPTOR_HPP
 
 #include "disruptor.h"
+#include <atomic>
 #include <cstddef>
 #include <cstdint>
 #include <memory>
+#include <mutex>
 #include <optional>
 #include <stdexcept>
 #include <type_traits>
@@ -42,11 +44,51 @@ public:
         : bell_(std::move(bell)), state_(disruptor_waits_by(room, bell_.get())) {}
     void wait() noexcept { disruptor_wait(&state_); }
     void found(std::uint64_t count) noexcept { disruptor_found(&state_, count); }
+    // The same after a claim of so many events.
+    void found_room(std::uint64_t count) noexcept { disruptor_found_room(&state_, count); }
 
 private:
     disruptor::bell bell_;
     disruptor_waiting state_;
 };
+
+// A handler went away before it had every event: the ring is halted, and those who follow it wait no longer.
+class broken : public std::runtime_error {
+public:
+    broken() : std::runtime_error("a handler went away before it had every event") {}
+};
+
+// What all ends of a ring have in common.
+class common {
+public:
+    disruptor_bell *bell() noexcept { return &bell_; }
+    disruptor_halter *halter() noexcept { return &halter_; }
+    void ring() noexcept { disruptor_ring(&bell_); }
+    void halt() {
+        const std::lock_guard<std::mutex> lock(mutex_);
+        check(disruptor_halt(&halter_));
+        ring();
+    }
+    // Halts the ring for a handler that goes away too early, so that nobody waits for it.
+    void give_up() noexcept {
+        is_broken_ = true;
+        const std::lock_guard<std::mutex> lock(mutex_);
+        disruptor_halt(&halter_);
+        ring();
+    }
+    bool is_broken() const noexcept { return is_broken_; }
+    common() = default;
+    common(const common &) = delete;
+    common &operator=(const common &) = delete;
+    ~common() { disruptor_free(&halter_); }
+
+private:
+    disruptor_bell bell_ = DISRUPTOR_NEW_BELL;
+    disruptor_halter halter_ = DISRUPTOR_NEW;
+    std::mutex mutex_;
+    std::atomic<bool> is_broken_{false};
+};
+using shared = std::shared_ptr<common>;
 
 // A handle that frees what it has, and rings the bell of its ring where it changed what others look at. It may be moved, and one
 // that was moved from answers not-open.
@@ -54,12 +96,12 @@ template <typename Handle>
 class end {
 public:
     end() noexcept = default;
-    explicit end(disruptor::bell bell) noexcept : bell_(std::move(bell)) {}
-    end(end &&other) noexcept : bell_(std::move(other.bell_)), handle_(std::exchange(other.handle_, Handle DISRUPTOR_NEW)) {}
+    explicit end(disruptor::shared all) noexcept : shared_(std::move(all)) {}
+    end(end &&other) noexcept : shared_(std::move(other.shared_)), handle_(std::exchange(other.handle_, Handle DISRUPTOR_NEW)) {}
     end &operator=(end &&other) noexcept {
         if (this != &other) {
             disruptor_free(&handle_);
-            bell_ = std::move(other.bell_);
+            shared_ = std::move(other.shared_);
             handle_ = std::exchange(other.handle_, Handle DISRUPTOR_NEW);
         }
         return *this;
@@ -69,9 +111,9 @@ public:
     ~end() { disruptor_free(&handle_); }
     Handle *get() noexcept { return &handle_; }
     // A way to wait that sleeps until an end of this ring rings.
-    waiting waits(std::uint64_t room) const noexcept { return waiting(room, bell_); }
-    // What a sender of one claimed and published, what a receiver took and completed; not of a ring of bytes.
-    disruptor::counts progress() {
+    [[nodiscard]] waiting waits(std::uint64_t room) const noexcept { return waiting(room, bell()); }
+    // What a sender of one claimed and published, what a receiver took and completed.
+    [[nodiscard]] disruptor::counts progress() {
         disruptor::counts counts = {};
         check(disruptor_progress(&handle_, &counts));
         return counts;
@@ -80,11 +122,14 @@ public:
 protected:
     void check_and_ring(std::uint32_t number) const {
         check(number);
-        if (bell_) disruptor_ring(bell_.get());
+        if (shared_) shared_->ring();
     }
+    disruptor::bell bell() const noexcept {
+        return shared_ ? disruptor::bell(shared_, shared_->bell()) : nullptr;
+    }
+    disruptor::shared shared_;
 
 private:
-    disruptor::bell bell_;
     Handle handle_ DISRUPTOR_NEW;
 };
 
@@ -92,7 +137,7 @@ class sender : public end<disruptor_sender> {
 public:
     using end::end;
     // The first of n sequences, or nothing where there is no room, or another sender came first.
-    std::optional<std::uint64_t> try_claim(std::uint64_t n) {
+    [[nodiscard]] std::optional<std::uint64_t> try_claim(std::uint64_t n) {
         std::uint64_t lo = 0;
         const std::uint32_t number = disruptor_claim(get(), n, &lo);
         if (number == DISRUPTOR_NO_ROOM || number == DISRUPTOR_CONTENDED) return std::nullopt;
@@ -100,10 +145,10 @@ public:
         return lo;
     }
     // Waits for room.
-    std::uint64_t claim(std::uint64_t n, waiting &how) {
+    [[nodiscard]] std::uint64_t claim(std::uint64_t n, waiting &how) {
         for (;;) {
             if (const std::optional<std::uint64_t> lo = try_claim(n)) {
-                how.found(n);
+                how.found_room(n);
                 return *lo;
             }
             how.wait();
@@ -114,32 +159,97 @@ public:
     void close() { check_and_ring(disruptor_close(get())); }
 };
 
-class receiver : public end<disruptor_receiver> {
+// The end of a handler, which is shown every event after those that it follows had it. Where the handler throws, the events before
+// the one at which it did are completed, and what it threw passes. If it is run again, that one counts as handled, and it goes on
+// after it. A receiver that goes away before it is drained halts the ring.
+class receiving : public end<disruptor_receiver> {
 public:
     using end::end;
-    offer poll(event *events, std::size_t room) {
-        offer found = {};
-        check(disruptor_poll(get(), events, room, &found));
+    receiving(receiving &&) noexcept = default;
+    receiving &operator=(receiving &&other) noexcept {
+        if (this != &other) leave();
+        end::operator=(std::move(other));
+        next_ = other.next_, taken_ = other.taken_, has_thrown_ = other.has_thrown_, is_drained_ = other.is_drained_;
+        return *this;
+    }
+    ~receiving() { leave(); }
+    void complete(std::uint64_t upto) { check_and_ring(disruptor_complete(get(), upto)); }
+
+protected:
+    // Notes what a poll found.
+    offer polled(const offer &found) noexcept {
+        is_drained_ = found.kind == DISRUPTOR_DRAINED;
         return found;
     }
-    void complete(std::uint64_t upto) { check_and_ring(disruptor_complete(get(), upto)); }
+    // Shows `handle(at(sequence), sequence, is_last_of_batch)` the next events, and completes them: what a handler that threw left,
+    // or else what `poll()` takes.
+    template <typename Poll, typename At, typename Handler>
+    offer show(Poll &&poll, At &&at, Handler &&handle) {
+        if (std::exchange(has_thrown_, false)) complete(next_);
+        if (next_ == taken_) {
+            const offer found = poll();
+            if (found.kind != DISRUPTOR_BATCH) return found;
+            next_ = found.first, taken_ = found.first + found.count;
+        }
+        const offer shown = {DISRUPTOR_BATCH, 1, next_, taken_ - next_};
+        try {
+            for (; next_ != taken_; next_++) handle(at(next_), next_, next_ + 1 == taken_);
+        } catch (...) {
+            has_thrown_ = true;
+            complete(next_++);
+            throw;
+        }
+        complete(taken_);
+        return shown;
+    }
+    // Takes turns until the ring is drained, and sleeps while none comes.
+    template <typename Turn>
+    void take_turns(std::uint64_t room, Turn &&turn) {
+        waiting how = waits(room);
+        for (;;) {
+            const offer found = turn();
+            if (found.kind == DISRUPTOR_DRAINED) return;
+            if (found.kind == DISRUPTOR_BATCH) {
+                how.found(found.count);
+                continue;
+            }
+            if (shared_ && shared_->is_broken()) throw broken();
+            how.wait();
+        }
+    }
+
+private:
+    void leave() noexcept {
+        if (shared_ && !is_drained_) shared_->give_up();
+    }
+    // Of the events that are taken the next one to show, and up to where they go.
+    std::uint64_t next_ = 0, taken_ = 0;
+    bool has_thrown_ = false, is_drained_ = false;
+};
+
+class receiver : public receiving {
+public:
+    using receiving::receiving;
+    [[nodiscard]] offer poll(event *events, std::size_t room) {
+        offer found = {};
+        check(disruptor_poll(get(), events, room, &found));
+        return polled(found);
+    }
     // Hands each event to `handle(event, sequence, is_last_of_batch)` until the ring is drained, and sleeps while none comes.
     template <typename Handler>
     void run(std::size_t room, Handler &&handle) {
-        std::vector<event> events(room);
-        waiting how = waits(room);
-        for (;;) {
-            const offer found = poll(events.data(), room);
-            if (found.kind == DISRUPTOR_DRAINED) return;
-            if (found.kind != DISRUPTOR_BATCH) {
-                how.wait();
-                continue;
-            }
-            how.found(found.count);
-            for (std::uint64_t k = 0; k < found.count; k++) handle(events[k], found.first + k, k + 1 == found.count);
-            complete(found.first + found.count);
-        }
+        const auto take = [&] {
+            events_.resize(room);
+            const offer found = poll(events_.data(), room);
+            first_ = found.first;
+            return found;
+        };
+        take_turns(room, [&] { return show(take, [&](std::uint64_t s) { return events_[s - first_]; }, handle); });
     }
+
+private:
+    std::vector<event> events_;
+    std::uint64_t first_ = 0;
 };
 
 // The ends of a ring of bytes, whose events are values that may be copied as their bytes.
@@ -153,43 +263,36 @@ public:
 };
 
 template <typename T>
-class receiver_of : public end<disruptor_receiver> {
+class receiver_of : public receiving {
 public:
-    using end<disruptor_receiver>::end;
-    offer poll(std::uint64_t room) {
+    using receiving::receiving;
+    [[nodiscard]] offer poll(std::uint64_t room) {
         offer found = {};
         check(disruptor_poll_bytes(get(), room, &found));
-        return found;
+        return polled(found);
     }
     // An event that was taken and not completed.
-    T read(std::uint64_t sequence) {
+    [[nodiscard]] T read(std::uint64_t sequence) {
         T what;
         check(disruptor_read_bytes(get(), sequence, &what, sizeof what));
         return what;
     }
-    void complete(std::uint64_t upto) { check_and_ring(disruptor_complete(get(), upto)); }
     // Hands each event to `handle(event, sequence, is_last_of_batch)` until the ring is drained, and sleeps while none comes.
     template <typename Handler>
     void run(std::uint64_t room, Handler &&handle) {
-        waiting how = waits(room);
-        for (;;) {
-            const offer found = poll(room);
-            if (found.kind == DISRUPTOR_DRAINED) return;
-            if (found.kind != DISRUPTOR_BATCH) {
-                how.wait();
-                continue;
-            }
-            how.found(found.count);
-            for (std::uint64_t k = 0; k < found.count; k++) handle(read(found.first + k), found.first + k, k + 1 == found.count);
-            complete(found.first + found.count);
-        }
+        const auto take = [&] { return poll(room); };
+        take_turns(room, [&] { return show(take, [&](std::uint64_t s) { return read(s); }, handle); });
     }
 };
 
-class halter : public end<disruptor_halter> {
+// Halts the ring, from any thread.
+class halter {
 public:
-    using end::end;
-    void halt() { check_and_ring(disruptor_halt(get())); }
+    explicit halter(disruptor::shared all) noexcept : shared_(std::move(all)) {}
+    void halt() { shared_->halt(); }
+
+private:
+    disruptor::shared shared_;
 };
 
 struct ring {
@@ -211,12 +314,12 @@ struct ring_of {
     disruptor::halter halter;
 };
 
-// Ends by a bell, before their ring is opened.
-template <typename End>
-std::vector<End> unopened(std::size_t count, const disruptor::bell &bell) {
+// Ends of a ring that is not opened yet.
+template <typename End, typename... More>
+std::vector<End> unopened(std::size_t count, const More &...of) {
     std::vector<End> ends;
     ends.reserve(count);
-    while (ends.size() < count) ends.emplace_back(bell);
+    while (ends.size() < count) ends.emplace_back(of...);
     return ends;
 }
 
@@ -227,38 +330,40 @@ void own(std::vector<End> &ends, const std::vector<Handle> &handles) noexcept {
 }
 
 // Opens a ring of several senders.
-inline ring_of_several open_several(std::uint64_t size, const std::vector<std::uint64_t> &upstreams, std::size_t senders,
-                                    std::uint64_t limit = DISRUPTOR_MAX_LIMIT) {
-    const disruptor::bell bell = std::make_shared<disruptor_bell>();
-    ring_of_several made = {unopened<sender>(senders, bell), unopened<receiver>(upstreams.size(), bell), halter(bell)};
+[[nodiscard]] inline ring_of_several open_several(std::uint64_t size, const std::vector<std::uint64_t> &upstreams, std::size_t senders,
+                                                  std::uint64_t limit = DISRUPTOR_MAX_LIMIT) {
+    const disruptor::shared all = std::make_shared<common>();
     std::vector<disruptor_sender> sending(senders, disruptor_sender DISRUPTOR_NEW);
     std::vector<disruptor_receiver> receiving(upstreams.size(), disruptor_receiver DISRUPTOR_NEW);
+    ring_of_several made = {unopened<sender>(senders, all), unopened<receiver>(upstreams.size(), all), halter(all)};
     check(disruptor_open_several(size, limit, upstreams.data(), upstreams.size(), sending.data(), senders, receiving.data(),
-                                 receiving.size(), made.halter.get()));
+                                 receiving.size(), all->halter()));
     own(made.senders, sending);
     own(made.receivers, receiving);
     return made;
 }
 
 // Opens a ring: handler k follows those whose bits are in the mask upstreams[k].
-inline ring open(std::uint64_t size, const std::vector<std::uint64_t> &upstreams, std::uint64_t limit = DISRUPTOR_MAX_LIMIT) {
-    const disruptor::bell bell = std::make_shared<disruptor_bell>();
-    ring made = {sender(bell), unopened<receiver>(upstreams.size(), bell), halter(bell)};
+[[nodiscard]] inline ring open(std::uint64_t size, const std::vector<std::uint64_t> &upstreams,
+                               std::uint64_t limit = DISRUPTOR_MAX_LIMIT) {
+    const disruptor::shared all = std::make_shared<common>();
     std::vector<disruptor_receiver> receiving(upstreams.size(), disruptor_receiver DISRUPTOR_NEW);
+    ring made = {sender(all), unopened<receiver>(upstreams.size(), all), halter(all)};
     check(disruptor_open(size, limit, upstreams.data(), upstreams.size(), made.sender.get(), receiving.data(), receiving.size(),
-                         made.halter.get()));
+                         all->halter()));
     own(made.receivers, receiving);
     return made;
 }
 
 // Opens a ring of bytes.
 template <typename T>
-ring_of<T> open_of(std::uint64_t size, const std::vector<std::uint64_t> &upstreams, std::uint64_t limit = DISRUPTOR_MAX_LIMIT) {
-    const disruptor::bell bell = std::make_shared<disruptor_bell>();
-    ring_of<T> made = {sender_of<T>(bell), unopened<receiver_of<T>>(upstreams.size(), bell), halter(bell)};
+[[nodiscard]] ring_of<T> open_of(std::uint64_t size, const std::vector<std::uint64_t> &upstreams,
+                                 std::uint64_t limit = DISRUPTOR_MAX_LIMIT) {
+    const disruptor::shared all = std::make_shared<common>();
     std::vector<disruptor_receiver> receiving(upstreams.size(), disruptor_receiver DISRUPTOR_NEW);
+    ring_of<T> made = {sender_of<T>(all), unopened<receiver_of<T>>(upstreams.size(), all), halter(all)};
     check(disruptor_open_bytes(size, limit, sizeof(T), upstreams.data(), upstreams.size(), made.sender.get(), receiving.data(),
-                               receiving.size(), made.halter.get()));
+                               receiving.size(), all->halter()));
     own(made.receivers, receiving);
     return made;
 }

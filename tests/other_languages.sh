@@ -1,8 +1,8 @@
 #!/usr/bin/env bash
 # Builds and runs a program of each language over libdisruptor, in a new folder, and compares what it prints: C by the static
 # library, and under the sanitizers of addresses and of undefined behaviour where the compiler has them; C++, Rust and Java by the
-# static library; Python by the shared one. A language whose compiler is not here is skipped, and named. It prints a line for each
-# failure, and then a count; its status is 0 where none failed.
+# static library; Python by the shared one. Then it builds and tests each package of `bindings`, without a network. A language whose
+# compiler is not here is skipped, and named. It prints a line for each failure, and then a count; its status is 0 where none failed.
 #
 #   tests/other_languages.sh FOLDER      that of `make lib`, with libdisruptor.a and libdisruptor.so
 set -u
@@ -58,13 +58,14 @@ lacks=(env ASAN_OPTIONS=allocator_may_return_null=1)
 orders='each handler had every order, whole'
 declare -A prints=([ring]=$all [senders]=$all [bell]=$'the handler had every event\neach came in time\nidleness costs next to nothing'
     [refusals]='every misuse is refused by its number' [bytes]=$orders
-    [refusals_of_bytes]='every misuse of bytes is refused by its number')
+    [refusals_of_bytes]='every misuse of bytes is refused by its number'
+    [refusals_of_slots]='every misuse of slots is refused by its number')
 
 # Builds and runs each program in C with these words more.
 try_c() { # WHAT WORD..
     local what=$1 program run
     shift
-    for program in ring senders bell refusals bytes refusals_of_bytes; do
+    for program in ring senders bell refusals bytes refusals_of_bytes refusals_of_slots; do
         run=("$room/$program")
         [[ $program != refusals_of_bytes ]] || run=("${lacks[@]}" "${run[@]}")
         try "C $program$what" "${prints[$program]}" \
@@ -139,6 +140,71 @@ if has cc c && java=$(java_home); then
 else
     skip Java
 fi
+# Builds and tests a package, which says by its status whether it passed.
+package() { # NAME COMMAND..
+    local name=$1
+    shift
+    cases=$((cases + 1))
+    if ! (export DISRUPTOR_LIB=$library; "$@") > "$room/said" 2>&1; then
+        failed=$((failed + 1))
+        printf 'FAILED: the package for %s: %s\n' "$name" "$(tail -c 1200 "$room/said")"
+    fi
+}
+
+# Its tests, and a program that finds what is installed.
+test_cpp() {
+    local prefix=$room/prefix
+    cmake -S "$top/bindings/cpp" -B "$room/cmake" -DDISRUPTOR_LIB="$library" && cmake --build "$room/cmake" &&
+        ctest --test-dir "$room/cmake" --output-on-failure --timeout 120 &&
+        mkdir -p "$prefix/lib/cmake/disruptor" "$prefix/include" && cp -P "$library"/libdisruptor.* "$prefix/lib" &&
+        cp "$top"/include/* "$prefix/include" && cp "$top"/bindings/cpp/*.cmake "$prefix/lib/cmake/disruptor" &&
+        cmake -S "$top/bindings/cpp/tests/installed" -B "$room/installed" -DCMAKE_PREFIX_PATH="$prefix" &&
+        cmake --build "$room/installed" && ctest --test-dir "$room/installed" --output-on-failure --timeout 120
+}
+
+test_rust() {
+    cp -r "$top/bindings/rust" "$room/crate" && cd "$room/crate" &&
+        CARGO_TARGET_DIR=$room/cargo timeout 600 cargo test --offline --quiet
+}
+
+# The wheel and the jar are built as `make lib` does, and tested as they are unpacked.
+test_python() {
+    "$1" -m zipfile -e "$room"/packages/*.whl "$room/unpacked" &&
+        cd "$top/bindings/python" &&
+        env -u DISRUPTOR_LIB PYTHONPATH="$room/unpacked" PYTHONDONTWRITEBYTECODE=1 \
+            timeout 120 "$1" -W error -m unittest discover -s tests
+}
+
+# (JAVA22_HOME may name a Java whose own calls of foreign functions are tried too)
+test_java() {
+    local classes=$room/tests_of_java jar=$room/packages/disruptor.jar home
+    mkdir -p "$classes" && sed -n '/^```java$/,/^```$/p' "$top/bindings/java/README.md" | sed '1d;$d' > "$classes/Orders.java" &&
+        "$java/bin/javac" -cp "$jar" -d "$classes" "$classes/Orders.java" "$top"/bindings/java/src/test/java/*.java || return 1
+    for home in "$java" ${JAVA22_HOME:+"$JAVA22_HOME"}; do
+        timeout 120 "$home/bin/java" -Xcheck:jni -cp "$jar:$classes" RingTest &&
+            timeout 120 "$home/bin/java" -cp "$jar:$classes" Orders | grep -x 'each handler had every order' || return 1
+    done
+}
+
+# Each package has the version of the header.
+test_versions() {
+    local version
+    version=$(sed -n 's/^#define DISRUPTOR_VERSION "\(.*\)"/\1/p' "$top/include/disruptor.h")
+    grep -x "version = \"$version\"" "$top/bindings/rust/Cargo.toml" && grep -x "version = \"$version\"" "$top/bindings/python/pyproject.toml"
+}
+
+# A copy of the library, beside which the wheel and the jar come.
+build_packages() {
+    mkdir -p "$room/packages" && cp -P "$library"/libdisruptor.* "$room/packages" && "$top/tools/packages.sh" "$room/packages"
+}
+
+package 'each language: the versions' test_versions
+package 'Python and Java: the build' build_packages
+if has cc c; then package C "$top/bindings/c/test.sh" "$library"; fi
+if has c++ cpp && command -v cmake > "$room/null" 2>&1; then package C++ test_cpp; else skip 'the package for C++'; fi
+if command -v cargo > "$room/null" 2>&1; then package Rust test_rust; else skip 'the crate for Rust'; fi
+if ls "$room"/packages/*.whl > "$room/null" 2>&1; then package Python test_python python3; else skip 'the package for Python'; fi
+if [ -f "$room/packages/disruptor.jar" ] && java=$(java_home); then package Java test_java; else skip 'the package for Java'; fi
 [ -z "$skipped" ] || printf 'not here, and skipped:%s\n' "$skipped"
 printf 'other languages: %s programs, %s failed\n' $cases $failed
 [ $failed -eq 0 ] && [ $cases -gt 0 ]

@@ -3,12 +3,16 @@
 
     tests/over_c.py PROGRAM LIBRARY [RUNS [FIRST]]
 
-Every run is of one sender, of several or of a ring of bytes, of a graph, a size, a limit and calls of its own, by the seeds FIRST, FIRST + 1 and so
-on. Many calls are refused. A ring of one sender says that it drained only once it is closed, so a run halts at its end, where all
-that is claimed is published.
+Every run is of one sender or of several, of events of two words, of bytes or in slots, of a graph, a size, a limit and calls of its
+own, by the seeds FIRST, FIRST + 1 and so on. Many calls are refused. A ring of one sender says that it drained only once it is
+closed, so a run halts at its end, where all that is claimed is published.
+
+In a ring of slots the events lie in a list of this program's, where they are written and read. A publication of slots is the
+commands that write what lies there of the sender's own, and then the one that publishes.
 """
 
 import ctypes
+import functools
 import os
 import random
 import struct
@@ -34,10 +38,11 @@ class Exchange:
         self.limit = chance.choice([1, 40, disruptor.MAX_LIMIT])
         handlers = chance.randrange(1, 6)
         masks = [sum(1 << up for up in range(k) if chance.random() < 0.4) for k in range(handlers)]
-        kind = chance.choice(["words", "bytes", "several"])
-        self.is_single, self.is_of_bytes = kind != "several", kind == "bytes"
-        if self.is_of_bytes:
-            opened = disruptor.open_bytes(library, self.size, WORDS.size, masks, self.limit)
+        kind = chance.choice(["words", "bytes", "slots", "several", "slots of several"])
+        self.is_single, self.is_of_bytes, self.is_of_slots = "several" not in kind, kind == "bytes", "slots" in kind
+        self.slots = [(0, 0)] * self.size
+        if self.is_single and kind != "words":
+            opened = disruptor.open_bytes(library, self.size, WORDS.size if self.is_of_bytes else 0, masks, self.limit)
             sender, self.receivers, self.halter = opened
             self.senders, mode = [sender], "single"
         elif self.is_single:
@@ -81,11 +86,23 @@ class Exchange:
 
     def write(self, p, sequence):
         first, second = self.chance.randrange(1 << 64), self.chance.choice([0, 1, (1 << 64) - 1])
+        if self.is_of_slots:
+            if self.owner.get(sequence) == p:
+                self.slots[sequence % self.size] = first, second
+            return
         event = (WORDS.pack(first, second),) if self.is_of_bytes else (first, second)
         self.call(f"write,{p},{sequence},{first},{second}", lambda _: "written", self.senders[p].write, sequence, *event)
 
+    def publish_slots(self, p, lo, hi):
+        self.senders[p].call("publish_slots", lo, hi)
+
     def publish(self, p, lo, hi):
-        self.call(f"publish,{p},{lo},{hi}", lambda _: "published", self.senders[p].publish, lo, hi)
+        if self.is_of_slots:
+            for sequence in sorted(it for it, owner in self.owner.items() if owner == p and lo <= it <= hi):
+                first, second = self.slots[sequence % self.size]
+                self.call(f"write,{p},{sequence},{first},{second}", lambda _: "written", lambda: None)
+        publish = functools.partial(self.publish_slots, p) if self.is_of_slots else self.senders[p].publish
+        self.call(f"publish,{p},{lo},{hi}", lambda _: "published", publish, lo, hi)
         if self.replies[-1] == "published":
             for sequence in range(lo, hi + 1):
                 del self.owner[sequence]
@@ -94,10 +111,17 @@ class Exchange:
         """The first sequence that a sender claimed and did not publish, or the next to be claimed."""
         return min((it for it, owner in self.owner.items() if owner == p), default=self.claimed)
 
+    def poll_slots(self, k, room):
+        offer = disruptor.Offer()
+        self.receivers[k].call("poll_slots", room, ctypes.byref(offer), 1)
+        return offer
+
     def poll(self, k, room):
-        events = (disruptor.Event * (0 if self.is_of_bytes else room))()
+        events = (disruptor.Event * (0 if self.is_of_bytes or self.is_of_slots else room))()
 
         def pairs(offer):
+            if self.is_of_slots:
+                return [self.slots[(offer.first + at) % self.size] for at in range(offer.count)]
             if self.is_of_bytes:
                 return [WORDS.unpack(self.receivers[k].read(offer.first + at)) for at in range(offer.count)]
             return [(it.first, it.second) for it in events[: offer.count]]
@@ -108,7 +132,8 @@ class Exchange:
             shown = [f"{first}:{second}" if second else f"{first}" for first, second in pairs(offer)]
             return " ".join([f"batch {offer.first}", "end" if offer.end else "more", *shown])
 
-        offer = self.call(f"poll,h{k},{room}", line, self.receivers[k].poll, room if self.is_of_bytes else events)
+        poll = functools.partial(self.poll_slots, k) if self.is_of_slots else self.receivers[k].poll
+        offer = self.call(f"poll,h{k},{room}", line, poll, room if self.is_of_bytes or self.is_of_slots else events)
         if offer is not None and offer.kind == disruptor.BATCH:
             self.taken[k] = offer.first + offer.count
 

@@ -96,18 +96,57 @@ static void receive_bytes(uint32_t last) {
     }
 }
 
-/* Has a ring with so many senders, of two words or of bytes, do all its work. */
-static void work(size_t count, int has_bytes) {
+/* The same in a ring of slots, by all these senders in turns. */
+static void send_slots(size_t count) {
+    uint64_t lo;
+    for (size_t k = 0; k < SIZE; k += 2) {
+        void *sender = &senders[k / 2 % count];
+        expect("a claim", disruptor_claim(sender, 2, &lo), DISRUPTOR_OK);
+        expect("a publication of too many slots", disruptor_publish_slots(sender, lo, lo + 2), DISRUPTOR_NOT_CLAIMED);
+        expect("a publication of slots", disruptor_publish_slots(sender, lo, lo + 1), DISRUPTOR_OK);
+        expect("another one", disruptor_publish_slots(sender, lo, lo + 1), DISRUPTOR_ALREADY_PUBLISHED);
+    }
+    expect("a claim of full slots", disruptor_claim(&senders[0], 1, &lo), DISRUPTOR_NO_ROOM);
+}
+
+static void receive_slots(uint32_t last) {
+    disruptor_offer offer;
+    for (size_t h = 0; h < HANDLERS; h++) {
+        expect("a poll of slots", disruptor_poll_slots(&receivers[h], SIZE, &offer), DISRUPTOR_OK);
+        if (offer.kind == DISRUPTOR_BATCH) expect("a completion", disruptor_complete(&receivers[h], offer.first + offer.count), DISRUPTOR_OK);
+        expect("a poll without room", disruptor_poll_slots(&receivers[h], 0, &offer), DISRUPTOR_BAD_COUNT);
+        expect("a poll of slots", disruptor_poll_slots(&receivers[h], SIZE, &offer), DISRUPTOR_OK);
+        expect("what it finds", offer.kind, last);
+    }
+}
+
+/* What a ring has: two words or bytes, or only slots. */
+enum kind { WORDS, OF_BYTES, SLOTS };
+
+static void send(enum kind kind, size_t count) {
+    if (kind == WORDS) send_all(count);
+    if (kind == OF_BYTES) send_bytes();
+    if (kind == SLOTS) send_slots(count);
+}
+
+static void receive(enum kind kind, uint32_t last) {
+    if (kind == WORDS) receive_all(last);
+    if (kind == OF_BYTES) receive_bytes(last);
+    if (kind == SLOTS) receive_slots(last);
+}
+
+/* Has a ring with so many senders do all its work. */
+static void work(size_t count, enum kind kind) {
     unsigned long before = requests;
     uint64_t lo;
     for (int k = 0; k < ROUNDS; k++) {
-        has_bytes ? send_bytes() : send_all(count);
-        has_bytes ? receive_bytes(DISRUPTOR_IDLE) : receive_all(DISRUPTOR_IDLE);
+        send(kind, count);
+        receive(kind, DISRUPTOR_IDLE);
     }
     if (count == 1) expect("a close", disruptor_close(&senders[0]), DISRUPTOR_OK);
     expect("a halt", disruptor_halt(&halter), DISRUPTOR_OK);
     expect("a claim after it", disruptor_claim(&senders[0], 1, &lo), DISRUPTOR_HALTED);
-    has_bytes ? receive_bytes(DISRUPTOR_DRAINED) : receive_all(DISRUPTOR_DRAINED);
+    receive(kind, DISRUPTOR_DRAINED);
     for (size_t k = 0; k < count; k++) disruptor_free(&senders[k]);
     for (size_t h = 0; h < HANDLERS; h++) disruptor_free(&receivers[h]);
     disruptor_free(&halter);
@@ -120,13 +159,19 @@ static void work(size_t count, int has_bytes) {
 
 int main(void) {
     expect("an opening", disruptor_open(SIZE, DISRUPTOR_MAX_LIMIT, upstreams, HANDLERS, senders, receivers, HANDLERS, &halter), DISRUPTOR_OK);
-    work(1, 0);
+    work(1, WORDS);
     expect("an opening for several",
         disruptor_open_several(SIZE, DISRUPTOR_MAX_LIMIT, upstreams, HANDLERS, senders, SENDERS, receivers, HANDLERS, &halter), DISRUPTOR_OK);
-    work(SENDERS, 0);
+    work(SENDERS, WORDS);
     expect("an opening of bytes",
         disruptor_open_bytes(SIZE, DISRUPTOR_MAX_LIMIT, BYTES, upstreams, HANDLERS, senders, receivers, HANDLERS, &halter), DISRUPTOR_OK);
-    work(1, 1);
+    work(1, OF_BYTES);
+    expect("an opening of slots",
+        disruptor_open_slots(SIZE, DISRUPTOR_MAX_LIMIT, upstreams, HANDLERS, senders, receivers, HANDLERS, &halter), DISRUPTOR_OK);
+    work(1, SLOTS);
+    expect("an opening of slots for several",
+        disruptor_open_several_slots(SIZE, DISRUPTOR_MAX_LIMIT, upstreams, HANDLERS, senders, SENDERS, receivers, HANDLERS, &halter), DISRUPTOR_OK);
+    work(SENDERS, SLOTS);
     printf("no call but an opening takes memory\n");
     return 0;
 }

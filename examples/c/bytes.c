@@ -71,7 +71,7 @@ static uint32_t feed(disruptor_sender *sender, uint64_t orders, uint64_t claim) 
             continue;
         }
         if (refused) return refused;
-        disruptor_found(&waiting, n);
+        disruptor_found_room(&waiting, n);
         for (uint64_t k = 0; k < n; k++) {
             struct order order = order_of(sent + k);
             if ((refused = disruptor_write_bytes(sender, lo + k, &order, sizeof order))) return refused;

@@ -49,7 +49,7 @@ static uint32_t send_all(disruptor_sender *sender, uint64_t events, uint64_t cla
             continue;
         }
         if (refused) return refused;
-        disruptor_found(&waiting, n);
+        disruptor_found_room(&waiting, n);
         for (uint64_t k = 0; k < n; k++) {
             disruptor_event event = {sent + k, 0};
             if ((refused = disruptor_write(sender, lo + k, &event))) return refused;

@@ -49,7 +49,7 @@ static void *send_all(void *given) {
             continue;
         }
         if (worker->refused) return NULL;
-        disruptor_found(&waiting, n);
+        disruptor_found_room(&waiting, n);
         for (uint64_t k = 0; k < n; k++) {
             disruptor_event event = {worker->count + k, 0};
             if ((worker->refused = disruptor_write(worker->end, lo + k, &event))) return NULL;

@@ -7,7 +7,7 @@
 int main() {
     constexpr std::uint64_t events = 1000000, claim = 10;
     try {
-        disruptor::open(1000, {0});
+        (void)disruptor::open(1000, {0});
     } catch (const disruptor::refusal &refusal) {
         std::printf("a ring of 1000 slots: %s\n", refusal.what());
     }

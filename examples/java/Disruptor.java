@@ -289,6 +289,11 @@ public final class Disruptor<S extends Disruptor.Sender, R extends Disruptor.Rec
         /** No event, for good: the ring is closed, or of several senders halted, and the handler took every event. */
         public static final int DRAINED = -3;
 
+        // Up to where what a run took is completed, the next of it to show, and up to where it goes.
+        private long done;
+        private long next;
+        private long end;
+
         Receiver(ByteBuffer ring, int k, long most, int bytes) {
             super(ring, k, most, bytes);
         }
@@ -315,6 +320,36 @@ public final class Disruptor<S extends Disruptor.Sender, R extends Disruptor.Rec
             check(DisruptorNative.complete(at, upto));
         }
 
+        /** What is done with an event that was taken. */
+        interface Show {
+            void show(long sequence, boolean isLast);
+        }
+
+        /** Shows the events that are taken, and completes them. Where one throws, those before it are completed. */
+        final void showAll(Show each) {
+            if (done == end) {
+                return;
+            }
+            try {
+                for (; next < end; next++) {
+                    each.show(next, next + 1 == end);
+                }
+            } catch (RuntimeException | Error thrown) {
+                complete(next);
+                done = next++;
+                throw thrown;
+            }
+            complete(end);
+            done = end;
+        }
+
+        /** Shows so many events that were taken just now. */
+        final void showAll(int count, Show each) {
+            next = first();
+            end = next + count;
+            showAll(each);
+        }
+
         /** Returns how many events the handler took. */
         public long taken() {
             return progress(DisruptorNative.COUNTS_BEGUN);
@@ -329,6 +364,8 @@ public final class Disruptor<S extends Disruptor.Sender, R extends Disruptor.Rec
     /** A receiver of events of two words. */
     public static final class WordReceiver extends Receiver {
         private final LongBuffer words;
+        // What a run took last.
+        private final long[] taken = new long[2 * ROOM];
 
         private WordReceiver(ByteBuffer ring, int k, long size) {
             super(ring, k, Math.min(size, ROOM), 2 * Long.BYTES * ROOM);
@@ -349,20 +386,20 @@ public final class Disruptor<S extends Disruptor.Sender, R extends Disruptor.Rec
 
         /**
          * Shows a handler each event until the ring is drained, and completes batch by batch. What the handler throws
-         * ends this, and its batch is not completed.
+         * ends this: the events before that one are completed, and another run goes on after it.
          */
         public void run(WordHandler handler) {
-            var events = new long[2 * ROOM];
-            for (int count = poll(events); count != DRAINED; count = poll(events)) {
+            Show each = (sequence, isLast) -> {
+                int k = 2 * (int) (sequence - first());
+                handler.onEvent(taken[k], taken[k + 1], sequence, isLast);
+            };
+            showAll(each);
+            for (int count = poll(taken); count != DRAINED; count = poll(taken)) {
                 if (count < 0) {
                     await();
-                    continue;
+                } else {
+                    showAll(count, each);
                 }
-                long first = first();
-                for (int k = 0; k < count; k++) {
-                    handler.onEvent(events[2 * k], events[2 * k + 1], first + k, k + 1 == count);
-                }
-                complete(first + count);
             }
         }
     }
@@ -402,21 +439,21 @@ public final class Disruptor<S extends Disruptor.Sender, R extends Disruptor.Rec
 
         /**
          * Shows a handler each event until the ring is drained, and completes batch by batch, each of so many at most.
-         * What the handler throws ends this, and its batch is not completed.
+         * What the handler throws ends this: the events before that one are completed, and another run goes on after it.
          */
         public void run(long most, ByteHandler handler) {
             ByteBuffer shown = ByteBuffer.allocateDirect(length);
+            Show each = (sequence, isLast) -> {
+                read(sequence, shown.clear());
+                handler.onEvent(shown.flip(), sequence, isLast);
+            };
+            showAll(each);
             for (int count = poll(most); count != DRAINED; count = poll(most)) {
                 if (count < 0) {
                     await();
-                    continue;
+                } else {
+                    showAll(count, each);
                 }
-                long first = first();
-                for (int k = 0; k < count; k++) {
-                    read(first + k, shown.clear());
-                    handler.onEvent(shown.flip(), first + k, k + 1 == count);
-                }
-                complete(first + count);
             }
         }
     }

@@ -113,7 +113,7 @@ NATIVE(jint, progress, jlong at) {
 NATIVE(jint, claim, jlong at, jlong n) {
     end *end = end_at(at);
     uint32_t refused = disruptor_claim(&end->handle->sender, n, &end->lo);
-    if (!refused) disruptor_found(&end->waiting, n);
+    if (!refused) disruptor_found_room(&end->waiting, n);
     return (jint)refused;
 }
 

@@ -148,16 +148,16 @@ impl<E> Sender<E> {
     pub fn close(&mut self) -> Result<(), Refusal> {
         answer(unsafe { disruptor_close_at(&mut self.0, 1) })
     }
+
+    /// What the sender of a ring of one claimed and published.
+    pub fn progress(&mut self) -> Result<Counts, Refusal> {
+        self.0.progress()
+    }
 }
 
 impl Sender {
     pub fn write(&mut self, sequence: u64, event: Event) -> Result<(), Refusal> {
         answer(unsafe { disruptor_write_at(&mut self.0, 1, sequence, &event, 1) })
-    }
-
-    /// What the sender of a ring of one claimed and published.
-    pub fn progress(&mut self) -> Result<Counts, Refusal> {
-        self.0.progress()
     }
 }
 
@@ -175,6 +175,11 @@ impl<E> Receiver<E> {
     pub fn complete(&mut self, upto: u64) -> Result<(), Refusal> {
         answer(unsafe { disruptor_complete_at(&mut self.0, 1, upto) })
     }
+
+    /// What the handler took and completed.
+    pub fn progress(&mut self) -> Result<Counts, Refusal> {
+        self.0.progress()
+    }
 }
 
 impl Receiver {
@@ -183,11 +188,6 @@ impl Receiver {
         let mut offer = Offer::default();
         answer(unsafe { disruptor_poll_at(&mut self.0, 1, out.as_mut_ptr(), out.len(), out.len(), &mut offer, 1) })?;
         Ok(offer.into())
-    }
-
-    /// What the handler took and completed.
-    pub fn progress(&mut self) -> Result<Counts, Refusal> {
-        self.0.progress()
     }
 }
 

@@ -6,7 +6,7 @@ use crate::graphs::{TWO, graph};
 use crate::telling::Lines;
 use dr_disruptor_senders::{Ran, RunFault, WaitStrategy, run_scripts};
 use dr_graph::Graph;
-use dr_meaning::Handler;
+use dr_meaning::InPlaceHandler;
 use dr_seq::{Event, Size};
 use std::alloc::{AllocError, Global};
 use std::sync::Wait;
@@ -20,12 +20,12 @@ struct Merged {
     in_order: bool,
 }
 
-impl Handler<Event> for Merged {
+impl InPlaceHandler<Event> for Merged {
     ghost use Rattle.std.specs.Prelude.{⊤};
 
     ghost goes = { λ old event s end new. ⊤ };
 
-    fn on_event(&mut self, event: Event, _s: u64, _end: bool) {
+    fn on_event_in_place(&mut self, event: &Event, _s: u64, _end: bool) {
         if event.first < 100 {
             self.in_order = self.in_order && event.first == self.low;
             self.low = self.low.wrapping_add(1);

@@ -9,7 +9,7 @@ use crate::telling::Lines;
 use dr_core::{Core, processor_turn};
 use dr_lock::Recorded;
 use dr_meaning::Command::{Claim, Complete, Halt, Poll, Publish, Retire, Write};
-use dr_meaning::{Command, Handler, Mode};
+use dr_meaning::{ByValue, Command, Handler, InPlaceHandler, Mode};
 use dr_ring::{Halter, Receiver, Sender};
 use dr_seq::Event;
 use std::alloc::Global;
@@ -36,12 +36,12 @@ struct Sum {
     total: u64,
 }
 
-impl Handler<Event> for Sum {
+impl InPlaceHandler<Event> for Sum {
     ghost use Rattle.std.specs.Prelude.{◌≡◌, ◌+◌, ◌%◌, ◌^◌};
 
     ghost goes = { λ old event s end new. new.total ≡ (old.total + event.first) % 2 ^ 64 };
 
-    fn on_event(&mut self, event: Event, _s: u64, _end: bool) {
+    fn on_event_in_place(&mut self, event: &Event, _s: u64, _end: bool) {
         self.total = self.total.wrapping_add(event.first);
     }
 }
@@ -151,7 +151,9 @@ fn tell_turns_in_place<R: Print>(out: &Lines<R>, core: &mut Core<Event>) {
 
 /// Turns of one that has to go on, and of one that retired.
 fn tell_last_turns<R: Print>(out: &Lines<R>, core: &mut Core<Event>) {
-    let mut count = Count { shown: 0 };
+    let mut count = ByValue {
+        handler: Count { shown: 0 },
+    };
     out.value(core.turn_in_place(1, &mut count));
     out.value(core.turn_in_place(2, &mut count));
 }

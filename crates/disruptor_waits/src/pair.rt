@@ -2,7 +2,7 @@
 
 use crate::fault::Fault;
 use dr_graph::{Graph, GraphBuilder, GraphFault};
-use dr_meaning::Handler;
+use dr_meaning::InPlaceHandler;
 use dr_seq::Event;
 use std::alloc::Global;
 use std::sync::Arc;
@@ -14,12 +14,12 @@ pub struct Taker {
     taken: Arc<AtomicU64, Global>,
 }
 
-impl Handler<Event> for Taker {
+impl InPlaceHandler<Event> for Taker {
     ghost use Rattle.std.specs.Prelude.{⊤};
 
     ghost goes = { λ old event s end new. ⊤ };
 
-    fn on_event(&mut self, event: Event, _s: u64, _end: bool) {
+    fn on_event_in_place(&mut self, event: &Event, _s: u64, _end: bool) {
         self.taken.store(event.first, Ordering::SeqCst);
     }
 }
@@ -28,12 +28,12 @@ impl Handler<Event> for Taker {
 #[derive(Drop)]
 pub struct Idler;
 
-impl Handler<Event> for Idler {
+impl InPlaceHandler<Event> for Idler {
     ghost use Rattle.std.specs.Prelude.{⊤};
 
     ghost goes = { λ old event s end new. ⊤ };
 
-    fn on_event(&mut self, _event: Event, _s: u64, _end: bool) {}
+    fn on_event_in_place(&mut self, _event: &Event, _s: u64, _end: bool) {}
 }
 
 /// Declares handlers, and which comes after which.

@@ -6,7 +6,7 @@ ghost use Rattle.dr_ring.specs.Calls.Ends.{sender_place};
 use crate::fault::Fault;
 use crate::pair::graph;
 use dr_disruptor::{LiveSender, WaitStrategy, Waits, run_with};
-use dr_meaning::Handler;
+use dr_meaning::InPlaceHandler;
 use dr_seq::{Event, Size};
 use dr_workers::WorkFault;
 use std::alloc::Global;
@@ -39,7 +39,7 @@ fn send_by<R: Wait, J: Job<R>>(
 /// Does the job over a ring of so many slots, for two handlers of which the second follows the first.
 pub fn run<
     R: Threads + Wait + Copy + Send + 'static,
-    H: Handler<Event> + Drop + Send + 'static,
+    H: InPlaceHandler<Event> + Drop + Send + 'static,
     J: Job<R>,
 >(
     rt: R,

@@ -6,5 +6,8 @@ pub mod OpenedBytes
 pub mod OpenedSeveral
 pub mod Crossing
 pub mod Placed
+pub mod Slots
+pub mod Unwritten
+pub mod UnwrittenOfSeveral
 pub mod Troubles
 pub mod Names

@@ -1,5 +1,5 @@
 -- The names that C is told are the library's.
-use Rattle.std.proofs.Common.{◌≡◌, ◌≢◌, ℕ, List, [], refl}
+use Rattle.std.proofs.Common.{◌≡◌, ◌≢◌, [], refl}
 use Rattle.dr_graph.specs.declared.fault.GraphFault.{GraphFault}
 use Rattle.dr_graph.specs.declared.fault.GraphFault.TheVariants as graph
 use Rattle.dr_graph.specs.Calls.Fault.{fault_number, fault_name}
@@ -7,9 +7,9 @@ use Rattle.dr_meaning.specs.declared.refusal.Refusal.TheVariants as refusal
 use Rattle.dr_meaning.specs.declared.open_fault.OpenFault.{OpenFault}
 use Rattle.dr_meaning.specs.declared.open_fault.OpenFault.TheVariants as opening
 use Rattle.dr_meaning.specs.Calls.OpenFault as open_fault
-use Rattle.dr_plain_senders.specs.declared.claiming.ClaimFault.{ClaimFault}
-use Rattle.dr_plain_senders.specs.declared.claiming.ClaimFault.TheVariants.{Refused, Contended}
-use Rattle.dr_plain_senders.specs.Calls.ClaimFault as claim_fault
+use Rattle.dr_meaning.specs.declared.claim_fault.ClaimFault.{ClaimFault}
+use Rattle.dr_meaning.specs.declared.claim_fault.ClaimFault.TheVariants.{Refused, Contended}
+use Rattle.dr_meaning.specs.Calls.ClaimFault as claim_fault
 use Rattle.dr_c.specs.Names.{name_by, opening_name, AreOfTheLibrary}
 
 of_calls : (fault : ClaimFault) → name_by (claim_fault.number_of fault) ≢ [] → name_by (claim_fault.number_of fault) ≡ claim_fault.name_of fault

@@ -1,16 +1,17 @@
 -- What each call from C does to an end, and what it tells.
-use Rattle.std.specs.Prelude.{◌≡◌, ℕ, ◌==◌, ◌⊎◌, if◌then◌else◌, List, length, Option, None, Some, Result, Ok, Err}
+use Rattle.std.specs.Prelude.{◌≡◌, ◌≢◌, ◌<◌, ◌^◌, ℕ, ◌==◌, ◌⊎◌, if◌then◌else◌, List, length, Option, None, Some, Result, Ok, Err}
 use Rattle.dr_seq.specs.declared.event.Event.{Event}
 use Rattle.dr_meaning.specs.declared.command.Claimed.{Claimed}
 use Rattle.dr_meaning.specs.declared.command.Polled.{Polled}
 use Rattle.dr_meaning.specs.declared.command.Polled.TheVariants.{Batch, Drained, Gating, Idle}
 use Rattle.dr_meaning.specs.declared.refusal.Refusal.{Refusal}
+use Rattle.dr_meaning.specs.declared.refusal.Refusal.TheVariants.{NotWritten}
 use Rattle.dr_ring.specs.declared.record.Step.TheVariants.{HalterHalts}
 use Rattle.dr_ring.specs.Meaning.Records.{claimed, halter_halted}
 use Rattle.dr_ring.specs.Calls.Ends.{SenderEnd, ReceiverEnd, HalterEnd, HasStored}
 use Rattle.dr_ring.specs.Calls.Sending.{ClaimCall, WriteCall, PublishCall, CloseCall, ClosesOnceDone}
 use Rattle.dr_ring.specs.Calls.Receiving.{PollCall, CompleteCall}
-use Rattle.dr_plain_senders.specs.declared.claiming.ClaimFault.{ClaimFault}
+use Rattle.dr_meaning.specs.declared.claim_fault.ClaimFault.{ClaimFault}
 use Rattle.dr_plain_senders.specs.declared.record.Step.TheVariants as steps_of_several
 use Rattle.dr_plain_senders.specs.Meaning.Records as records_of_several
 use Rattle.dr_plain_senders.specs.Calls.Ends as several
@@ -33,6 +34,7 @@ use Rattle.dr_c.specs.declared.batch.Offer.{Offer}
 use Rattle.dr_c.specs.declared.progress.Counts.{Counts}
 use Rattle.dr_c.specs.Numbers.{told, told_of_claim, wrong_end, bad_length, not_in_hand}
 use Rattle.dr_c.specs.Places.{Whether}
+use Rattle.dr_c.specs.Slots.{Leaves, LeavesOfSeveral, PublishesAsLeft, HasEachOnce}
 
 -- A call of a sender, which answers C by the number of its own answer; another end is refused, and stays as it was.
 abbrev pub OfSender : {A F : Type 0} → (Result A F → ℕ) → End → End → ℕ → Type 0 → (SenderEnd → SenderEnd → Result A Refusal → Type 0)
@@ -117,6 +119,17 @@ PublishesBy lo hi number end end' =
     (λ s s' answer. publications_of_several.PublishCall s lo hi s' answer)
     (λ s s' answer. sends_of_bytes.PublishCall s lo hi s' answer)
 
+-- A stretch is published with what lies in its cells, of a ring of bytes or of several senders. Nothing of one's own is found unwritten.
+abbrev pub PublishesSlotsBy : ℕ → ℕ → ℕ → End → End → Type 0
+PublishesSlotsBy lo hi number (SenderOfBytes w) end' =
+    OfWriter {A = Unit {0}} w end' number (λ s s' answer. PublishesAsLeft Leaves (λ m m'. sends_of_bytes.PublishCall m lo hi m' answer) lo s s'
+    × (hi < 2 ^ 62 → answer ≢ Err NotWritten))
+PublishesSlotsBy lo hi number (SenderOfSeveral s) end' =
+    (s' : several.SenderEnd Event) × (answer : Result (Unit {0}) Refusal) × (end' ≡ SenderOfSeveral s') × (number ≡ told answer)
+    × PublishesAsLeft LeavesOfSeveral (λ m m'. publications_of_several.PublishCall m lo hi m' answer) lo s s'
+    × (HasEachOnce s.knows.own → hi < s.plan.limit → hi < 2 ^ 62 → answer ≢ Err NotWritten)
+PublishesSlotsBy lo hi number other end' = (end' ≡ other) × (number ≡ wrong_end)
+
 -- only a ring of one sender is closed: one of several ends with its halt
 abbrev pub ClosesBy : ℕ → End → End → Type 0
 ClosesBy number (Sender s) end' =
@@ -147,6 +160,13 @@ abbrev pub PollsBytesBy : ℕ → Offer → Offer → ℕ → End → End → Ty
 PollsBytesBy room offer offer' number (ReceiverOfBytes r) end' =
     OfReader {A = Polled} r end' number (λ r r' answer. polls_of_bytes.PollCall r room r' answer × IsOffer answer offer offer')
 PollsBytesBy room offer offer' number other end' = (end' ≡ other) × (number ≡ wrong_end) × (offer' ≡ offer)
+
+-- a receiver of a ring of slots takes events, and copies none: one of bytes, or one of several senders
+abbrev pub PollsSlotsBy : ℕ → Offer → Offer → ℕ → End → End → Type 0
+PollsSlotsBy room offer offer' number (ReceiverOfSeveral r) end' =
+    (r' : several.ReceiverEnd Event) × (answer : Result Polled Refusal) × (end' ≡ ReceiverOfSeveral r') × (number ≡ told answer)
+    × completions_of_several.PollCall r room r' answer × IsOffer answer offer offer'
+PollsSlotsBy room offer offer' number other end' = PollsBytesBy room offer offer' number other end'
 
 -- the bytes of an event in hand, where there is room for just these; a refused read leaves the place as it was
 abbrev pub Reads : ReceiverRecord (List ℕ) → ℕ → List ℕ → List ℕ → ℕ → Type 0

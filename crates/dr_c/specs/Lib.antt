@@ -8,3 +8,4 @@ pub mod Opening
 pub mod OpeningBytes
 pub mod OpeningSeveral
 pub mod Places
+pub mod Slots

@@ -4,8 +4,8 @@ use Rattle.dr_graph.specs.declared.fault.GraphFault.{GraphFault}
 use Rattle.dr_graph.specs.Calls.Fault.{fault_number, fault_name}
 use Rattle.dr_meaning.specs.declared.open_fault.OpenFault.{OpenFault}
 use Rattle.dr_meaning.specs.Calls.OpenFault as open_fault
-use Rattle.dr_plain_senders.specs.declared.claiming.ClaimFault.{ClaimFault}
-use Rattle.dr_plain_senders.specs.Calls.ClaimFault as claim_fault
+use Rattle.dr_meaning.specs.declared.claim_fault.ClaimFault.{ClaimFault}
+use Rattle.dr_meaning.specs.Calls.ClaimFault as claim_fault
 
 -- those of handles, and of opening a ring
 unfoldable pub opening_name : ℕ → List ℕ

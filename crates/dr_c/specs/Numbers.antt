@@ -2,8 +2,8 @@
 use Rattle.std.specs.Prelude.{ℕ, Result, Ok, Err}
 use Rattle.dr_meaning.specs.declared.refusal.Refusal.{Refusal}
 use Rattle.dr_meaning.specs.Calls.Refusal.{number_of}
-use Rattle.dr_plain_senders.specs.declared.claiming.ClaimFault.{ClaimFault}
-use Rattle.dr_plain_senders.specs.Calls.ClaimFault as claim_fault
+use Rattle.dr_meaning.specs.declared.claim_fault.ClaimFault.{ClaimFault}
+use Rattle.dr_meaning.specs.Calls.ClaimFault as claim_fault
 
 -- the handle is zero or closed
 abbrev pub not_open : ℕ

@@ -1,7 +1,7 @@
 //! The calls, each on the handle that it is of.
 
 ghost use Rattle.std.specs.Prelude.{◌≡◌};
-ghost use Rattle.dr_c.specs.Calls.{ClaimsBy, WritesBy, WritesBytesBy, PublishesBy, ClosesBy, PollsBy, PollsBytesBy, ReadsBytesBy, CompletesBy, HaltsBy, TellsBy};
+ghost use Rattle.dr_c.specs.Calls.{ClaimsBy, WritesBy, WritesBytesBy, PublishesBy, PublishesSlotsBy, ClosesBy, PollsBy, PollsBytesBy, PollsSlotsBy, ReadsBytesBy, CompletesBy, HaltsBy, TellsBy};
 ghost use Rattle.dr_c.specs.Handles.{OnHandle};
 ghost use Rattle.dr_c.specs.Numbers.{not_open};
 ghost use Rattle.dr_c.specs.Opening.{OpenedBy};
@@ -126,6 +126,19 @@ pub(crate) fn publish(alloc: Global, sender: &mut Handle, lo: u64, hi: u64) -> u
     number
 }
 
+/// Publishes the sequences from `lo` to `hi` with what lies in their cells.
+pub(crate) fn publish_slots(alloc: Global, sender: &mut Handle, lo: u64, hi: u64) -> u32
+    ensures { OnHandle sender.old.held.value sender.new.held.value (result ≡ not_open) (PublishesSlotsBy lo hi result) }
+{
+    if !sender.is_open() {
+        return NOT_OPEN;
+    }
+    let mut end = sender.take(alloc);
+    let number = sending::publish_slots(&mut end, lo, hi);
+    sender.keep(end);
+    number
+}
+
 /// Closes the ring.
 pub(crate) fn close(alloc: Global, sender: &mut Handle) -> u32
     ensures { OnHandle sender.old.held.value sender.new.held.value (result ≡ not_open) (ClosesBy result) }
@@ -166,6 +179,19 @@ pub(crate) fn poll_bytes(alloc: Global, receiver: &mut Handle, room: u64, offer:
     }
     let mut end = receiver.take(alloc);
     let number = receiving::poll_bytes(&mut end, room, offer);
+    receiver.keep(end);
+    number
+}
+
+/// Takes the next events, `room` at most, and copies none.
+pub(crate) fn poll_slots(alloc: Global, receiver: &mut Handle, room: u64, offer: &mut Offer) -> u32
+    ensures { OnHandle receiver.old.held.value receiver.new.held.value ((offer.new ≡ offer.old) × (result ≡ not_open)) (PollsSlotsBy room offer.old offer.new result) }
+{
+    if !receiver.is_open() {
+        return NOT_OPEN;
+    }
+    let mut end = receiver.take(alloc);
+    let number = receiving::poll_slots(&mut end, room, offer);
     receiver.keep(end);
     number
 }

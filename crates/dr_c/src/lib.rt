@@ -7,7 +7,7 @@
 #![tactic(auto)]
 
 ghost use Rattle.std.specs.Prelude.{◌≡◌, ◌==◌, ◌&&◌, ◌++◌, None, length, take, drop, replicate};
-ghost use Rattle.dr_c.specs.Calls.{ClaimsBy, WritesBy, WritesBytesBy, PublishesBy, ClosesBy, PollsBy, PollsBytesBy, ReadsBytesBy, CompletesBy, HaltsBy, TellsBy};
+ghost use Rattle.dr_c.specs.Calls.{ClaimsBy, WritesBy, WritesBytesBy, PublishesBy, PublishesSlotsBy, ClosesBy, PollsBy, PollsBytesBy, PollsSlotsBy, ReadsBytesBy, CompletesBy, HaltsBy, TellsBy};
 ghost use Rattle.dr_c.specs.Handles.{OnHandle};
 ghost use Rattle.dr_c.specs.Names.{name_by, AreOfTheLibrary};
 ghost use Rattle.dr_c.specs.Numbers.{bad_pointer, not_open};
@@ -23,6 +23,7 @@ mod calls;
 mod end;
 mod graph;
 mod handle;
+mod in_place;
 mod loose;
 mod numbers;
 mod open_fault;
@@ -177,6 +178,23 @@ pub extern "C" fn disruptor_publish_at(
     calls::publish(alloc, &mut sender[0], lo, hi)
 }
 
+/// Publishes the sequences from `lo` to `hi` with what lies in their cells, whether it was written or not: the events lie in
+/// memory of the caller's own, in the same slots.
+#[unsafe(no_mangle)]
+pub extern "C" fn disruptor_publish_slots_at(
+    alloc: Global,
+    sender: &mut [Handle],
+    lo: u64,
+    hi: u64,
+) -> u32
+    ensures { AtPlace sender.old sender.new (result ≡ bad_pointer) (λ s s'. OnHandle s.held.value s'.held.value (result ≡ not_open) (PublishesSlotsBy lo hi result)) }
+{
+    if sender.len() != 1 {
+        return BAD_POINTER;
+    }
+    calls::publish_slots(alloc, &mut sender[0], lo, hi)
+}
+
 /// Closes the ring.
 #[unsafe(no_mangle)]
 pub extern "C" fn disruptor_close_at(alloc: Global, sender: &mut [Handle]) -> u32
@@ -219,6 +237,22 @@ pub extern "C" fn disruptor_poll_bytes_at(
         return BAD_POINTER;
     }
     calls::poll_bytes(alloc, &mut receiver[0], room, &mut offer[0])
+}
+
+/// Takes the next events, `room` at most, and copies none: they lie in memory of the caller's own, in the same slots.
+#[unsafe(no_mangle)]
+pub extern "C" fn disruptor_poll_slots_at(
+    alloc: Global,
+    receiver: &mut [Handle],
+    room: u64,
+    offer: &mut [Offer],
+) -> u32
+    ensures { AtPlaces receiver.old receiver.new offer.old offer.new (result ≡ bad_pointer) (λ r r' offer offer'. OnHandle r.held.value r'.held.value ((offer' ≡ offer) × (result ≡ not_open)) (PollsSlotsBy room offer offer' result)) }
+{
+    if receiver.len() != 1 || offer.len() != 1 {
+        return BAD_POINTER;
+    }
+    calls::poll_slots(alloc, &mut receiver[0], room, &mut offer[0])
 }
 
 /// Copies the bytes of an event that the receiver took and did not complete to `into`, which is asked to have room for `count`, just

@@ -1,7 +1,7 @@
 //! The calls of a receiver and of a halter.
 
 ghost use Rattle.std.specs.Prelude.{◌≡◌};
-ghost use Rattle.dr_c.specs.Calls.{PollsBy, PollsBytesBy, ReadsBytesBy, Reads, CompletesBy, HaltsBy, offer_of as offer_of_polled};
+ghost use Rattle.dr_c.specs.Calls.{PollsBy, PollsBytesBy, PollsSlotsBy, ReadsBytesBy, Reads, CompletesBy, HaltsBy, offer_of as offer_of_polled};
 
 use crate::batch::Offer;
 use crate::bytes::Bytes;
@@ -64,6 +64,22 @@ pub fn poll_bytes(end: &mut End, room: u64, offer: &mut Offer) -> u32
             Err(refusal) => refusal.number(),
         },
         _ => WRONG_END,
+    }
+}
+
+/// Takes the next events of a ring of slots, as many as it is asked for, and copies none.
+pub fn poll_slots(end: &mut End, room: u64, offer: &mut Offer) -> u32
+    ensures { PollsSlotsBy room offer.old offer.new result end.old end.new }
+{
+    match end {
+        End::ReceiverOfSeveral(taker) => match taker.poll(room) {
+            Ok(polled) => {
+                *offer = offer_of(polled);
+                0
+            }
+            Err(refusal) => refusal.number(),
+        },
+        _ => poll_bytes(end, room, offer),
     }
 }
 

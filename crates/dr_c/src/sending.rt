@@ -1,10 +1,11 @@
 //! The calls of a sender.
 
 ghost use Rattle.std.specs.Prelude.{◌≡◌};
-ghost use Rattle.dr_c.specs.Calls.{ClaimsBy, WritesBy, WritesBytesBy, PublishesBy, ClosesBy};
+ghost use Rattle.dr_c.specs.Calls.{ClaimsBy, WritesBy, WritesBytesBy, PublishesBy, PublishesSlotsBy, ClosesBy};
 ghost use Rattle.dr_c.specs.Numbers.{told};
 
 use crate::end::End;
+use crate::in_place;
 use crate::numbers::{BAD_LENGTH, WRONG_END, number};
 use dr_seq::Event;
 
@@ -72,6 +73,17 @@ pub fn publish(end: &mut End, lo: u64, hi: u64) -> u32
         End::Sender(sender) => number(sender.publish(lo, hi)),
         End::SenderOfSeveral(sender) => number(sender.publish(lo, hi)),
         End::SenderOfBytes(writer) => number(writer.publish(lo, hi)),
+        _ => WRONG_END,
+    }
+}
+
+/// Publishes a stretch with what lies in its cells.
+pub fn publish_slots(end: &mut End, lo: u64, hi: u64) -> u32
+    ensures { PublishesSlotsBy lo hi result end.old end.new }
+{
+    match end {
+        End::SenderOfBytes(writer) => number(writer.publish_slots(lo, hi)),
+        End::SenderOfSeveral(sender) => number(in_place::publish_slots(sender, lo, hi)),
         _ => WRONG_END,
     }
 }

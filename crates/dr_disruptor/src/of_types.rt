@@ -9,7 +9,7 @@ ghost use Rattle.dr_disruptor.specs.declared.of_types.OneOf.TheVariants.{First, 
 
 use crate::running::run;
 use dr_graph::Graph;
-use dr_meaning::Handler;
+use dr_meaning::InPlaceHandler;
 use dr_seq::{Event, Size};
 use dr_threads::RunFault;
 use std::alloc::Global;
@@ -24,13 +24,13 @@ pub enum OneOf<A, B> {
     Second(B),
 }
 
-impl<A: Handler<Event>, B: Handler<Event>> Handler<Event> for OneOf<A, B> {
+impl<A: InPlaceHandler<Event>, B: InPlaceHandler<Event>> InPlaceHandler<Event> for OneOf<A, B> {
     ghost goes = { goes_as_one_of A.goes B.goes };
 
-    fn on_event(&mut self, event: Event, s: u64, end: bool) {
+    fn on_event_in_place(&mut self, event: &Event, s: u64, end: bool) {
         match self {
-            OneOf::First(handler) => handler.on_event(event, s, end),
-            OneOf::Second(handler) => handler.on_event(event, s, end),
+            OneOf::First(handler) => handler.on_event_in_place(event, s, end),
+            OneOf::Second(handler) => handler.on_event_in_place(event, s, end),
         }
     }
 }
@@ -67,8 +67,8 @@ fn three<A: Drop, B: Drop, C: Drop>(mut handlers: Vec<OneOf<A, OneOf<B, C>>>) ->
 /// It is refused with `Handlers` where the graph has not two handlers.
 pub fn run_two<
     R: Threads + Wait + Copy + Send + 'static,
-    A: Handler<Event> + Drop + Send + 'static,
-    B: Handler<Event> + Drop + Send + 'static,
+    A: InPlaceHandler<Event> + Drop + Send + 'static,
+    B: InPlaceHandler<Event> + Drop + Send + 'static,
 >(
     rt: R,
     alloc: Global,
@@ -105,9 +105,9 @@ pub fn run_two<
 /// It is refused with `Handlers` where the graph has not three handlers.
 pub fn run_three<
     R: Threads + Wait + Copy + Send + 'static,
-    A: Handler<Event> + Drop + Send + 'static,
-    B: Handler<Event> + Drop + Send + 'static,
-    C: Handler<Event> + Drop + Send + 'static,
+    A: InPlaceHandler<Event> + Drop + Send + 'static,
+    B: InPlaceHandler<Event> + Drop + Send + 'static,
+    C: InPlaceHandler<Event> + Drop + Send + 'static,
 >(
     rt: R,
     alloc: Global,

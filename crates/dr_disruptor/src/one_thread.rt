@@ -7,7 +7,7 @@ ghost use Rattle.dr_disruptor.specs.Refused.{refusal_of};
 
 use dr_core::Core;
 use dr_graph::Graph;
-use dr_meaning::{Claimed, Handler, MAX_LIMIT, Mode, Refusal};
+use dr_meaning::{Claimed, InPlaceHandler, MAX_LIMIT, Mode, Refusal};
 use dr_seq::{Event, Size};
 use dr_threads::RunFault;
 use std::alloc::Global;
@@ -32,7 +32,10 @@ fn send(core: &mut Core<Event>, script: &[Event], at: usize, n: usize) -> Result
 }
 
 // Gives each handler a turn, in the graph's order, over all that is there.
-fn turns<H: Handler<Event>>(core: &mut Core<Event>, handlers: &mut [H]) -> Result<(), Refusal>
+fn turns<H: InPlaceHandler<Event>>(
+    core: &mut Core<Event>,
+    handlers: &mut [H],
+) -> Result<(), Refusal>
     requires many { length handlers.old ≡ length core.old.setup.upstreams }
     ensures { (events : List Event) (starts : List H) (at sent : ℕ) → AreOffered H.goes events starts at sent core.old handlers.old
         → Turns result H.goes core.old.setup.upstreams core.old.setup.size events starts sent core.new handlers.new }
@@ -46,7 +49,7 @@ fn turns<H: Handler<Event>>(core: &mut Core<Event>, handlers: &mut [H]) -> Resul
 }
 
 // Sends all events, as many at a time as the ring has slots, and gives the handlers their turns each time.
-fn pass<H: Handler<Event>>(
+fn pass<H: InPlaceHandler<Event>>(
     core: &mut Core<Event>,
     handlers: &mut [H],
     script: &[Event],
@@ -73,7 +76,7 @@ fn pass<H: Handler<Event>>(
 ///
 /// It is refused with `Handlers` where there are not as many handlers as the graph has, and with `Memory` where there
 /// is none for the core. Then no handler was called.
-pub fn run_here<H: Handler<Event> + Drop>(
+pub fn run_here<H: InPlaceHandler<Event> + Drop>(
     alloc: Global,
     graph: Graph,
     size: Size,

@@ -21,7 +21,7 @@ ghost use Rattle.dr_disruptor.specs.Serving.{shape_of};
 
 use crate::workers::{Abandoned, LiveSender, Worker, begin, gathered, joined, open};
 use dr_graph::Graph;
-use dr_meaning::Handler;
+use dr_meaning::InPlaceHandler;
 use dr_ring::{Halter, Settled, settle_all};
 use dr_seq::{Event, Size};
 use dr_threads::{Back, RunFault, WaitStrategy};
@@ -35,7 +35,7 @@ use std::thread::Threads;
 pub type Ran<H> = dr_threads::Ran<H, Settled>;
 
 // Closes the ring, joins its threads, and brings the ends together. It closes it also where memory runs out.
-fn finish<R: Threads, H: Handler<Event> + Drop>(
+fn finish<R: Threads, H: InPlaceHandler<Event> + Drop>(
     rt: &R,
     alloc: Global,
     mut sender: LiveSender,
@@ -79,7 +79,7 @@ fn finish<R: Threads, H: Handler<Event> + Drop>(
 /// a thread could not be started: then nothing was sent. Where memory runs out after that, what was done is lost.
 pub fn run_waiting<
     R: Threads + Wait + Copy + Send + 'static,
-    H: Handler<Event> + Drop + Send + 'static,
+    H: InPlaceHandler<Event> + Drop + Send + 'static,
 >(
     rt: R,
     alloc: Global,
@@ -107,7 +107,10 @@ pub fn run_waiting<
 }
 
 /// As [`run_waiting`], by parking: an idle thread takes next to nothing of its processor.
-pub fn run<R: Threads + Wait + Copy + Send + 'static, H: Handler<Event> + Drop + Send + 'static>(
+pub fn run<
+    R: Threads + Wait + Copy + Send + 'static,
+    H: InPlaceHandler<Event> + Drop + Send + 'static,
+>(
     rt: R,
     alloc: Global,
     graph: &Graph,
@@ -136,7 +139,7 @@ pub fn run<R: Threads + Wait + Copy + Send + 'static, H: Handler<Event> + Drop +
 /// wait for ever.
 pub fn run_with<
     R: Threads + Wait + Copy + Send + 'static,
-    H: Handler<Event> + Drop + Send + 'static,
+    H: InPlaceHandler<Event> + Drop + Send + 'static,
     F: FnOnce(&mut LiveSender) -> Option<WorkFault> + Drop,
 >(
     rt: R,

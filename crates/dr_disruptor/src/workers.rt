@@ -11,7 +11,7 @@ ghost use Rattle.dr_disruptor.specs.Refused.{LeavesUnsent, refusal_of};
 ghost use Rattle.dr_disruptor.specs.Serving.{GaveBack, shape_of};
 
 use dr_graph::Graph;
-use dr_meaning::{Handler, MAX_LIMIT};
+use dr_meaning::{InPlaceHandler, MAX_LIMIT};
 use dr_ring::{Halter, Receiver, Sender, ring};
 use dr_seq::{Event, Size};
 use dr_threads::{Back, RunFault, Served, WaitStrategy, apart, join, start, wait_for};
@@ -53,7 +53,7 @@ impl From<Abandoned> for RunFault {
 }
 
 // Closes a ring before anything was sent, and waits for those of its threads that were started.
-fn abandon<R: Threads, H: Handler<Event> + Drop>(
+fn abandon<R: Threads, H: InPlaceHandler<Event> + Drop>(
     rt: &R,
     mut sender: LiveSender,
     workers: Vec<Worker<H>>,
@@ -96,7 +96,7 @@ pub(crate) fn open(
 /// sent, and those that were started are joined.
 pub(crate) fn begin<
     R: Threads + Wait + Copy + Send + 'static,
-    H: Handler<Event> + Drop + Send + 'static,
+    H: InPlaceHandler<Event> + Drop + Send + 'static,
 >(
     rt: R,
     alloc: Global,
@@ -121,7 +121,7 @@ pub(crate) fn begin<
 
 // Closes the ring, unless the sender left a claim open, and has what each thread gives back. Where memory
 // runs out all threads end too, and what they give back is lost.
-pub(crate) fn joined<R: Threads, H: Handler<Event> + Drop>(
+pub(crate) fn joined<R: Threads, H: InPlaceHandler<Event> + Drop>(
     rt: &R,
     sender: &mut LiveSender,
     workers: Vec<Worker<H>>,

@@ -17,7 +17,7 @@ use crate::settling::settled;
 use crate::workers::exchange;
 use dr_graph::Graph;
 use dr_lock::{Exchange, Recorded, Shared};
-use dr_meaning::{Handler, MAX_LIMIT, Mode};
+use dr_meaning::{InPlaceHandler, MAX_LIMIT, Mode};
 use dr_seq::{Event, Size};
 use dr_threads::{RunFault, WaitStrategy};
 use dr_workers::{Bell, Ended, WorkerFault, first_fault};
@@ -138,7 +138,7 @@ fn open(
 fn run_over<
     L: Exchange<Event> + Send + Sync,
     R: Threads + Wait + Sync,
-    H: Handler<Event> + Drop + Send,
+    H: InPlaceHandler<Event> + Drop + Send,
 >(
     rt: &R,
     alloc: Global,
@@ -185,7 +185,7 @@ fn run_over<
 /// It is refused with `Handlers` where there are not as many handlers as the graph has, with `Senders` where there
 /// are no scripts or more than 16, and with `Memory` where a thread could not be started. Where memory runs out, or
 /// a thread cannot be started, what was done is lost. The graph is spent, at a fault too.
-pub fn run_locked<R: Threads + Wait + Sync, H: Handler<Event> + Drop + Send>(
+pub fn run_locked<R: Threads + Wait + Sync, H: InPlaceHandler<Event> + Drop + Send>(
     rt: &R,
     alloc: Global,
     graph: Graph,

@@ -3,7 +3,7 @@
 ghost use Rattle.std.specs.Prelude.{◌↔◌, IfOk, IsTrue};
 ghost use Rattle.dr_disruptor_lock.specs.Watching.{HasListed, IsNew};
 
-use dr_meaning::Handler;
+use dr_meaning::InPlaceHandler;
 use dr_seq::{Event, are_same};
 use std::alloc::{AllocError, Global};
 
@@ -41,16 +41,16 @@ impl<H: Drop> Watching<H> {
     }
 }
 
-impl<H: Handler<Event>> Handler<Event> for Watching<H> {
+impl<H: InPlaceHandler<Event>> InPlaceHandler<Event> for Watching<H> {
     ghost use Rattle.dr_disruptor_lock.specs.Watching.{Watches};
 
     ghost goes = { Watches H.goes };
 
-    fn on_event(&mut self, event: Event, s: u64, end: bool) {
-        if s != self.list.len() as u64 || self.list.push(event).is_err() {
+    fn on_event_in_place(&mut self, event: &Event, s: u64, end: bool) {
+        if s != self.list.len() as u64 || self.list.push(*event).is_err() {
             self.is_whole = false;
         }
         self.is_ended = end;
-        self.handler.on_event(event, s, end);
+        self.handler.on_event_in_place(event, s, end);
     }
 }

@@ -11,7 +11,7 @@ use crate::jobs::{Job, Task};
 use crate::sending::{SendsPromise, Sent, send};
 use crate::watching::Watching;
 use dr_lock::{End, Exchange, LockedOutlet, halt};
-use dr_meaning::Handler;
+use dr_meaning::InPlaceHandler;
 use dr_seq::Event;
 use dr_threads::{Served, ServesPromise, Worker, join, serve};
 use std::alloc::{AllocError, Global};
@@ -97,7 +97,11 @@ fn with_ends<L: Exchange<Event>, R: Wait, H: Drop>(
 
 // Sends all scripts, halts the exchange, and joins the handlers' threads. It halts and joins also where memory ran
 // out or a sender's thread could not be started.
-fn served<L: Exchange<Event> + Send + Sync, R: Threads + Wait + Sync, H: Handler<Event> + Drop>(
+fn served<
+    L: Exchange<Event> + Send + Sync,
+    R: Threads + Wait + Sync,
+    H: InPlaceHandler<Event> + Drop,
+>(
     alloc: Global,
     around: &Around<'_, L, R>,
     mut halter: End<Event, L>,
@@ -125,7 +129,7 @@ fn served<L: Exchange<Event> + Send + Sync, R: Threads + Wait + Sync, H: Handler
 pub(crate) fn exchange<
     L: Exchange<Event> + Send + Sync,
     R: Threads + Wait + Sync,
-    H: Handler<Event> + Drop + Send,
+    H: InPlaceHandler<Event> + Drop + Send,
 >(
     alloc: Global,
     around: &Around<'_, L, R>,

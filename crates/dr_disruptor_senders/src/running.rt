@@ -15,7 +15,7 @@ ghost use Rattle.dr_disruptor_senders.specs.Serving.{LeavesSender, SendsFeed, sh
 use crate::sending::{LiveSender, Sent};
 use crate::workers::{LiveHalter, Worker, begin, feed_all, joined, open, send_all, senders_apart};
 use dr_graph::Graph;
-use dr_meaning::Handler;
+use dr_meaning::InPlaceHandler;
 use dr_plain_senders::{Settled, finish};
 use dr_seq::{Event, Size};
 use dr_threads::{Back, RunFault, WaitStrategy, apart};
@@ -30,7 +30,7 @@ pub type Ran<H> = dr_threads::Ran<H, Settled<Event>>;
 
 // Halts the ring, joins the handlers' threads, and brings all ends together; the events that come back are dropped. It
 // halts and joins also where memory ran out.
-fn wind_up<R: Threads, H: Handler<Event> + Drop>(
+fn wind_up<R: Threads, H: InPlaceHandler<Event> + Drop>(
     rt: &R,
     alloc: Global,
     mut halter: LiveHalter,
@@ -68,7 +68,7 @@ fn wind_up<R: Threads, H: Handler<Event> + Drop>(
 /// a sender's thread cannot be started, what was done is lost.
 pub fn run_scripts<
     R: Threads + Wait + Copy + Send + 'static,
-    H: Handler<Event> + Drop + Send + 'static,
+    H: InPlaceHandler<Event> + Drop + Send + 'static,
 >(
     rt: R,
     alloc: Global,
@@ -114,7 +114,7 @@ pub fn run_scripts<
 /// It is refused with `Senders` where there are no closures or more than 16.
 pub fn run_feeds<
     R: Threads + Wait + Copy + Send + 'static,
-    H: Handler<Event> + Drop + Send + 'static,
+    H: InPlaceHandler<Event> + Drop + Send + 'static,
     F: FnOnce(&mut LiveSender) -> Option<WorkFault> + Drop + Send + 'static,
 >(
     rt: R,

@@ -13,7 +13,7 @@ ghost use Rattle.dr_threads.specs.Endings.{refusal_of};
 
 use crate::sending::{Feed, FeedsPromise, SendsPromise, Sent, send, send_by};
 use dr_graph::Graph;
-use dr_meaning::{Handler, MAX_LIMIT, Mode};
+use dr_meaning::{InPlaceHandler, MAX_LIMIT, Mode};
 use dr_plain_senders::{Halter, Receiver, Sender, senders_ring};
 use dr_seq::{Event, Size};
 use dr_threads::{RunFault, Served, WaitStrategy, join, start, wait_for};
@@ -178,7 +178,7 @@ fn ended<R: Threads, P: Promise<Sent>>(
 /// sent, and those that were started are joined.
 pub(crate) fn begin<
     R: Threads + Wait + Copy + Send + 'static,
-    H: Handler<Event> + Drop + Send + 'static,
+    H: InPlaceHandler<Event> + Drop + Send + 'static,
 >(
     rt: R,
     alloc: Global,
@@ -247,7 +247,7 @@ pub(crate) fn feed_all<R: Threads, F: Feed + Drop + Send + 'static>(
 
 /// Halts the ring, and has what each handler's thread gives back. Where memory runs out all threads end too, and
 /// what they give back is lost.
-pub(crate) fn joined<R: Threads, H: Handler<Event> + Drop>(
+pub(crate) fn joined<R: Threads, H: InPlaceHandler<Event> + Drop>(
     rt: &R,
     halter: &mut LiveHalter,
     workers: Vec<Worker<H>>,

@@ -9,6 +9,8 @@ mod here;
 #[cfg(test)]
 mod refusals;
 #[cfg(test)]
+mod sending;
+#[cfg(test)]
 mod several;
 #[cfg(test)]
 mod teams;

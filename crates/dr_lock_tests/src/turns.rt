@@ -1,10 +1,12 @@
-//! Turns of a processor whose buffer has room for two of three events.
+//! Turns of a processor whose buffer has room for two of three events, a turn in place, and events that are not copied.
 
 use crate::checks::check;
 use crate::graphs::{Shape, graph};
 use crate::histories::word;
 use dr_core::{Core, processor_turn};
-use dr_meaning::{Claimed, Handler, MAX_LIMIT, Mode, Polled};
+use dr_meaning::{
+    ByValue, Claimed, Handler, InPlaceHandler, MAX_LIMIT, Mode, Polled, show_in_place,
+};
 use dr_seq::{Event, Size};
 use std::alloc::Global;
 use std::process::Abort;
@@ -87,14 +89,64 @@ fn opened(rt: &impl Abort, alloc: Global) -> Core<Event> {
     opened.expect(rt, "a core")
 }
 
+/// One that was shown nothing yet.
+fn new_keeper() -> Keeper {
+    Keeper {
+        shown: [(0, 0, false); 3],
+        calls: 0,
+    }
+}
+
 #[test]
 fn turns_with_a_buffer_of_two(rt: HostRuntime) {
     let mut core = opened(&rt, rt.alloc());
-    let mut keeper = Keeper {
-        shown: [(0, 0, false); 3],
-        calls: 0,
-    };
+    let mut keeper = new_keeper();
     send_three(&rt, &mut core);
     take_turns(&rt, &mut core, &mut keeper);
     check(&rt, keeper.shown, SHOWN);
+}
+
+#[test]
+fn a_turn_in_place_of_a_handler_by_value(rt: HostRuntime) {
+    let mut core = opened(&rt, rt.alloc());
+    let mut by_value = ByValue {
+        handler: new_keeper(),
+    };
+    send_three(&rt, &mut core);
+    let answer = Polled::Batch {
+        first: 0,
+        count: 3,
+        end: true,
+    };
+    check(&rt, core.turn_in_place(0, &mut by_value), Ok(answer));
+    check(&rt, by_value.handler.shown, SHOWN);
+    check(&rt, by_value.handler.calls, 3);
+    check_completed(&rt, &core, 3);
+}
+
+/// Counts events of any type, and their marks.
+#[derive(Drop)]
+struct Count {
+    shown: u64,
+    marks: u64,
+}
+
+impl<E> InPlaceHandler<E> for Count {
+    ghost use Rattle.std.specs.Prelude.{⊤};
+
+    ghost goes = { λ old event s end new. ⊤ };
+
+    fn on_event_in_place(&mut self, _event: &E, _s: u64, end: bool) {
+        self.shown = self.shown.wrapping_add(1);
+        self.marks = self.marks.wrapping_add(u64::from(end));
+    }
+}
+
+#[test]
+fn events_that_own_memory_are_shown_in_place(rt: HostRuntime) {
+    let alloc = rt.alloc();
+    let events = vec![in alloc; Vec::<u64>::new(alloc), Vec::new(alloc)].expect(&rt, "memory");
+    let mut count = Count { shown: 0, marks: 0 };
+    show_in_place(&mut count, events.as_slice(), 5, true);
+    check(&rt, (count.shown, count.marks), (2, 1));
 }

@@ -5,7 +5,7 @@ ghost use Rattle.std.specs.Prelude.{◌<◌};
 use crate::checks::check;
 use crate::histories::word;
 use crate::ringing::{check_strokes, hearing, no_strokes};
-use dr_meaning::{Claimed, Handler, Inlet, Outlet, Polled, Refusal, Trouble};
+use dr_meaning::{ByValue, Claimed, Handler, Inlet, Outlet, Polled, Refusal, Trouble};
 use dr_seq::{Event, Size};
 use dr_workers::{
     Ended, Gate, GateAnswer, OpenGate, Produced, Spinning, Waiting, WorkFault, WorkerFault,
@@ -354,7 +354,9 @@ fn consumers(rt: HostRuntime) {
 #[test]
 fn a_served_handler_rings_with_each_completion(rt: HostRuntime) {
     let (strokes, shown) = (no_strokes(), AtomicU64::new(0));
-    let mut adder = Adder::new(&shown);
+    let mut adder = ByValue {
+        handler: Adder::new(&shown),
+    };
     let dealer = hearing(six_events(&shown, NEVER), &strokes);
     let (dealer, fault) = serve(
         &rt,
@@ -366,7 +368,7 @@ fn a_served_handler_rings_with_each_completion(rt: HostRuntime) {
         &mut Spinning,
     );
     check(&rt, fault, None);
-    check(&rt, adder.seen(), [6, 1, 15]);
+    check(&rt, adder.handler.seen(), [6, 1, 15]);
     check(&rt, dealer.heard, Some(2));
     check_strokes(&rt, &strokes, 3);
 }

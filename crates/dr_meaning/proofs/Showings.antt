@@ -12,6 +12,27 @@ pub GoesThrough-push : {E A : Type 0} (goes : Relation E A) (before : A) (shown 
 GoesThrough-push goes before [] between s after is one = (after, rw is one, refl)
 GoesThrough-push goes before (t ∷ ts) between s after is one = (is.0, is.1, GoesThrough-push goes is.0 ts between s after is.2 one)
 
+-- of what a handler keeps, where each call takes that on by a relation of its own
+pub GoesThrough-within : {E A B : Type 0} (goes : Relation E A) (inside : Relation E B) (kept : A → B)
+    → ((a b : A) (event : E) (s : ℕ) (end : Bool) → goes a event s end b → inside (kept a) event s end (kept b))
+    → (before : A) (shown : List (Showing E)) (after : A) → GoesThrough goes before shown after → GoesThrough inside (kept before) shown (kept after)
+GoesThrough-within goes inside kept each before [] after is = ap kept is
+GoesThrough-within goes inside kept each before (s ∷ shown) after is =
+    (kept is.0, each before is.0 s.event s.sequence s.end is.1, GoesThrough-within goes inside kept each is.0 shown after is.2)
+
+-- what no call changes
+pub GoesThrough-keeps : {E A K : Type 0} (goes : Relation E A) (kept : A → K)
+    → ((a b : A) (event : E) (s : ℕ) (end : Bool) → goes a event s end b → kept b ≡ kept a)
+    → (before : A) (shown : List (Showing E)) (after : A) → GoesThrough goes before shown after → kept after ≡ kept before
+GoesThrough-keeps goes kept each before [] after is = ap kept (sym is)
+GoesThrough-keeps goes kept each before (s ∷ shown) after is =
+    GoesThrough-keeps goes kept each is.0 shown after is.2 ∙ each before is.0 s.event s.sequence s.end is.1
+
+-- to the same end
+pub GoesThrough-to : {E A : Type 0} (goes : Relation E A) (before : A) (shown : List (Showing E)) (now after : A) → GoesThrough goes before shown now → after ≡ now
+    → GoesThrough goes before shown after
+GoesThrough-to goes before shown now after is same = subst (λ a. GoesThrough goes before shown a) (sym same) is
+
 and-true : (b : Bool) → (b && true) ≡ b
 and-true true = refl
 and-true false = refl

@@ -1,9 +1,10 @@
 //! Handlers of events.
 
-ghost use Rattle.std.specs.Prelude.{◌+◌, ◌^◌, ◌<◌, ℕ, Bool, true, length};
+ghost use Rattle.std.specs.Prelude.{◌≡◌, ◌+◌, ◌^◌, ◌<◌, ℕ, Bool, true, length};
 ghost use Rattle.dr_meaning.specs.Calls.Handling.{GoesThrough, showings};
 
-/// A handler of events, LMAX's event handler. It cannot fail: what can go wrong in it, it keeps.
+/// A handler that is given a copy of each event. It cannot fail: what can go wrong in it, it keeps.
+/// Where an [`InPlaceHandler`] is wanted, pass it as [`ByValue`].
 pub trait Handler<E> {
     /// How the handler's meaning goes from before a call to after it: a relation, since a handler
     /// that grows may find no memory.
@@ -15,8 +16,8 @@ pub trait Handler<E> {
         ensures { goes self.old event s end self.new };
 }
 
-/// A handler that is shown events where they lie, so that none is copied. Each [`Handler`] is one;
-/// for large events write this one in its place.
+/// A handler that is shown events of any type where they lie, so that none is copied: LMAX's event
+/// handler, and what workers and runs serve. It cannot fail either.
 pub trait InPlaceHandler<E> {
     /// How the handler's meaning goes from before a call to after it, as [`Handler`] has it.
     ghost goes: { Self → E → ℕ → Bool → Self → Type 0 };
@@ -26,12 +27,28 @@ pub trait InPlaceHandler<E> {
         ensures { goes self.old event.now s end self.new };
 }
 
-impl<E: Copy, H: Handler<E>> InPlaceHandler<E> for H {
-    ghost goes = { H.goes };
+/// A handler that is lent is one, and stays the one that is lent.
+impl<E, H: Handler<E>> Handler<E> for &mut H {
+    ghost goes = { λ old event s end new. H.goes old.now event s end new.now × (new.ghost_name ≡ old.ghost_name) };
+
+    #[inline]
+    fn on_event(&mut self, event: E, s: u64, end: bool) {
+        (**self).on_event(event, s, end);
+    }
+}
+
+/// A [`Handler`] among those that are shown events where they lie: it is given a copy of each.
+#[derive(Clone, Copy, Debug, Default, Drop)]
+pub struct ByValue<H> {
+    pub handler: H,
+}
+
+impl<E: Copy, H: Handler<E>> InPlaceHandler<E> for ByValue<H> {
+    ghost goes = { λ old event s end new. H.goes old.handler event s end new.handler };
 
     #[inline]
     fn on_event_in_place(&mut self, event: &E, s: u64, end: bool) {
-        self.on_event(*event, s, end);
+        self.handler.on_event(*event, s, end);
     }
 }
 
@@ -41,16 +58,12 @@ pub fn show<E: Copy, H: Handler<E>>(handler: &mut H, events: &[E], first: u64, e
     requires { first + length events.now < 2 ^ 64 }
     ensures { GoesThrough H.goes handler.old (showings events.now first end) handler.new }
 {
-    show_in_place(handler, events, first, end);
+    let mut by_value = ByValue { handler };
+    show_in_place(&mut by_value, events, first, end);
 }
 
 /// The same to a handler that is shown events where they lie.
-pub fn show_in_place<E: Copy, H: InPlaceHandler<E>>(
-    handler: &mut H,
-    events: &[E],
-    first: u64,
-    end: bool,
-)
+pub fn show_in_place<E, H: InPlaceHandler<E>>(handler: &mut H, events: &[E], first: u64, end: bool)
     requires { first + length events.now < 2 ^ 64 }
     ensures { GoesThrough H.goes handler.old (showings events.now first end) handler.new }
 {

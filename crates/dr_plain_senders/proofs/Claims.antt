@@ -16,7 +16,7 @@ use Rattle.dr_plain_senders.specs.Meaning.Lying.{Laid}
 use Rattle.dr_plain_senders.specs.declared.record.SenderRecord.{SenderRecord}
 use Rattle.dr_plain_senders.specs.declared.record.Step.{Step}
 use Rattle.dr_plain_senders.specs.declared.record.Step.TheVariants.{SenderClaims}
-use Rattle.dr_plain_senders.specs.declared.claiming.ClaimFault.TheVariants.{Refused, Contended}
+use Rattle.dr_meaning.specs.declared.claim_fault.ClaimFault.TheVariants.{Refused, Contended}
 use Rattle.dr_plain_senders.specs.Meaning.Records.{sender_looked, claimed_from, SeesRoom, Owns}
 use Rattle.dr_runs.specs.Runs.{IsBeginning}
 use Rattle.dr_plain_senders.proofs.Stations.{begins_on}

@@ -13,7 +13,7 @@ use Rattle.dr_cells.specs.Hold.{held}
 use Rattle.dr_meaning.specs.declared.command.Claimed.{Claimed}
 use Rattle.dr_lent.specs.Rows.{cells_of}
 use Rattle.dr_lent.proofs.Lists.{drop_seam}
-use Rattle.dr_plain_senders.specs.declared.claiming.ClaimFault.{ClaimFault}
+use Rattle.dr_meaning.specs.declared.claim_fault.ClaimFault.{ClaimFault}
 use Rattle.dr_seq.specs.Rounds.{is_marked}
 use Rattle.dr_seq.proofs.Apart.{slots_differ}
 use Rattle.dr_runs.proofs.Elements.{there, value_at}

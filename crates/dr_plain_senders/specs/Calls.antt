@@ -6,7 +6,6 @@ pub mod Making
 pub mod Receiving
 pub mod Outlets
 pub mod Handing
-pub mod ClaimFault
 pub mod Sending
 pub mod Writing
 pub mod Publishing

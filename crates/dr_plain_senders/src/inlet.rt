@@ -8,9 +8,8 @@ ghost use Rattle.dr_plain_senders.specs.Calls.Writing.{WriteCall};
 ghost use Rattle.dr_plain_senders.specs.Calls.Publishing.{PublishCall};
 ghost use Rattle.dr_plain_senders.specs.Calls.Inlets.{ClaimsAsEnd, WriteAllCall, sender_does};
 
-use crate::claiming::ClaimFault;
 use crate::sender::Sender;
-use dr_meaning::{Claimed, Inlet, Refusal, Trouble, Wrote};
+use dr_meaning::{ClaimFault, Claimed, Inlet, Refusal, Trouble, Wrote};
 
 /// It is not the only producer, so it shows nothing of what it sent. `NoRoom` stands for
 /// [`ClaimFault::Contended`] too: where another sender claimed meanwhile, nothing is known of the

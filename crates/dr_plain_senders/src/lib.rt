@@ -37,8 +37,8 @@ mod taking;
 mod updating;
 mod writing;
 
-pub use claiming::ClaimFault;
 pub use dr_cells::Values;
+pub use dr_meaning::ClaimFault;
 pub use events::Events;
 pub use finishing::finish;
 pub use laws::Halter;

@@ -13,12 +13,11 @@ ghost use Rattle.dr_plain_senders.specs.Inside.Leaving.{BelongsSender};
 ghost use Rattle.dr_plain_senders.specs.Inside.Views.{sender_end};
 
 use crate::body::RingBody;
-use crate::claiming::ClaimFault;
 use crate::laws::SenderStation;
 use crate::left::SenderLeft;
 use crate::owned::Owned;
 use dr_cells::Token;
-use dr_meaning::Claimed;
+use dr_meaning::{ClaimFault, Claimed};
 use std::alloc::Global;
 use std::marker::Model;
 use std::snapshot::Snapshot;

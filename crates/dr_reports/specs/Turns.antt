@@ -19,15 +19,15 @@ SendsStretch (Err refusal) size events at n v = ⊥
 
 -- the three handlers were shown these events
 pub record AreShown (h : Handlers) (events : List Event) : Type 0 where
-  pub journal : IsJournalOf h.journal events
-  pub replica : IsReplicaOf h.replica events
-  pub business : IsBusinessOf h.business events
+  pub journal : IsJournalOf h.journal.handler events
+  pub replica : IsReplicaOf h.replica.handler events
+  pub business : IsBusinessOf h.business.handler events
 
 -- none of them has failed
 pub record AreWell (h : Handlers) : Type 0 where
-  pub journal : h.journal.failed ≡ false
-  pub replica : h.replica.failed ≡ false
-  pub business : h.business.failed ≡ false
+  pub journal : h.journal.handler.failed ≡ false
+  pub replica : h.replica.handler.failed ≡ false
+  pub business : h.business.handler.failed ≡ false
 
 -- some events are in an exchange that no handler took, and there is room for them
 pub record AreOffered (size : ℕ) (events : List Event) (at sent : ℕ) (v : CoreView Event) : Type 0 where

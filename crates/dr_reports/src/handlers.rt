@@ -8,7 +8,7 @@ ghost use Rattle.dr_reports.specs.Turns.{AreShown, AreWell, AreOffered, Turns};
 
 use dr_accounts::{Business, Journal, Replica, Report};
 use dr_core::Core;
-use dr_meaning::Refusal;
+use dr_meaning::{ByValue, Refusal};
 use dr_seq::Event;
 use std::alloc::{AllocError, Global};
 
@@ -24,9 +24,9 @@ pub const BUSINESS: usize = 2;
 /// Journal and replica, and the business handler that follows them.
 #[derive(Drop)]
 pub struct Handlers {
-    journal: Journal,
-    replica: Replica,
-    business: Business,
+    journal: ByValue<Journal>,
+    replica: ByValue<Replica>,
+    business: ByValue<Business>,
 }
 
 impl Handlers {
@@ -36,9 +36,15 @@ impl Handlers {
         ensures well { AreWell result }
     {
         Handlers {
-            journal: Journal::new(alloc),
-            replica: Replica::new(alloc),
-            business: Business::new(alloc),
+            journal: ByValue {
+                handler: Journal::new(alloc),
+            },
+            replica: ByValue {
+                handler: Replica::new(alloc),
+            },
+            business: ByValue {
+                handler: Business::new(alloc),
+            },
         }
     }
 
@@ -47,10 +53,12 @@ impl Handlers {
         ensures well { result ≡ false → AreWell self.now }
         ensures failed { AreWell self.now → result ≡ false }
     {
-        self.journal.is_failed() || self.replica.is_failed() || self.business.is_failed()
+        self.journal.handler.is_failed()
+            || self.replica.handler.is_failed()
+            || self.business.handler.is_failed()
     }
 
-    /// One turn of each, which is shown all that there is, where it lies.
+    /// One turn of each, which is given all that there is.
     pub fn turn(&mut self, core: &mut Core<Event>) -> Result<(), Refusal>
         ensures { (size : ℕ) (events : List Event) (at sent : ℕ) → AreOffered size events at sent core.old → AreShown self.old (take at events) → Turns result size events sent core.new self.new }
     {
@@ -72,9 +80,9 @@ impl Handlers {
             business,
         } = self;
         Ok(Report {
-            journal: journal.into_text(alloc)?,
-            replica: replica.into_text(alloc)?,
-            business: business.into_text(alloc)?,
+            journal: journal.handler.into_text(alloc)?,
+            replica: replica.handler.into_text(alloc)?,
+            business: business.handler.into_text(alloc)?,
         })
     }
 }

@@ -4,6 +4,7 @@ ghost use Rattle.std.specs.Prelude.{◌≡◌};
 ghost use Rattle.dr_reports.specs.Keeping.{Keeps, error_of};
 
 use dr_accounts::{Reporter, part};
+use dr_meaning::ByValue;
 use dr_ring::Receiver;
 use dr_seq::Size;
 use dr_workers::{BATCH, Bell, Gate, Parking, WorkFault, serve};
@@ -84,10 +85,11 @@ pub fn work<R: Wait, G: Gate, P: Reporter>(
 ) -> Worked
     ensures { Keeps P.goes P.is_new P.failed P.part_of (G.may_stop gate.now who) (G.must_stop gate.now who) receiver result }
 {
-    let mut handler = P::begin(alloc);
+    let handler = P::begin(alloc);
+    let mut by_value = ByValue { handler };
     let mut parking = Parking::new(rt, bell, size.get().min(BATCH as u64));
-    let (receiver, fault) = serve(rt, receiver, gate, who, &mut handler, bell, &mut parking);
-    let part = match (part(handler, alloc), fault) {
+    let (receiver, fault) = serve(rt, receiver, gate, who, &mut by_value, bell, &mut parking);
+    let part = match (part(by_value.handler, alloc), fault) {
         (Err(_), _) => Err(WorkFault::Memory),
         (Ok(_), Some(fault)) => Err(fault),
         (Ok(text), None) => Ok(text),

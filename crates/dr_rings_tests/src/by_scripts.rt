@@ -4,7 +4,7 @@ use crate::checks::check;
 use crate::graphs::{Shape, graph};
 use dr_disruptor_senders::{WaitStrategy, run_scripts};
 use dr_graph::Graph;
-use dr_meaning::Handler;
+use dr_meaning::InPlaceHandler;
 use dr_seq::{Event, Size};
 use std::alloc::Global;
 use std::process::Abort;
@@ -22,12 +22,12 @@ struct Mixing {
     alone: usize,
 }
 
-impl Handler<Event> for Mixing {
+impl InPlaceHandler<Event> for Mixing {
     ghost use Rattle.std.specs.Prelude.{⊤};
 
     ghost goes = { λ old event s end new. ⊤ };
 
-    fn on_event(&mut self, event: Event, _s: u64, _end: bool) {
+    fn on_event_in_place(&mut self, event: &Event, _s: u64, _end: bool) {
         if event.first == 1 {
             self.of_first = self.of_first.wrapping_add(1);
         } else {

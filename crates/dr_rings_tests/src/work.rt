@@ -1,6 +1,6 @@
 //! Handlers of several kinds.
 
-use dr_meaning::Handler;
+use dr_meaning::{Handler, InPlaceHandler};
 use dr_seq::Event;
 use std::alloc::Global;
 use std::sync::Arc;
@@ -13,12 +13,12 @@ pub enum Work {
     Keep(u64),
 }
 
-impl Handler<Event> for Work {
+impl InPlaceHandler<Event> for Work {
     ghost use Rattle.dr_rings_tests.specs.Goes.{WorkGoes};
 
     ghost goes = { λ old event s end new. WorkGoes old event new };
 
-    fn on_event(&mut self, event: Event, _s: u64, _end: bool) {
+    fn on_event_in_place(&mut self, event: &Event, _s: u64, _end: bool) {
         *self = match *self {
             Work::Sum(total) => Work::Sum(total.wrapping_add(event.first)),
             Work::Keep(_) => Work::Keep(event.first),
@@ -48,12 +48,12 @@ impl Handler<Event> for Adder {
 #[derive(Clone, Copy, Debug, PartialEq, Eq)]
 pub struct Count(pub u64);
 
-impl Handler<Event> for Count {
+impl<E> InPlaceHandler<E> for Count {
     ghost use Rattle.std.specs.Prelude.{◌≡◌, ◌+◌, ◌%◌, ◌^◌};
 
     ghost goes = { λ old event s end new. new.0 ≡ (old.0 + 1) % 2 ^ 64 };
 
-    fn on_event(&mut self, _event: Event, _s: u64, _end: bool) {
+    fn on_event_in_place(&mut self, _event: &E, _s: u64, _end: bool) {
         self.0 = self.0.wrapping_add(1);
     }
 }
@@ -72,12 +72,12 @@ impl Seen {
     };
 }
 
-impl Handler<Event> for Seen {
+impl InPlaceHandler<Event> for Seen {
     ghost use Rattle.std.specs.Prelude.{⊤};
 
     ghost goes = { λ old event s end new. ⊤ };
 
-    fn on_event(&mut self, event: Event, _s: u64, _end: bool) {
+    fn on_event_in_place(&mut self, event: &Event, _s: u64, _end: bool) {
         if self.many < 6 {
             self.firsts[self.many] = event.first;
             self.many += 1;
@@ -91,12 +91,12 @@ pub struct Tally {
     pub calls: Arc<AtomicU64, Global>,
 }
 
-impl Handler<Event> for Tally {
+impl InPlaceHandler<Event> for Tally {
     ghost use Rattle.std.specs.Prelude.{⊤};
 
     ghost goes = { λ old event s end new. ⊤ };
 
-    fn on_event(&mut self, _event: Event, _s: u64, _end: bool) {
+    fn on_event_in_place(&mut self, _event: &Event, _s: u64, _end: bool) {
         self.calls.fetch_add(1, Ordering::SeqCst);
     }
 }

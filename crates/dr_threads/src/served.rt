@@ -4,7 +4,7 @@ ghost use Rattle.std.specs.Prelude.{◌≡◌};
 ghost use Rattle.dr_threads.specs.Serving.{Serving};
 
 use crate::strategy::WaitStrategy;
-use dr_meaning::{Handler, Outlet};
+use dr_meaning::{InPlaceHandler, Outlet};
 use dr_seq::Event;
 use dr_workers::{BATCH, Bell, OpenGate, WorkFault};
 use std::snapshot::Snapshot;
@@ -43,13 +43,13 @@ impl<O, H> Drop for ServesPromise<O, H> {
     }
 }
 
-impl<O: Outlet<Event>, H: Handler<Event>> Promise<Served<O, H>> for ServesPromise<O, H> {
+impl<O: Outlet<Event>, H: InPlaceHandler<Event>> Promise<Served<O, H>> for ServesPromise<O, H> {
     ghost kept_by = { λ p r. Serving O.kept O.does O.received O.told H.goes p.start.value p.end.value r };
 }
 
 /// Takes a handler through all events of an end, up to 256 at once, and rings the bell with each completion.
 /// `who` is the handler's number.
-pub fn serve<R: Wait, O: Outlet<Event>, H: Handler<Event>>(
+pub fn serve<R: Wait, O: Outlet<Event>, H: InPlaceHandler<Event>>(
     rt: &R,
     who: usize,
     outlet: O,

@@ -5,7 +5,7 @@ ghost use Rattle.dr_threads.specs.Serving.{GaveBack, endings_from, given_end, gi
 
 use crate::served::{Served, ServesPromise, serve};
 use crate::strategy::WaitStrategy;
-use dr_meaning::{Handler, Outlet};
+use dr_meaning::{InPlaceHandler, Outlet};
 use dr_seq::Event;
 use dr_workers::{Bell, Ended};
 use std::alloc::{AllocError, Global};
@@ -19,7 +19,7 @@ pub type Worker<O, H> = PromisedHandle<Served<O, H>, ServesPromise<O, H>>;
 fn start_each<
     R: Threads + Wait + Copy + Send + 'static,
     O: Outlet<Event> + Drop + Send + 'static,
-    H: Handler<Event> + Drop + Send + 'static,
+    H: InPlaceHandler<Event> + Drop + Send + 'static,
 >(
     rt: R,
     started: &mut Vec<Worker<O, H>>,
@@ -61,7 +61,7 @@ fn start_each<
 pub fn start<
     R: Threads + Wait + Copy + Send + 'static,
     O: Outlet<Event> + Drop + Send + 'static,
-    H: Handler<Event> + Drop + Send + 'static,
+    H: InPlaceHandler<Event> + Drop + Send + 'static,
 >(
     rt: R,
     alloc: Global,
@@ -90,7 +90,7 @@ pub fn wait_for<R: Threads, T: Drop, P: Promise<T>>(rt: &R, threads: Vec<Promise
 
 /// What each thread gives back, of an exchange that was closed or halted. Where memory runs out all threads end too,
 /// and what they give back is lost.
-pub fn join<R: Threads, O: Outlet<Event> + Drop, H: Handler<Event> + Drop>(
+pub fn join<R: Threads, O: Outlet<Event> + Drop, H: InPlaceHandler<Event> + Drop>(
     rt: &R,
     workers: Vec<Worker<O, H>>,
 ) -> Result<Vec<Served<O, H>>, AllocError>

@@ -12,3 +12,4 @@ pub mod Closing
 pub mod Untroubled
 pub mod Unrefused
 pub mod Biding
+pub mod Lent

@@ -19,7 +19,7 @@ use crate::patience::Patience;
 use crate::retries::complete;
 use crate::ringing::Ringing;
 use crate::waiting::Waiting;
-use dr_meaning::{Handler, Outlet, Polled, Trouble, show};
+use dr_meaning::{ByValue, Handler, InPlaceHandler, Outlet, Polled, Trouble, show_in_place};
 use dr_seq::Event;
 use std::sync::Wait;
 
@@ -45,7 +45,7 @@ fn waited<P: Patience>(patience: &mut P) -> Progress
 }
 
 // A poll and, for a batch, the handler's calls, the gate and the completion. Where nothing came it waits.
-fn turn<E: Copy, R: Wait, O: Outlet<E>, G: Gate, H: Handler<E>, P: Patience>(
+fn turn<E: Copy, R: Wait, O: Outlet<E>, G: Gate, H: InPlaceHandler<E>, P: Patience>(
     rt: &R,
     outlet: &mut O,
     gate: &G,
@@ -63,7 +63,7 @@ fn turn<E: Copy, R: Wait, O: Outlet<E>, G: Gate, H: Handler<E>, P: Patience>(
     match outlet.poll_into(buf) {
         Ok(Polled::Batch { first, count, end }) => {
             patience.found(count);
-            show(handler, &buf[..count as usize], first, end);
+            show_in_place(handler, &buf[..count as usize], first, end);
             passages.pass(gate);
             complete(rt, outlet, first + count)?;
             Ok(Progress::GoesOn)
@@ -80,7 +80,14 @@ fn turn<E: Copy, R: Wait, O: Outlet<E>, G: Gate, H: Handler<E>, P: Patience>(
 /// drained: each batch goes to the handler, then the worker passes its gate, then it completes the
 /// batch. Where nothing came it waits as `patience` does. A refusal ends the work. A worker that the
 /// gate stops goes on without it, and answers `Stopped` at its end.
-pub fn consume_with<E: Copy, R: Wait, O: Outlet<E>, G: Gate, H: Handler<E>, P: Patience>(
+pub fn consume_with<
+    E: Copy,
+    R: Wait,
+    O: Outlet<E>,
+    G: Gate,
+    H: InPlaceHandler<E>,
+    P: Patience,
+>(
     rt: &R,
     outlet: &mut O,
     gate: &G,
@@ -112,7 +119,7 @@ pub fn consume_with<E: Copy, R: Wait, O: Outlet<E>, G: Gate, H: Handler<E>, P: P
     unreachable!()
 }
 
-/// As [`consume_with`], waiting as [`Waiting`] does.
+/// As [`consume_with`], waiting as [`Waiting`] does, with a handler that is given each event by value.
 pub fn consume<E: Copy, R: Wait, O: Outlet<E>, G: Gate, H: Handler<E>>(
     rt: &R,
     outlet: &mut O,
@@ -128,13 +135,21 @@ pub fn consume<E: Copy, R: Wait, O: Outlet<E>, G: Gate, H: Handler<E>>(
     ensures waits { result ≢ Some Memory }
     ensures stopped { result ≡ Some Stopped → MayStop G.may_stop gate.now who }
 {
+    let mut by_value = ByValue { handler };
     let mut waiting = Waiting::new(buf.len() as u64);
-    consume_with(rt, outlet, gate, who, handler, buf, &mut waiting)
+    consume_with(rt, outlet, gate, who, &mut by_value, buf, &mut waiting)
 }
 
 /// As [`consume_with`] over an end of two-word events that is the worker's own: it takes up to [`BATCH`] of them at
 /// once, and rings the bell with each completion. The end comes back, with the fault if there is one.
-pub fn serve<R: Wait, O: Outlet<Event>, G: Gate, H: Handler<Event>, B: Rings, P: Patience>(
+pub fn serve<
+    R: Wait,
+    O: Outlet<Event>,
+    G: Gate,
+    H: InPlaceHandler<Event>,
+    B: Rings,
+    P: Patience,
+>(
     rt: &R,
     outlet: O,
     gate: &G,

@@ -4,7 +4,7 @@
 
 use dr_disruptor_lock::{Ran, RunFault, WaitStrategy, run_locked};
 use dr_graph::{Graph, GraphBuilder};
-use dr_meaning::Handler;
+use dr_meaning::InPlaceHandler;
 use dr_seq::{Event, Size};
 use std::alloc::Global;
 use std::process::ExitCode;
@@ -17,12 +17,12 @@ struct Adder {
     total: u64,
 }
 
-impl Handler<Event> for Adder {
+impl InPlaceHandler<Event> for Adder {
     ghost use Rattle.std.specs.Prelude.{◌≡◌, ◌+◌, ◌%◌, ◌^◌};
 
     ghost goes = { λ old event s end new. new.total ≡ (old.total + event.first) % 2 ^ 64 };
 
-    fn on_event(&mut self, event: Event, _s: u64, _end: bool) {
+    fn on_event_in_place(&mut self, event: &Event, _s: u64, _end: bool) {
         self.total = self.total.wrapping_add(event.first);
     }
 }

@@ -3,7 +3,7 @@
 
 use dr_disruptor::{RunFault, run_here};
 use dr_graph::{Graph, GraphBuilder, GraphFault};
-use dr_meaning::Handler;
+use dr_meaning::InPlaceHandler;
 use dr_seq::{Event, Size};
 use std::alloc::Global;
 use std::fmt;
@@ -14,13 +14,13 @@ enum Stage {
     Alert(u64),
 }
 
-impl Handler<Event> for Stage {
+impl InPlaceHandler<Event> for Stage {
     ghost use Rattle.std.specs.Prelude.{◌≡◌};
     ghost use Rattle.example_one_thread.specs.Stages.{stage_after};
 
     ghost goes = { λ old event s end new. new ≡ stage_after old event };
 
-    fn on_event(&mut self, event: Event, _s: u64, _end: bool) {
+    fn on_event_in_place(&mut self, event: &Event, _s: u64, _end: bool) {
         match self {
             Stage::Archive(sum) => *sum = sum.wrapping_add(event.second),
             Stage::Alert(count) => {

@@ -3,7 +3,7 @@
 use crate::clock::nanos_since;
 use crate::fault::Fault;
 use crate::words::Order;
-use dr_meaning::{Handler, Outlet};
+use dr_meaning::{InPlaceHandler, Outlet};
 use dr_seq::Event;
 use dr_workers::{BATCH, Bell, OpenGate, WorkFault, serve};
 use std::alloc::Global;
@@ -23,12 +23,12 @@ struct Noting<'a, R> {
     took: Vec<u64>,
 }
 
-impl<'a, R: Clock> Handler<Event> for Noting<'a, R> {
+impl<'a, R: Clock> InPlaceHandler<Event> for Noting<'a, R> {
     ghost use Rattle.std.specs.Prelude.{⊤};
 
     ghost goes = { λ old event s end new. ⊤ };
 
-    fn on_event(&mut self, event: Event, s: u64, _end: bool) {
+    fn on_event_in_place(&mut self, event: &Event, s: u64, _end: bool) {
         if let Some(took) = self.took.get_mut(s as usize) {
             let now = nanos_since(self.clock, self.begun).unwrap_or(u64::MAX);
             *took = now.saturating_sub(event.first).max(1);

@@ -125,9 +125,13 @@ complete_tests (Some e) upto = record {
 
 -- What every end answers, as far as what it shows tells.
 
+-- a stretch of n sequences, within the limit
+abbrev pub IsStretch : ℕ → Claimed → Type 0
+IsStretch n c = (c.lo ≤ c.hi) × (c.hi + 1 ≡ c.lo + n) × (c.hi < 2 ^ 62)
+
 -- a claim of n gives a stretch of n sequences
 abbrev pub GivesStretch : ℕ → Result Claimed Trouble → Type 0
-GivesStretch n (Ok c) = (c.lo ≤ c.hi) × (c.hi + 1 ≡ c.lo + n) × (c.hi < 2 ^ 62)
+GivesStretch n (Ok c) = IsStretch n c
 GivesStretch n (Err trouble) = Unit {0}
 
 abbrev pub ClaimAnswers : {E : Type 0} → Option (Sent E) → ℕ → Result Claimed Trouble → Type 0
@@ -158,9 +162,13 @@ FillsFront out out' (Err trouble) = out' ≡ out
 abbrev pub PollAnswers : {E : Type 0} → Option (Received E) → List E → List E → Result Polled Trouble → Type 0
 PollAnswers shown out out' result = IsAnswerOf (poll_causes (poll_tests shown (length out))) result × FillsFront out out' result
 
+abbrev pub tells_drained : Polled → Bool
+tells_drained Drained = true
+tells_drained other = false
+
 abbrev pub is_drained : Result Polled Trouble → Bool
-is_drained (Ok Drained) = true
-is_drained other = false
+is_drained (Ok answer) = tells_drained answer
+is_drained (Err trouble) = false
 
 abbrev pub CompleteAnswers : {E : Type 0} → Option (Received E) → ℕ → Result (Unit {0}) Trouble → Type 0
 CompleteAnswers shown upto result = IsAnswerOf (complete_causes (complete_tests shown upto)) result
@@ -214,15 +222,22 @@ abbrev pub Publishes : {E : Type 0} → ℕ → ℕ → Result (Unit {0}) Troubl
 Publishes lo hi (Ok done) old new = new ≡ published_below old (hi + 1)
 Publishes lo hi (Err trouble) old new = new ≡ old
 
+-- these events more are taken
+abbrev pub with_taken : {E : Type 0} → Received E → List E → Received E
+with_taken r events = record r { events = r.events ++ events }
+
 -- a batch has the next events; any other answer takes none
 abbrev pub Takes : {E : Type 0} → List E → Result Polled Trouble → Received E → Received E → Type 0
-Takes out' (Ok (Batch first count end)) old new = (first ≡ length old.events) × (new ≡ record old { events = old.events ++ take count out' })
+Takes out' (Ok (Batch first count end)) old new = (first ≡ length old.events) × (new ≡ with_taken old (take count out'))
 Takes out' (Ok other) old new = new ≡ old
 Takes out' (Err trouble) old new = new ≡ old
 
 -- what is completed is everything up to there
+abbrev pub with_completed : {E : Type 0} → Received E → ℕ → Received E
+with_completed r upto = record r { completed = upto }
+
 abbrev pub Completes : {E : Type 0} → ℕ → Result (Unit {0}) Trouble → Received E → Received E → Type 0
-Completes upto (Ok done) old new = new ≡ record old { completed = upto }
+Completes upto (Ok done) old new = new ≡ with_completed old upto
 Completes upto (Err trouble) old new = new ≡ old
 
 -- the answer of an exchange's own call as an end gives it: its refusal is trouble

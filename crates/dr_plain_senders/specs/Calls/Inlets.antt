@@ -6,7 +6,7 @@ use Rattle.dr_meaning.specs.declared.ends.Trouble.{Trouble}
 use Rattle.dr_meaning.specs.declared.ends.Trouble.TheVariants.{Refused as IsRefused, Memory}
 use Rattle.dr_meaning.specs.Calls.Calling.{InletCall, TriesClaim, WritesOne, WritesMany, PublishesStretch}
 use Rattle.dr_meaning.specs.Calls.Ends.{IsEndsAnswer}
-use Rattle.dr_plain_senders.specs.declared.claiming.ClaimFault.TheVariants.{Refused, Contended}
+use Rattle.dr_meaning.specs.declared.claim_fault.ClaimFault.TheVariants.{Refused, Contended}
 use Rattle.dr_plain_senders.specs.Calls.Ends.{SenderEnd}
 use Rattle.dr_plain_senders.specs.Calls.Sending.{SenderClaimCall}
 use Rattle.dr_plain_senders.specs.Calls.Writing.{WriteCall}

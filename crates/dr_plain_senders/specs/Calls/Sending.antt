@@ -17,8 +17,8 @@ use Rattle.dr_plain_senders.specs.declared.record.Stage.{Stage}
 use Rattle.dr_plain_senders.specs.declared.record.SenderRecord.{SenderRecord}
 use Rattle.dr_plain_senders.specs.declared.record.Step.{Step}
 use Rattle.dr_plain_senders.specs.declared.record.Step.TheVariants.{SenderClaims}
-use Rattle.dr_plain_senders.specs.declared.claiming.ClaimFault.{ClaimFault}
-use Rattle.dr_plain_senders.specs.declared.claiming.ClaimFault.TheVariants.{Refused, Contended}
+use Rattle.dr_meaning.specs.declared.claim_fault.ClaimFault.{ClaimFault}
+use Rattle.dr_meaning.specs.declared.claim_fault.ClaimFault.TheVariants.{Refused, Contended}
 use Rattle.dr_plain_senders.specs.Meaning.Lying.{Laid}
 use Rattle.dr_plain_senders.specs.Inside.Seats.{LayIn, LayAsLent, taken_by_claim}
 use Rattle.dr_runs.specs.Runs.{IsBeginning}

@@ -14,7 +14,7 @@ loop-at-init g c = record {
   within = omega arith;
   rests = c.requires.rests;
   round = inl (zero-mod c.args.core.now.setup.size);
-  along = along_first g.H.Handler.goes c.args.core.now.setup.size c.args.script.now c.args.handlers.now;
+  along = along_first g.H.InPlaceHandler.goes c.args.core.now.setup.size c.args.script.now c.args.handlers.now;
 }
 
 pub returns-in_err-turns : goal.returns-in_err-turns
@@ -26,7 +26,7 @@ returns-in_err-turns g c =
     let round : c.loop-at.at % c.args.core.now.setup.size ≡ 0 = ⊎_elim (λ r. r) (λ all. absurd (omega arith)) is.round in
     let full : sent ≡ min (c.loop-at.at + c.args.core.now.setup.size) (length c.args.script.now) = omega arith in
     absurd (c.in_err-turns.ensures c.args.script.now c.args.handlers.now c.loop-at.at sent
-    (offered g.H.Handler.goes _ c.args.script.now _ _ c.args.handlers.now c.loop-at.handlers c.loop-at.at sent c.send.new.core c.in_ok-send.ensures same
+    (offered g.H.InPlaceHandler.goes _ c.args.script.now _ _ c.args.handlers.now c.loop-at.handlers c.loop-at.at sent c.send.new.core c.in_ok-send.ensures same
     is.along (omega arith) round full))
 
 pub loop-at-preserved : goal.loop-at-preserved
@@ -40,13 +40,13 @@ loop-at-preserved g c =
     let round : c.loop-at.at % c.args.core.now.setup.size ≡ 0 = ⊎_elim (λ r. r) (λ all. absurd (omega arith)) is.round in
     let full : sent ≡ min (c.loop-at.at + c.args.core.now.setup.size) (length c.args.script.now) = omega arith in
     let turned = c.in_ok-turns.ensures c.args.script.now c.args.handlers.now c.loop-at.at sent
-    (offered g.H.Handler.goes _ c.args.script.now _ _ c.args.handlers.now c.loop-at.handlers c.loop-at.at sent c.send.new.core c.in_ok-send.ensures same
+    (offered g.H.InPlaceHandler.goes _ c.args.script.now _ _ c.args.handlers.now c.loop-at.handlers c.loop-at.at sent c.send.new.core c.in_ok-send.ensures same
     is.along (omega arith) round full) in
     record {
       within = omega arith;
       rests = subst (λ (s : Setup). Rests s.upstreams s.size c.args.script.now 0 sent sent c.turns.new.core) setup turned.rests;
       round = next_round c.args.core.now.setup.size (length c.args.script.now) c.loop-at.at sent round full;
-      along = subst (λ (s : Setup). Along g.H.Handler.goes s.size c.args.script.now c.args.handlers.now 0 sent sent c.turns.new.handlers) setup turned.along;
+      along = subst (λ (s : Setup). Along g.H.InPlaceHandler.goes s.size c.args.script.now c.args.handlers.now 0 sent sent c.turns.new.handlers) setup turned.along;
     }
 
 pub returns : goal.returns
@@ -56,5 +56,5 @@ returns g c =
     let is = c.loop-at.invariant in
     let all : c.loop-at.at ≡ length script = omega arith in (
       subst (λ (n : ℕ). Rests setup.upstreams setup.size script 0 n n c.loop-at.core) all is.rests,
-      along_all g.H.Handler.goes setup.size script c.args.handlers.now c.loop-at.handlers c.loop-at.at all is.along,
+      along_all g.H.InPlaceHandler.goes setup.size script c.args.handlers.now c.loop-at.handlers c.loop-at.at all is.along,
     )

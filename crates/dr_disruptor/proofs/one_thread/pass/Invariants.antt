@@ -12,5 +12,5 @@ invariant-loop-at g l = record {
   within : l.at ≤ length l.script;
   rests : Rests l.fn.core.setup.upstreams l.fn.core.setup.size l.script 0 l.at l.at l.core;
   round : (l.at % l.fn.core.setup.size ≡ 0) ⊎ (l.at ≡ length l.script);
-  along : Along g.H.Handler.goes l.fn.core.setup.size l.script l.fn.handlers 0 l.at l.at l.handlers;
+  along : Along g.H.InPlaceHandler.goes l.fn.core.setup.size l.script l.fn.handlers 0 l.at l.at l.handlers;
 }

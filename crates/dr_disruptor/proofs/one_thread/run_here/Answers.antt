@@ -22,7 +22,7 @@ returns-clause-whole g c =
     let many = went.many in
     let len : length c.pass.new.handlers ≡ c.args.handlers.len = omega arith in
     let ring : c.in_ok-core.core.setup.size ≡ c.args.size = ap (λ (s : Setup). s.size) c.in_ok-core.ensures.setup in
-    subst (λ (l : List g.row.H.Denot). AllAreShown g.H.Handler.goes (shown_here c.args.size c.args.script.now) c.args.handlers.items l)
+    subst (λ (l : List g.row.H.Denot). AllAreShown g.H.InPlaceHandler.goes (shown_here c.args.size c.args.script.now) c.args.handlers.items l)
     (sym (with_items_is c.args.handlers c.pass.new.handlers len))
-    (subst (λ (n : ℕ). AllAreShown g.H.Handler.goes (shown_here n c.args.script.now) c.args.handlers.items c.pass.new.handlers) ring
-    (subst (λ (l : List g.row.H.Denot). AllAreShown g.H.Handler.goes (shown_here c.in_ok-core.core.setup.size c.args.script.now) l c.pass.new.handlers) same went))
+    (subst (λ (n : ℕ). AllAreShown g.H.InPlaceHandler.goes (shown_here n c.args.script.now) c.args.handlers.items c.pass.new.handlers) ring
+    (subst (λ (l : List g.row.H.Denot). AllAreShown g.H.InPlaceHandler.goes (shown_here c.in_ok-core.core.setup.size c.args.script.now) l c.pass.new.handlers) same went))

@@ -19,7 +19,7 @@ returns-in_err-turn_in_place g c = λ events starts at sent is.
     let inside : c.loop-h.h < length graph = omega arith in
     let so_far = c.loop-h.invariant.turned events starts at sent is in
     let full = is.full in
-    absurd (no_refusal g.H.Handler.goes graph c.args.core.now.setup.size events at sent c.loop-h.h c.loop-h.core c.turn_in_place.new.self
+    absurd (no_refusal g.H.InPlaceHandler.goes graph c.args.core.now.setup.size events at sent c.loop-h.h c.loop-h.core c.turn_in_place.new.self
     (get_or c.loop-h.handlers c.loop-h.h c.index-handlers-h.result) c.turn_in_place.new.handler
     is_graph so_far.rests inside is.some (omega arith) (omega arith) c.in_err-turn_in_place.field-0.0 [] c.in_err-turn_in_place.ensures.turn.1)
 
@@ -37,14 +37,14 @@ loop-h-preserved g c =
           let so_far = c.loop-h.invariant.turned events starts at sent is in
           let full = is.full in
           let fresh = is.some in
-          let took = took_turn g.H.Handler.goes graph c.args.core.now.setup.size events at sent c.loop-h.h c.loop-h.core c.turn_in_place.new.self
+          let took = took_turn g.H.InPlaceHandler.goes graph c.args.core.now.setup.size events at sent c.loop-h.h c.loop-h.core c.turn_in_place.new.self
           (get_or c.loop-h.handlers c.loop-h.h c.index-handlers-h.result) c.turn_in_place.new.handler
           is_graph so_far.rests inside is.some (omega arith) (omega arith) c.turn_in_place.result c.turn_in_place.ensures.turn.0 c.turn_in_place.ensures.turn.1 in
           let here = at_index c.loop-h.handlers c.loop-h.h c.index-handlers-h.result (omega arith) c.index-handlers-h.is
           ∙ ap (λ (h : g.row.H.Denot). some h) c.index-handlers-h.is in
           record {
             rests = took.rests;
-            along = along_more g.H.Handler.goes c.args.core.now.setup.size events starts c.loop-h.handlers c.loop-h.h at sent
+            along = along_more g.H.InPlaceHandler.goes c.args.core.now.setup.size events starts c.loop-h.handlers c.loop-h.h at sent
                 (get_or c.loop-h.handlers c.loop-h.h c.index-handlers-h.result) c.turn_in_place.new.handler so_far.along here (omega arith) is.round is.full
                 is.some took.went;
           };
@@ -61,5 +61,5 @@ returns g c = λ events starts at sent is.
     let given = done.along.many in
     record {
       rests = rests_level graph c.args.core.now.setup.size events c.loop-h.h at sent c.loop-h.core all done.rests;
-      along = along_level g.H.Handler.goes c.args.core.now.setup.size events starts c.loop-h.handlers c.loop-h.h at sent (omega arith) done.along;
+      along = along_level g.H.InPlaceHandler.goes c.args.core.now.setup.size events starts c.loop-h.handlers c.loop-h.h at sent (omega arith) done.along;
     }

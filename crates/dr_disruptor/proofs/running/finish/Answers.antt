@@ -24,7 +24,7 @@ settle_all-settled-requires g c =
     (map given_end workers) c.args.halter c.requires.ends c.joined.ensures.closes.place in
     subst (λ (e : SenderEnd). AreAllEnds e c.in-Ok-gathered.back.outlets.items c.args.halter) (sym c.into_end.ensures)
     (subst (λ (l : List ReceiverEnd). AreAllEnds sender l c.args.halter) (sym c.in-Ok-gathered.ensures.outlets)
-    (all_back g.H.Handler.goes sender workers c.in-Ok.served.items c.in-Ok.ensures.kept c.args.halter all))
+    (all_back g.H.InPlaceHandler.goes sender workers c.in-Ok.served.items c.in-Ok.ensures.kept c.args.halter all))
 
 pub returns-clause-ran : goal.returns-clause-ran
 returns-clause-ran g c =
@@ -55,10 +55,10 @@ returns-clause-ran g c =
     let theirs : ran.settled.receivers.value.items ≡ receivers = ends.1 ∙ c.in-Ok-gathered.ensures.outlets in
     let run = same_run c.into_end.result ran.settled.sender.value back.outlets.items ran.settled.receivers.value.items c.args.halter
     ends.0 ends.1 c.settle_all-settled.ensures.run in
-    let is = is_ran g.H.Handler.goes sender workers served c.in-Ok.ensures.kept k ran c.args.halter all plan fresh settles counts c.args.fault here theirs ends.2 run
+    let is = is_ran g.H.InPlaceHandler.goes sender workers served c.in-Ok.ensures.kept k ran c.args.halter all plan fresh settles counts c.args.fault here theirs ends.2 run
     c.requires.unhalted (c.settle_all-settled.ensures.published ∙ ap (λ (e : SenderEnd). length e.knows.sent.published) c.into_end.ensures)
     c.in-Ok-gathered.ensures.handlers c.in-Ok-gathered.ensures.endings in
-    subst (λ (l : List Event). IsRan g.H.Handler.goes k (map given_handler workers) l c.args.fault ran) c.joined.ensures.closes.published is
+    subst (λ (l : List Event). IsRan g.H.InPlaceHandler.goes k (map given_handler workers) l c.args.fault ran) c.joined.ensures.closes.published is
 
 pub returns-clause-closes : goal.returns-clause-closes
 returns-clause-closes g c =

@@ -60,13 +60,13 @@ returns-clause-run g c =
     }
     in
     let all : produced.result.fault ≡ None → produced.result.sent ≡ length script = λ fine. rw fine at produced.ensures.all in
-    run_of g.H.Handler.goes k c.args.handlers.items script produced.result (map given_handler begun.workers.items)
+    run_of g.H.InPlaceHandler.goes k c.args.handlers.items script produced.result (map given_handler begun.workers.items)
     c.in_ok-ran.ran ready.handlers sending produced.ensures.within all
-    (came g.H.Handler.goes k c.args.handlers.items produced.new.inlet (map given_handler begun.workers.items) produced.result.fault c.in_ok-ran.ran plan
+    (came g.H.InPlaceHandler.goes k c.args.handlers.items produced.new.inlet (map given_handler begun.workers.items) produced.result.fault c.in_ok-ran.ran plan
     c.in_ok-ran.ensures.ran c.in_ok-ran.ensures.closes c.in_ok-ran.ensures.claimed c.in_ok-ran.ensures.unhalted)
 
 pub returns-clause-whole : goal.returns-clause-whole
 returns-clause-whole g c =
     let short : length c.args.script.now < 2 ^ 62 = search rules in
-    went_whole g.H.Handler.goes (shape_of c.args.graph.now.upstreams c.args.size) c.args.handlers.items c.args.script.now c.in_ok-ran.ran refl
+    went_whole g.H.InPlaceHandler.goes (shape_of c.args.graph.now.upstreams c.args.size) c.args.handlers.items c.args.script.now c.in_ok-ran.ran refl
     (returns-clause-run g c) (omega arith)

@@ -49,8 +49,8 @@ returns-clause-ran g c =
     record { shown = _; shows = refl; left = _; met = sent.ensures; leaves = refl } in
     let ends = map given_end begun.workers.items in
     let stays = c.requires.place begun.sender sent.result sent.new.arg2 gave in
-    run_by g.H.Handler.goes k c.args.handlers.items (FnOnceReturnsAtMut g.F.FnOnce c.args.send) begun.sender sent.new.arg2 sent.result
+    run_by g.H.InPlaceHandler.goes k c.args.handlers.items (FnOnceReturnsAtMut g.F.FnOnce c.args.send) begun.sender sent.new.arg2 sent.result
     (map given_handler begun.workers.items) c.in_ok-ran.ran ready.handlers (made_so k begun.sender sent.new.arg2 ends made.halter ready.fresh stays) gave
-    (came g.H.Handler.goes k c.args.handlers.items sent.new.arg2 (map given_handler begun.workers.items) sent.result c.in_ok-ran.ran
+    (came g.H.InPlaceHandler.goes k c.args.handlers.items sent.new.arg2 (map given_handler begun.workers.items) sent.result c.in_ok-ran.ran
     (same_plan k begun.sender sent.new.arg2 ends made.halter ready.fresh stays)
     c.in_ok-ran.ensures.ran c.in_ok-ran.ensures.closes c.in_ok-ran.ensures.claimed c.in_ok-ran.ensures.unhalted)

@@ -6,5 +6,5 @@ use Rattle.dr_disruptor_lock.proofs.running.run_locked.Goals as goal
 
 pub returns-in-Ok-clause-whole : goal.returns-in-Ok-clause-whole
 returns-in-Ok-clause-whole g c =
-    went_whole g.H.Handler.goes c.in_ok-recorded.recorded.history c.args.size (map (λ (s : Vec Event). s.items) c.args.scripts.items) c.args.handlers.items
+    went_whole g.H.InPlaceHandler.goes c.in_ok-recorded.recorded.history c.args.size (map (λ (s : Vec Event). s.items) c.args.scripts.items) c.args.handlers.items
     c.in-Ok.ran c.in-Ok.ensures

@@ -36,10 +36,10 @@ returns-in-Ok g c =
     c.in_ok-tasks.ensures.begun ∙ c.in_ok-jobs.ensures.begun ∙ ap (λ (s : SharedView). s.begun) c.in_ok-halter.ensures.given ∙ c.new-shared.ensures.begun
     ∙ ap (λ (h : History Event). length h.entries) c.requires.begun
     in
-    let of_begun : IfOk c.settled.result (IsRan g.H.Handler.goes begun c.args.size scripts c.args.handlers.items) =
-    where_ok (IsSettled begun c.tasks_of.new.shared.begun c.in-Ok.joined) (IsRan g.H.Handler.goes begun c.args.size scripts c.args.handlers.items) c.settled.result
-    (λ ran came. is_ran begun c.args.size g.H.Handler.goes scripts c.args.handlers.items c.in_ok-halter.halter c.in_ok-jobs.jobs.items tasks c.in-Ok.joined
+    let of_begun : IfOk c.settled.result (IsRan g.H.InPlaceHandler.goes begun c.args.size scripts c.args.handlers.items) =
+    where_ok (IsSettled begun c.tasks_of.new.shared.begun c.in-Ok.joined) (IsRan g.H.InPlaceHandler.goes begun c.args.size scripts c.args.handlers.items) c.settled.result
+    (λ ran came. is_ran begun c.args.size g.H.InPlaceHandler.goes scripts c.args.handlers.items c.in_ok-halter.halter c.in_ok-jobs.jobs.items tasks c.in-Ok.joined
     c.tasks_of.new.shared.begun ran
     c.in_ok-jobs.ensures.handlers c.in_ok-jobs.ensures.fresh listed c.in_ok-tasks.ensures.fresh is came c.in_ok-halter.ensures.unused had) c.settled.ensures
     in
-    subst (λ (b : History Event). IfOk c.settled.result (IsRan g.H.Handler.goes b c.args.size scripts c.args.handlers.items)) (sym c.requires.begun) of_begun
+    subst (λ (b : History Event). IfOk c.settled.result (IsRan g.H.InPlaceHandler.goes b c.args.size scripts c.args.handlers.items)) (sym c.requires.begun) of_begun

@@ -3,4 +3,4 @@ use Rattle.dr_disruptor_lock.proofs.workers.served.Goals as goal
 
 pub returns-clause-served : goal.returns-clause-served
 returns-clause-served g c =
-    are_served g.L.Exchange.begun g.H.Handler.goes c.args.workers.items c.in_ok-join.field-0.items c.in_ok-served.served.items c.in_ok-join.ensures c.in_ok-served.ensures
+    are_served g.L.Exchange.begun g.H.InPlaceHandler.goes c.args.workers.items c.in_ok-join.field-0.items c.in_ok-served.served.items c.in_ok-join.ensures c.in_ok-served.ensures

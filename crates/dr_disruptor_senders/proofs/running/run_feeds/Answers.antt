@@ -45,7 +45,7 @@ returns-clause-run g c =
     subst (λ (n : ℕ). AreFreshEnds (shape_of c.args.graph.now.upstreams c.args.size n strip) made.senders.items made.receivers.items made.halter) long
     made.ensures.fresh.1 in (
       strip,
-      came g.H.Handler.goes k (SendsFeed gives feeds) (SendsFeed gives feeds) c.args.handlers.items c.in_ok-ran.ran sent.result
+      came g.H.InPlaceHandler.goes k (SendsFeed gives feeds) (SendsFeed gives feeds) c.args.handlers.items c.in_ok-ran.ran sent.result
           made.senders.items made.receivers.items made.halter _ sent.new.halter begun.workers.items (tells_feeds k gives feeds) shape fresh begun.ensures.halter
           begun.ensures.ends begun.ensures.starts sent.ensures.sent sent.ensures.halter c.in_ok-ran.ensures,
     )

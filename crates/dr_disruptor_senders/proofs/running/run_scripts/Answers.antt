@@ -47,7 +47,7 @@ returns-clause-run g c =
     subst (λ (n : ℕ). AreFreshEnds (shape_of c.args.graph.now.upstreams c.args.size n strip) made.senders.items made.receivers.items made.halter) long
     made.ensures.fresh.1 in (
       strip,
-      came g.H.Handler.goes k (SendsScript c.args.size scripts) (PublishesScript c.args.size scripts) c.args.handlers.items c.in_ok-ran.ran sent.result
+      came g.H.InPlaceHandler.goes k (SendsScript c.args.size scripts) (PublishesScript c.args.size scripts) c.args.handlers.items c.in_ok-ran.ran sent.result
           made.senders.items made.receivers.items made.halter _ sent.new.halter begun.workers.items (tells_scripts k scripts) shape fresh begun.ensures.halter
           begun.ensures.ends begun.ensures.starts sent.ensures.sent sent.ensures.halter c.in_ok-ran.ensures,
     )
@@ -57,7 +57,7 @@ returns-clause-whole g c =
     let scripts = map (λ (s : Vec Event). s.items) c.args.scripts.items in
     let run = returns-clause-run g c in
     let k = shape_of c.args.graph.now.upstreams c.args.size (length c.args.scripts.items) run.0 in
-    went_whole g.H.Handler.goes k scripts c.args.handlers.items c.in_ok-ran.ran (sym (length-map c.args.scripts.items (λ (s : Vec Event). s.items))) run.1
+    went_whole g.H.InPlaceHandler.goes k scripts c.args.handlers.items c.in_ok-ran.ran (sym (length-map c.args.scripts.items (λ (s : Vec Event). s.items))) run.1
 
 pub returns-clause-few : goal.returns-clause-few
 returns-clause-few g c =

@@ -20,7 +20,7 @@ finish-settled-requires g c =
     let workers = c.args.workers.items in
     let given : AreAllEnds ss (map given_end workers) c.args.halter =
     subst (λ (r : Result (Vec Sent) AllocError). IfOk r (λ s. AreAllEnds (map (λ b. b.sender) s.items) (map given_end workers) c.args.halter)) c.in_ok-sent.was c.requires.ends in
-    let back = receivers_back g.H.Handler.goes ss c.args.halter workers c.in_ok-served.served.items c.in_ok-served.ensures.kept given in
+    let back = receivers_back g.H.InPlaceHandler.goes ss c.args.halter workers c.in_ok-served.served.items c.in_ok-served.ensures.kept given in
     let halted = halted_back ss (map (λ b. b.outlet) c.in_ok-served.served.items) c.args.halter c.joined.new.halter c.joined.ensures.halts back in
     subst (λ (e : HalterStand Event). AreAllEnds c.in_ok-senders.senders.items c.in_ok-outlets.field-0.outlets.items e) (sym c.into_end.ensures)
     (subst (λ (l : List (SenderEnd Event)). AreAllEnds l c.in_ok-outlets.field-0.outlets.items c.joined.new.halter) (sym c.in_ok-senders.ensures.senders)
@@ -34,7 +34,7 @@ returns g c =
     let back = c.in_ok-outlets in
     let settled = c.finish-settled in
     let ran : Ran g.row.H.Denot = record { handlers = back.field-0.handlers; settled = settled.result.0; endings = c.senders_apart.new.endings } in
-    let is : IsJoined g.H.Handler.goes workers sent.items c.args.halter ran = record {
+    let is : IsJoined g.H.InPlaceHandler.goes workers sent.items c.args.halter ran = record {
       served = served;
       kept = c.in_ok-served.ensures.kept;
       after = c.joined.new.halter;
@@ -51,4 +51,4 @@ returns g c =
       handlers = back.ensures.handlers;
       endings = c.in_ok-senders.ensures.endings ∙ ap (λ (l : List Ended). l ++ sender_endings 16 sent.items) back.ensures.endings;
     } in
-    subst (λ (r : Result (Vec Sent) AllocError). JoinsAll g.H.Handler.goes workers (λ s. s.items) r c.args.halter ran) (sym c.in_ok-sent.was) is
+    subst (λ (r : Result (Vec Sent) AllocError). JoinsAll g.H.InPlaceHandler.goes workers (λ s. s.items) r c.args.halter ran) (sym c.in_ok-sent.was) is

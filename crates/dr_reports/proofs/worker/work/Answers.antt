@@ -1,4 +1,4 @@
-use Rattle.std.proofs.Common.{◌≡◌, ◌∙◌, ◌++◌, ℕ, Bool, false, List, [], Option, Some, Result, Ok, Err, IfOk, ap, arith, string_bytes, subst, sym, true}
+use Rattle.std.proofs.Common.{◌≡◌, ◌∙◌, ◌++◌, ℕ, Bool, false, List, [], Option, Some, Result, Ok, Err, IfOk, ap, arith, refl, string_bytes, subst, sym, true}
 use Rattle.dr_seq.specs.declared.event.Event.{Event}
 use Rattle.dr_meaning.specs.Calls.Calling.{SomeCalls}
 use Rattle.dr_meaning.specs.Calls.Handling.{Relation}
@@ -7,6 +7,7 @@ use Rattle.dr_ring.specs.Calls.Telling.{receiver_does}
 use Rattle.dr_workers.specs.Calls.Serving.{Serves}
 use Rattle.dr_workers.specs.Meaning.Work.{HandsOut, batches_in, dealt_events}
 use Rattle.dr_workers.specs.declared.fault.WorkFault.{WorkFault}
+use Rattle.dr_workers.proofs.Lent.{serves_lent}
 use Rattle.dr_reports.specs.Keeping.{AnswersFor, IsServed, error_of}
 use Rattle.dr_reports.proofs.Answering.{answers_calls, lacks_memory, stopped_by}
 use Rattle.dr_reports.proofs.Refusing.{never_refused}
@@ -36,9 +37,16 @@ returns g c =
     let back = run.result.0 in
     let fault = run.result.1 in
     let part = c.match-part.part in
-    let serves = run.ensures.serves in
+    let by_value = run.ensures.serves in
+    let after = run.new.handler.handler in
+    let serves : SomeCalls receiver_does given back (Serves 256 g.P.Handler.goes c.begin-handler.result after (Some (received_of given.knows))
+    (Some (received_of back.knows)) (g.G.Gate.may_stop c.args.gate.now c.args.who) (g.G.Gate.must_stop c.args.gate.now c.args.who) fault) = record {
+      calls = by_value.calls;
+      lead = by_value.lead;
+      holds = serves_lent 256 _ g.P.Handler.goes (λ h. h.handler) (λ a b event s end is. is) _ run.new.handler after _ _ _ _ _ by_value.calls refl by_value.holds;
+    } in
     let batches = batches_in serves.calls in
-    let failed : Bool = g.P.Reporter.failed run.new.handler in
+    let failed : Bool = g.P.Reporter.failed after in
     let answers : AnswersFor failed fault (error_of part) = elim c.match-part.branch [
       | in-Err-default w ↦ lacks_memory failed fault (error_of part) (ap error_of w.part-is)
       | in-Ok-Some+in-Ok-this-2 w ↦ answers_calls failed fault (error_of part) (where_ok w.in-Ok-Some.is-0 c.part.ensures.well)
@@ -71,5 +79,5 @@ returns g c =
       ];
       stopped = λ is. stopped_by failed fault (error_of part) answers run.ensures.stopped (ap error_of is);
       refused = never_refused 256 _ _ _ _ _ _ _ fault part failed (omega arith) answers serves;
-      served = served_by c.begin-handler.result run.new.handler fault c.begin-handler.ensures.new c.begin-handler.ensures.well answers serves;
+      served = served_by c.begin-handler.result after fault c.begin-handler.ensures.new c.begin-handler.ensures.well answers serves;
     }

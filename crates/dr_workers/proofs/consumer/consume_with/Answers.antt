@@ -20,7 +20,7 @@ loop-init g c = (
   refl,
   ap (λ (t : Passages). t.who) c.new-passages.ensures,
   λ is. absurd (false≢true (sym (ap (λ (t : Passages). t.stopped) c.new-passages.ensures) ∙ is)),
-  serving_none (Attends g.O.Outlet.does g.P.Patience.waits g.P.Patience.finds) (length c.args.buf.now) g.H.Handler.goes c.args.handler.now
+  serving_none (Attends g.O.Outlet.does g.P.Patience.waits g.P.Patience.finds) (length c.args.buf.now) g.H.InPlaceHandler.goes c.args.handler.now
       (end_with c.args.outlet.now c.args.patience.now) (g.O.Outlet.received c.args.outlet.now) (g.G.Gate.may_stop c.args.gate.now)
       (g.G.Gate.must_stop c.args.gate.now) c.args.who c.new-passages.result c.new-passages.ensures,
   refl,
@@ -29,7 +29,7 @@ loop-init g c = (
 
 pub returns-in-Ok-Drained-clause-bides : goal.returns-in-Ok-Drained-clause-bides
 returns-in-Ok-Drained-clause-bides g c =
-    serves_told (Attends g.O.Outlet.does g.P.Patience.waits g.P.Patience.finds) (length c.args.buf.now) g.H.Handler.goes c.args.handler.now
+    serves_told (Attends g.O.Outlet.does g.P.Patience.waits g.P.Patience.finds) (length c.args.buf.now) g.H.InPlaceHandler.goes c.args.handler.now
     c.loop.handler c.turn.new.handler (end_with c.args.outlet.now c.args.patience.now) (end_with c.loop.outlet c.loop.patience)
     (end_with c.turn.new.outlet c.turn.new.patience) _ _ _ (g.G.Gate.may_stop c.args.gate.now) (g.G.Gate.must_stop c.args.gate.now) c.args.who _ _ _ _
     c.loop.invariant.5 (of_room c.loop.invariant.6 c.turn.ensures.takes) (c.in-Ok-Drained.is ∙ ap (λ x. Ok x) c.in-Ok-Drained.field-0-is) c.at_end.ensures
@@ -50,7 +50,7 @@ loop-preserved g c = (
   c.turn.ensures.takes.holds.passes.who ∙ c.loop.invariant.3,
   stopped_more (g.G.Gate.may_stop c.args.gate.now) (g.G.Gate.must_stop c.args.gate.now) _ c.args.who _ _ c.loop.invariant.3 c.loop.invariant.4
       c.turn.ensures.takes.holds.passes,
-  serving_more (Attends g.O.Outlet.does g.P.Patience.waits g.P.Patience.finds) (length c.args.buf.now) g.H.Handler.goes c.args.handler.now
+  serving_more (Attends g.O.Outlet.does g.P.Patience.waits g.P.Patience.finds) (length c.args.buf.now) g.H.InPlaceHandler.goes c.args.handler.now
       c.loop.handler c.turn.new.handler (end_with c.args.outlet.now c.args.patience.now) (end_with c.loop.outlet c.loop.patience)
       (end_with c.turn.new.outlet c.turn.new.patience) _ _ _ (g.G.Gate.may_stop c.args.gate.now) (g.G.Gate.must_stop c.args.gate.now) c.args.who _ _ _
       (c.in-Ok-GoesOn.is ∙ ap (λ x. Ok x) c.in-Ok-GoesOn.field-0-is) c.loop.invariant.5 (of_room c.loop.invariant.6 c.turn.ensures.takes),
@@ -60,7 +60,7 @@ loop-preserved g c = (
 
 pub returns-in-Err-clause-bides : goal.returns-in-Err-clause-bides
 returns-in-Err-clause-bides g c =
-    serves_in_trouble (Attends g.O.Outlet.does g.P.Patience.waits g.P.Patience.finds) (length c.args.buf.now) g.H.Handler.goes c.args.handler.now
+    serves_in_trouble (Attends g.O.Outlet.does g.P.Patience.waits g.P.Patience.finds) (length c.args.buf.now) g.H.InPlaceHandler.goes c.args.handler.now
     c.loop.handler c.turn.new.handler (end_with c.args.outlet.now c.args.patience.now) (end_with c.loop.outlet c.loop.patience)
     (end_with c.turn.new.outlet c.turn.new.patience) _ _ _ (g.G.Gate.may_stop c.args.gate.now) (g.G.Gate.must_stop c.args.gate.now) c.args.who _ _ _ _
     c.in-Err.trouble c.loop.invariant.5 (of_room c.loop.invariant.6 c.turn.ensures.takes) c.in-Err.is (ap Some c.in_trouble.ensures)

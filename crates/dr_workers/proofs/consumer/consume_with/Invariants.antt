@@ -14,7 +14,7 @@ invariant-loop g l =
     × (g.O.Outlet.kept l.outlet ≡ g.O.Outlet.kept l.fn.outlet)
     × (l.passages.who ≡ l.fn.who) × (l.passages.stopped ≡ true → MayStop g.G.Gate.may_stop l.gate l.fn.who)
     × SomeCalls (Attends g.O.Outlet.does g.P.Patience.waits g.P.Patience.finds) (end_with l.fn.outlet l.fn.patience) (end_with l.outlet l.patience)
-    (Serving (length l.fn.buf) g.H.Handler.goes l.fn.handler l.handler (g.O.Outlet.received l.fn.outlet) (g.O.Outlet.received l.outlet)
+    (Serving (length l.fn.buf) g.H.InPlaceHandler.goes l.fn.handler l.handler (g.O.Outlet.received l.fn.outlet) (g.O.Outlet.received l.outlet)
     (g.G.Gate.may_stop l.gate) (g.G.Gate.must_stop l.gate) l.fn.who l.passages)
     × (length l.buf ≡ length l.fn.buf)
     × WhereShown IsDone (g.O.Outlet.received l.fn.outlet) (g.O.Outlet.received l.outlet)

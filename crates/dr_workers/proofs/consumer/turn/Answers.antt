@@ -47,8 +47,8 @@ returns-in_err-complete-in-Ok-Batch-clause-takes g c =
     let m = end_with c.poll_into.new.self c.found.new.self in
     let z = end_with c.complete.new.outlet c.found.new.self in
     let deal = dealt _ out _ b.first b.count b.end _ _ b.field-0-is b.ensures.answer.1 c.poll_into.auto.out b.ensures.received in
-    let works = works_shown g.H.Handler.goes c.args.handler.now c.show.new.handler out b.first b.count b.end _ _ _ deal
-    c.show.ensures c.in_err-complete-in-Ok-Batch.ensures.fault in
+    let works = works_shown g.H.InPlaceHandler.goes c.args.handler.now c.show_in_place.new.handler out b.first b.count b.end _ _ _ deal
+    c.show_in_place.ensures c.in_err-complete-in-Ok-Batch.ensures.fault in
     let is = b.is ∙ ap (λ x. Ok x) b.field-0-is in
     let call = came g.O.Outlet.does g.P.Patience.waits g.P.Patience.finds c.args.outlet.now c.poll_into.new.self c.args.patience.now c.found.new.self
     c.args.buf.now out c.poll_into.result (Ok (polled.Batch b.first b.count b.end)) is c.poll_into.ensures.called c.found.ensures.finds in
@@ -58,7 +58,7 @@ returns-in_err-complete-in-Ok-Batch-clause-takes g c =
     let p = err_from_is_err_and c.from_residual.result c.from_residual.ensures.1 in
     let same = p.1 in
     let why = p.2 in
-    turned_batch (Attends g.O.Outlet.does g.P.Patience.waits g.P.Patience.finds) g.H.Handler.goes c.args.handler.now c.show.new.handler a m z _ _
+    turned_batch (Attends g.O.Outlet.does g.P.Patience.waits g.P.Patience.finds) g.H.InPlaceHandler.goes c.args.handler.now c.show_in_place.new.handler a m z _ _
     (g.G.Gate.may_stop c.args.gate.now) (g.G.Gate.must_stop c.args.gate.now) _ _ c.from_residual.result c.args.buf.now out b.first b.count
     (b.first + b.count) b.end c.complete.result call done works c.pass.ensures (ap (λ n. b.first + n) (sym (length-take-le b.count out deal.within)))
     refl c.poll_into.auto.out (λ is. cc) (λ fault is. cc) (λ progress is. cc)
@@ -71,14 +71,14 @@ returns-in_ok-complete-in-Ok-Batch-clause-takes g c =
     let m = end_with c.poll_into.new.self c.found.new.self in
     let z = end_with c.complete.new.outlet c.found.new.self in
     let deal = dealt _ out _ b.first b.count b.end _ _ b.field-0-is b.ensures.answer.1 c.poll_into.auto.out b.ensures.received in
-    let works = works_batch g.H.Handler.goes c.args.handler.now c.show.new.handler out b.first b.count _ b.end _ _ _ deal
-    c.show.ensures c.in_ok-complete-in-Ok-Batch.ensures.completed in
+    let works = works_batch g.H.InPlaceHandler.goes c.args.handler.now c.show_in_place.new.handler out b.first b.count _ b.end _ _ _ deal
+    c.show_in_place.ensures c.in_ok-complete-in-Ok-Batch.ensures.completed in
     let is = b.is ∙ ap (λ x. Ok x) b.field-0-is in
     let call = came g.O.Outlet.does g.P.Patience.waits g.P.Patience.finds c.args.outlet.now c.poll_into.new.self c.args.patience.now c.found.new.self
     c.args.buf.now out c.poll_into.result (Ok (polled.Batch b.first b.count b.end)) is c.poll_into.ensures.called c.found.ensures.finds in
     let done = completing g.O.Outlet.does g.P.Patience.waits g.P.Patience.finds c.found.new.self (b.first + b.count) c.complete.result
     c.poll_into.new.self c.complete.new.outlet c.complete.ensures.called in
-    turned_batch (Attends g.O.Outlet.does g.P.Patience.waits g.P.Patience.finds) g.H.Handler.goes c.args.handler.now c.show.new.handler a m z _ _
+    turned_batch (Attends g.O.Outlet.does g.P.Patience.waits g.P.Patience.finds) g.H.InPlaceHandler.goes c.args.handler.now c.show_in_place.new.handler a m z _ _
     (g.G.Gate.may_stop c.args.gate.now) (g.G.Gate.must_stop c.args.gate.now) _ _ (Ok GoesOn) c.args.buf.now out b.first b.count
     (b.first + b.count) b.end c.complete.result call done works c.pass.ensures (ap (λ n. b.first + n) (sym (length-take-le b.count out deal.within)))
     refl c.poll_into.auto.out (λ is. cc) (λ fault is. cc) (λ progress is. c.in_ok-complete-in-Ok-Batch.was)
@@ -88,7 +88,7 @@ returns-in-Ok-Drained-clause-takes g c =
     let is = c.in-Ok-Drained.is ∙ ap (λ x. Ok x) c.in-Ok-Drained.field-0-is in
     nothing_came g.O.Outlet.does g.P.Patience.waits g.P.Patience.finds c.args.outlet.now c.poll_into.new.self c.args.patience.now
     c.args.patience.now c.args.buf.now c.poll_into.new.out c.poll_into.result (Ok polled.Drained) is c.poll_into.ensures.called
-    refl g.H.Handler.goes _ g.O.Outlet.received (g.G.Gate.may_stop c.args.gate.now) (g.G.Gate.must_stop c.args.gate.now) _
+    refl g.H.InPlaceHandler.goes _ g.O.Outlet.received (g.G.Gate.may_stop c.args.gate.now) (g.G.Gate.must_stop c.args.gate.now) _
     (Ok Drained) refl c.poll_into.auto.out c.poll_into.ensures.received (λ goes. absurd (cc)) (λ told. tt) (λ fault fails. absurd (cc))
 
 pub returns-in-Err-Refused-clause-takes : goal.returns-in-Err-Refused-clause-takes
@@ -97,7 +97,7 @@ returns-in-Err-Refused-clause-takes g c =
     let is = no.is ∙ ap (λ x. Err x) no.field-0-is in
     nothing_came g.O.Outlet.does g.P.Patience.waits g.P.Patience.finds c.args.outlet.now c.poll_into.new.self c.args.patience.now
     c.args.patience.now c.args.buf.now c.poll_into.new.out c.poll_into.result (Err (Refused no.refusal)) is c.poll_into.ensures.called
-    refl g.H.Handler.goes _ g.O.Outlet.received (g.G.Gate.may_stop c.args.gate.now) (g.G.Gate.must_stop c.args.gate.now) _
+    refl g.H.InPlaceHandler.goes _ g.O.Outlet.received (g.G.Gate.may_stop c.args.gate.now) (g.G.Gate.must_stop c.args.gate.now) _
     (Err (Refused no.refusal)) refl c.poll_into.auto.out c.poll_into.ensures.received (λ goes. absurd (cc)) (λ told. absurd (cc)) (λ fault fails. cc)
 
 pub returns-in-Ok-Gating-clause-takes : goal.returns-in-Ok-Gating-clause-takes
@@ -105,7 +105,7 @@ returns-in-Ok-Gating-clause-takes g c =
     let is = c.in-Ok-Gating.is ∙ ap (λ x. Ok x) c.in-Ok-Gating.field-0-is in
     nothing_came g.O.Outlet.does g.P.Patience.waits g.P.Patience.finds c.args.outlet.now c.poll_into.new.self c.args.patience.now
     c.waited.new.patience c.args.buf.now c.poll_into.new.out c.poll_into.result (Ok polled.Gating) is c.poll_into.ensures.called
-    c.waited.ensures.waits g.H.Handler.goes _ g.O.Outlet.received (g.G.Gate.may_stop c.args.gate.now) (g.G.Gate.must_stop c.args.gate.now) _
+    c.waited.ensures.waits g.H.InPlaceHandler.goes _ g.O.Outlet.received (g.G.Gate.may_stop c.args.gate.now) (g.G.Gate.must_stop c.args.gate.now) _
     (Ok c.waited.result) refl c.poll_into.auto.out c.poll_into.ensures.received (λ goes. refl) (λ told. absurd (cc)) (λ fault fails. absurd (cc))
 
 pub returns-in-Ok-Idle-clause-takes : goal.returns-in-Ok-Idle-clause-takes
@@ -113,7 +113,7 @@ returns-in-Ok-Idle-clause-takes g c =
     let is = c.in-Ok-Idle.is ∙ ap (λ x. Ok x) c.in-Ok-Idle.field-0-is in
     nothing_came g.O.Outlet.does g.P.Patience.waits g.P.Patience.finds c.args.outlet.now c.poll_into.new.self c.args.patience.now
     c.waited-in-Ok-Idle.new.patience c.args.buf.now c.poll_into.new.out c.poll_into.result (Ok polled.Idle) is c.poll_into.ensures.called
-    c.waited-in-Ok-Idle.ensures.waits g.H.Handler.goes _ g.O.Outlet.received (g.G.Gate.may_stop c.args.gate.now) (g.G.Gate.must_stop c.args.gate.now) _
+    c.waited-in-Ok-Idle.ensures.waits g.H.InPlaceHandler.goes _ g.O.Outlet.received (g.G.Gate.may_stop c.args.gate.now) (g.G.Gate.must_stop c.args.gate.now) _
     (Ok c.waited-in-Ok-Idle.result) refl c.poll_into.auto.out c.poll_into.ensures.received (λ goes. refl) (λ told. absurd (cc)) (λ fault fails. absurd (cc))
 
 pub returns-in-Err-Memory-clause-takes : goal.returns-in-Err-Memory-clause-takes
@@ -121,7 +121,7 @@ returns-in-Err-Memory-clause-takes g c =
     let is = c.in-Err-Memory.is ∙ ap (λ x. Err x) c.in-Err-Memory.field-0-is in
     nothing_came g.O.Outlet.does g.P.Patience.waits g.P.Patience.finds c.args.outlet.now c.poll_into.new.self c.args.patience.now
     c.waited-in-Err-Memory.new.patience c.args.buf.now c.poll_into.new.out c.poll_into.result (Err Memory) is c.poll_into.ensures.called
-    c.waited-in-Err-Memory.ensures.waits g.H.Handler.goes _ g.O.Outlet.received (g.G.Gate.may_stop c.args.gate.now) (g.G.Gate.must_stop c.args.gate.now) _
+    c.waited-in-Err-Memory.ensures.waits g.H.InPlaceHandler.goes _ g.O.Outlet.received (g.G.Gate.may_stop c.args.gate.now) (g.G.Gate.must_stop c.args.gate.now) _
     (Ok c.waited-in-Err-Memory.result) refl c.poll_into.auto.out c.poll_into.ensures.received (λ goes. refl) (λ told. absurd (cc))
     (λ fault fails. absurd (cc))
 

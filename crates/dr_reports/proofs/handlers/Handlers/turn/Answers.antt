@@ -4,6 +4,7 @@ use Rattle.dr_accounts.specs.declared.business.Business.{Business}
 use Rattle.dr_accounts.specs.declared.journal.Journal.{Journal}
 use Rattle.dr_accounts.specs.declared.replica.Replica.{Replica}
 use Rattle.dr_accounts.specs.Handlers.{Books, Copies, IsBusinessOf, IsJournalOf, IsReplicaOf, Journals}
+use Rattle.dr_meaning.specs.declared.handler.ByValue.{ByValue}
 use Rattle.dr_core.proofs.Rounds.{CanTurn, TookTurn, no_refusal, took_turn}
 use Rattle.dr_reports.specs.Passing.{each, replay_graph}
 use Rattle.dr_reports.specs.Turns.{AreOffered, Rests}
@@ -13,14 +14,14 @@ use Rattle.dr_reports.proofs.handlers.Handlers.turn.Goals as goal
 use Rattle.dr_reports.proofs.handlers.Handlers.turn.Goals.{After-turn_in_place, After-turn_in_place-2, After-turn_in_place-3}
 use Rattle.dr_reports.proofs.handlers.Handlers.turn.Goals.{In_ok-turn_in_place, In_ok-turn_in_place-2, In_ok-turn_in_place-3}
 
-abbrev journals : Journal → Event → ℕ → Bool → Journal → Type 0
-journals old event s end new = Journals old event new
+abbrev journals : ByValue Journal → Event → ℕ → Bool → ByValue Journal → Type 0
+journals old event s end new = Journals old.handler event new.handler
 
-abbrev copies : Replica → Event → ℕ → Bool → Replica → Type 0
-copies old event s end new = Copies old event new
+abbrev copies : ByValue Replica → Event → ℕ → Bool → ByValue Replica → Type 0
+copies old event s end new = Copies old.handler event new.handler
 
-abbrev books : Business → Event → ℕ → Bool → Business → Type 0
-books old event s end new = Books old event new
+abbrev books : ByValue Business → Event → ℕ → Bool → ByValue Business → Type 0
+books old event s end new = Books old.handler event new.handler
 
 module _ (size : ℕ) (events : List Event) (at sent : ℕ) where
   -- what each turn needs
@@ -88,8 +89,8 @@ returns c = λ size events at sent offered shown.
     record {
       rests = took3.holds;
       shown = record {
-        journal = shown_more journals IsJournalOf journal_goes size events at sent 0 _ _ _ _ offered.some took shown.journal;
-        replica = shown_more copies IsReplicaOf replica_goes size events at sent 1 _ _ _ _ offered.some took2 shown.replica;
-        business = shown_more books IsBusinessOf business_goes size events at sent 2 _ _ _ _ offered.some took3 shown.business;
+        journal = shown_more journals (λ h. IsJournalOf h.handler) (λ a b. journal_goes a.handler b.handler) size events at sent 0 _ _ _ _ offered.some took shown.journal;
+        replica = shown_more copies (λ h. IsReplicaOf h.handler) (λ a b. replica_goes a.handler b.handler) size events at sent 1 _ _ _ _ offered.some took2 shown.replica;
+        business = shown_more books (λ h. IsBusinessOf h.handler) (λ a b. business_goes a.handler b.handler) size events at sent 2 _ _ _ _ offered.some took3 shown.business;
       };
     }

@@ -47,5 +47,5 @@ returns g c =
     let none : length rest.items ≡ 0 = omega arith in
     let given : map given_job workers ≡ c.captures.jobs.items =
     all_moved given_job workers rest.items c.captures.jobs.items (c.loop-job.invariant ∙ c.into_iter-job-iterator.ensures.into_iter_gives.0) none in
-    are_joined g.L.Exchange.begun c.captures.around.now.size g.H.Handler.goes c.captures.halter workers c.captures.jobs.items c.captures.tasks.items c.served.result given
+    are_joined g.L.Exchange.begun c.captures.around.now.size g.H.InPlaceHandler.goes c.captures.halter workers c.captures.jobs.items c.captures.tasks.items c.served.result given
     c.served.ensures.halted c.served.ensures.sent c.served.ensures.served

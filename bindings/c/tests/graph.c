@@ -1,0 +1,104 @@
+/* What a graph of handlers by their names refuses, and what a handler that fails does. */
+#include <disruptor_threads.h>
+#include <stdio.h>
+#include <stdlib.h>
+
+static void expect(bool holds, const char *what, int line) {
+    if (holds) return;
+    printf("line %d: not so: %s\n", line, what);
+    exit(1);
+}
+#define EXPECT(fact) expect(fact, #fact, __LINE__)
+
+static uint64_t events[4], odd[3];
+static uint64_t most, sum;
+
+static int none(void *own, void *event, uint64_t sequence, bool is_last) {
+    (void)own, (void)event, (void)sequence, (void)is_last;
+    return 0;
+}
+
+static int twice(void *own, void *event, uint64_t sequence, bool is_last) {
+    (void)own, (void)sequence, (void)is_last;
+    *(uint64_t *)event *= 2;
+    return 0;
+}
+
+static int adds(void *own, void *event, uint64_t sequence, bool is_last) {
+    (void)sequence, (void)is_last;
+    *(uint64_t *)own += *(uint64_t *)event;
+    return 0;
+}
+
+static int fails_at_ten(void *own, void *event, uint64_t sequence, bool is_last) {
+    (void)own, (void)sequence, (void)is_last;
+    return *(uint64_t *)event == 10 ? 7 : 0;
+}
+
+static int follows(void *own, void *event, uint64_t sequence, bool is_last) {
+    (void)sequence, (void)is_last;
+    *(uint64_t *)own = *(uint64_t *)event;
+    return 0;
+}
+
+static void graphs_are_refused(void) {
+    disruptor_graph twice_a = DISRUPTOR_GRAPH(events);
+    EXPECT(disruptor_handle(&twice_a, "a", none, NULL, "") == DISRUPTOR_OK);
+    EXPECT(disruptor_handle(&twice_a, "a", none, NULL, "") == DISRUPTOR_BAD_ORDER);
+    EXPECT(disruptor_start(&twice_a) == DISRUPTOR_BAD_ORDER);
+    disruptor_graph unknown = DISRUPTOR_GRAPH(events);
+    EXPECT(disruptor_handle(&unknown, "a", none, NULL, "b") == DISRUPTOR_BAD_ORDER);
+    disruptor_graph parallel = DISRUPTOR_GRAPH(events);
+    EXPECT(disruptor_handle(&parallel, "a", none, NULL, "") == DISRUPTOR_OK);
+    EXPECT(disruptor_handle_changing(&parallel, "b", twice, NULL, "") == DISRUPTOR_OK);
+    EXPECT(disruptor_start(&parallel) == DISRUPTOR_BAD_ORDER);
+    disruptor_graph no_power = DISRUPTOR_GRAPH(odd);
+    EXPECT(disruptor_handle(&no_power, "a", none, NULL, "") == DISRUPTOR_OK);
+    EXPECT(disruptor_start(&no_power) == DISRUPTOR_BAD_SIZE);
+    disruptor_graph empty = DISRUPTOR_GRAPH(events);
+    EXPECT(disruptor_start(&empty) == DISRUPTOR_NO_HANDLERS);
+}
+
+static void each_follows_its_own(void) {
+    uint64_t lo;
+    disruptor_graph graph = DISRUPTOR_GRAPH(events);
+    EXPECT(disruptor_handle_changing(&graph, "twice", twice, NULL, "") == DISRUPTOR_OK);
+    EXPECT(disruptor_handle(&graph, "one", none, NULL, "twice") == DISRUPTOR_OK);
+    EXPECT(disruptor_handle(&graph, "other", none, NULL, " twice ") == DISRUPTOR_OK);
+    EXPECT(disruptor_handle(&graph, "adds", adds, &sum, "one  other") == DISRUPTOR_OK);
+    EXPECT(disruptor_start(&graph) == DISRUPTOR_OK);
+    EXPECT(disruptor_next(&graph, 5, &lo) == DISRUPTOR_BAD_COUNT);
+    for (uint64_t k = 0; k < 1000; k += 2) {
+        EXPECT(disruptor_next(&graph, 2, &lo) == DISRUPTOR_OK && lo == k);
+        for (uint64_t s = lo; s < lo + 2; s++) *(uint64_t *)disruptor_slot(&graph, s) = s;
+        EXPECT(disruptor_send(&graph, lo, 2) == DISRUPTOR_OK);
+    }
+    EXPECT(disruptor_finish(&graph) == 0 && !graph.failed);
+    EXPECT(sum == 999 * 1000);
+}
+
+static void a_handler_that_fails_halts_the_ring(void) {
+    uint64_t lo;
+    uint32_t refused = DISRUPTOR_OK;
+    disruptor_graph graph = DISRUPTOR_GRAPH(events);
+    disruptor_handle(&graph, "first", fails_at_ten, NULL, "");
+    disruptor_handle(&graph, "second", follows, &most, "first");
+    EXPECT(disruptor_start(&graph) == DISRUPTOR_OK);
+    for (uint64_t k = 0; k < 100 && !refused; k++) {
+        if ((refused = disruptor_next(&graph, 1, &lo))) break;
+        *(uint64_t *)disruptor_slot(&graph, lo) = k;
+        disruptor_send(&graph, lo, 1);
+    }
+    EXPECT(refused == DISRUPTOR_HALTED);
+    EXPECT(disruptor_finish(&graph) == 7);
+    EXPECT(strcmp(graph.failed, "first") == 0);
+    EXPECT(most < 10);
+}
+
+int main(void) {
+    graphs_are_refused();
+    each_follows_its_own();
+    a_handler_that_fails_halts_the_ring();
+    puts("each test passed");
+    return 0;
+}

@@ -1,0 +1,10 @@
+# Which versions a caller of find_package(disruptor VERSION) gets: those of the same major and minor number, while the first is 0.
+file(STRINGS "${CMAKE_CURRENT_LIST_DIR}/../../../include/disruptor.h" _disruptor_line REGEX "define DISRUPTOR_VERSION")
+string(REGEX REPLACE ".*\"([0-9.]+)\".*" "\\1" PACKAGE_VERSION "${_disruptor_line}")
+string(REGEX REPLACE "^([0-9]+\\.[0-9]+).*" "\\1" _disruptor_here "${PACKAGE_VERSION}")
+if(PACKAGE_FIND_VERSION VERSION_LESS_EQUAL PACKAGE_VERSION AND "${PACKAGE_FIND_VERSION_MAJOR}.${PACKAGE_FIND_VERSION_MINOR}" STREQUAL _disruptor_here)
+    set(PACKAGE_VERSION_COMPATIBLE TRUE)
+endif()
+if(PACKAGE_FIND_VERSION STREQUAL PACKAGE_VERSION)
+    set(PACKAGE_VERSION_EXACT TRUE)
+endif()

@@ -1,0 +1,25 @@
+# find_package(disruptor), where `make install` put it: the targets disruptor::static and disruptor::shared.
+include(CMakeFindDependencyMacro)
+find_dependency(Threads)
+get_filename_component(_disruptor_prefix "${CMAKE_CURRENT_LIST_DIR}/../../.." ABSOLUTE)
+foreach(_disruptor_kind static shared)
+    if(_disruptor_kind STREQUAL static)
+        set(_disruptor_file "${_disruptor_prefix}/lib/libdisruptor.a")
+        set(_disruptor_type STATIC)
+    else()
+        set(_disruptor_file "${_disruptor_prefix}/lib/libdisruptor.so")
+        set(_disruptor_type SHARED)
+    endif()
+    if(NOT EXISTS "${_disruptor_file}")
+        set(disruptor_FOUND FALSE)
+        set(disruptor_NOT_FOUND_MESSAGE "${_disruptor_file} is not there")
+        return()
+    endif()
+    if(NOT TARGET disruptor::${_disruptor_kind})
+        add_library(disruptor::${_disruptor_kind} ${_disruptor_type} IMPORTED)
+        set_target_properties(disruptor::${_disruptor_kind} PROPERTIES
+            IMPORTED_LOCATION "${_disruptor_file}"
+            INTERFACE_INCLUDE_DIRECTORIES "${_disruptor_prefix}/include"
+            INTERFACE_LINK_LIBRARIES Threads::Threads)
+    endif()
+endforeach()

@@ -1,0 +1,194 @@
+// What no type says of a ring of slots in C++.
+#include <cstdio>
+#include <cstdlib>
+#include <disruptor_slots.hpp>
+
+namespace {
+
+void expect(bool holds, const char *what, int line) {
+    if (holds) return;
+    std::printf("line %d: not so: %s\n", line, what);
+    std::exit(1);
+}
+#define EXPECT(fact) expect(fact, #fact, __LINE__)
+
+template <typename Call>
+std::uint32_t refused(Call &&call) {
+    try {
+        call();
+    } catch (const disruptor::refusal &refusal) {
+        return refusal.number();
+    }
+    return DISRUPTOR_OK;
+}
+
+template <typename Fault, typename Call>
+std::string thrown(Call &&call) {
+    try {
+        call();
+    } catch (const Fault &fault) {
+        return fault.what();
+    }
+    return "nothing";
+}
+
+using numbers = std::vector<std::uint64_t>;
+
+void fill(std::uint64_t &event, std::uint64_t sequence) { event = sequence; }
+
+void a_full_ring_has_no_room() {
+    auto ring = disruptor::open_in_place<std::uint64_t>(4, {0});
+    EXPECT(ring.sender.try_publish_batch(3, fill));
+    EXPECT(!ring.sender.try_publish_batch(2, fill));
+    EXPECT(refused([&] { (void)ring.sender.try_publish_batch(5, fill); }) == DISRUPTOR_BAD_COUNT);
+    numbers seen;
+    const auto see = [&](const std::uint64_t &event, std::uint64_t sequence, bool is_last) {
+        seen.push_back(event);
+        EXPECT(event == sequence && is_last == (seen.size() == 2 || seen.size() == 6));
+    };
+    EXPECT(ring.receivers[0].receive(2, see).count == 2);
+    // (the claim goes round the end of the slots)
+    EXPECT(ring.sender.try_publish_batch(3, fill));
+    EXPECT(ring.receivers[0].receive(9, see).count == 4);
+    EXPECT((seen == numbers{0, 1, 2, 3, 4, 5}));
+    EXPECT(ring.sender.progress().done == 6 && ring.receivers[0].progress().done == 6);
+    ring.sender.close();
+    EXPECT(ring.receivers[0].receive(1, see).kind == DISRUPTOR_DRAINED);
+    EXPECT(refused([&] { ring.sender.publish([](std::uint64_t &) {}); }) == DISRUPTOR_HALTED);
+}
+
+// Takes turns with a handler that throws at the event 3, in a ring of any kind, and then without one.
+template <typename Run>
+void goes_on(Run &&run) {
+    numbers seen;
+    const auto handle = [&](std::uint64_t event, std::uint64_t sequence, bool) {
+        EXPECT(event == sequence);
+        if (event == 3) throw std::runtime_error("the fourth event");
+        seen.push_back(event);
+    };
+    EXPECT(thrown<std::runtime_error>([&] { run(handle); }) == "the fourth event");
+    run(handle);
+    EXPECT((seen == numbers{0, 1, 2, 4, 5, 6, 7, 8, 9}));
+}
+
+void a_batch_goes_on_after_the_event_at_which_a_handler_threw() {
+    auto in_place = disruptor::open_in_place<std::uint64_t>(16, {0});
+    in_place.sender.publish_batch(10, fill);
+    in_place.sender.close();
+    goes_on([&](auto &handle) { in_place.receivers[0].run(handle); });
+    auto words = disruptor::open(16, {0});
+    disruptor::waiting how = words.sender.waits(16);
+    EXPECT(words.sender.claim(10, how) == 0);
+    for (std::uint64_t k = 0; k < 10; k++) words.sender.write(k, {k, 0});
+    words.sender.publish(0, 9);
+    words.sender.close();
+    goes_on([&](auto &handle) {
+        words.receivers[0].run(16, [&](const disruptor::event &it, std::uint64_t s, bool is_last) { handle(it.first, s, is_last); });
+    });
+    EXPECT(words.receivers[0].progress().done == 10);
+    auto bytes = disruptor::open_of<std::uint64_t>(16, {0});
+    EXPECT(bytes.sender.claim(10, how) == 0);
+    for (std::uint64_t k = 0; k < 10; k++) bytes.sender.write(k, k);
+    bytes.sender.publish(0, 9);
+    bytes.sender.close();
+    goes_on([&](auto &handle) { bytes.receivers[0].run(16, handle); });
+}
+
+void a_filler_that_throws_leaves_the_ring_in_order() {
+    auto ring = disruptor::open_in_place<std::uint64_t>(4, {0});
+    EXPECT(thrown<std::runtime_error>([&] { ring.sender.publish([](std::uint64_t &) { throw std::runtime_error("unfilled"); }); }) == "unfilled");
+    ring.sender.publish([](std::uint64_t &event) { event = 6; });
+    numbers seen;
+    ring.receivers[0].receive(4, [&](std::uint64_t event, std::uint64_t, bool) { seen.push_back(event); });
+    EXPECT((seen == numbers{0, 6}));
+}
+
+void a_receiver_that_goes_away_halts_the_ring() {
+    auto ring = disruptor::open_in_place<std::uint64_t>(4, {0, 1});
+    auto second = std::move(ring.receivers[1]);
+    ring.sender.publish([](std::uint64_t &event) { event = 1; });
+    ring.receivers.clear();
+    EXPECT(refused([&] { ring.sender.publish([](std::uint64_t &) {}); }) == DISRUPTOR_HALTED);
+    EXPECT(thrown<disruptor::broken>([&] { second.run([](std::uint64_t, std::uint64_t, bool) {}); }) != "nothing");
+}
+
+void graphs_are_refused_by_name() {
+    const auto none = [](const int &, std::uint64_t, bool) {};
+    const auto changes = [](int &, std::uint64_t, bool) {};
+    const auto fault = [](auto &&build) { return thrown<std::invalid_argument>(build); };
+    EXPECT(fault([&] { disruptor::builder<int>(4).handle("a", none).after({"b"}); }) == "no handler before has the name b");
+    EXPECT(fault([&] { disruptor::builder<int>(4).handle("a", none).handle("a", none); }) == "two handlers have the name a");
+    EXPECT(fault([&] { (void)disruptor::builder<int>(4).handle("a", none).handle_mut("b", changes).start(); })
+           == "b would change events that another handler reads at the same time");
+    EXPECT(refused([&] { (void)disruptor::builder<int>(5).handle("a", none).start(); }) == DISRUPTOR_BAD_SIZE);
+    EXPECT(refused([&] { (void)disruptor::builder<int>(4).start(); }) == DISRUPTOR_NO_HANDLERS);
+}
+
+void a_handler_that_throws_halts_the_ring_and_is_named() {
+    std::atomic<std::uint64_t> most{0};
+    disruptor::builder<std::uint64_t> graph(4);
+    graph.handle("first", [](std::uint64_t event, std::uint64_t, bool) {
+        if (event == 10) throw std::runtime_error("too large");
+    });
+    graph.and_then().handle("second", [&](std::uint64_t event, std::uint64_t, bool) { most = event; });
+    auto ring = graph.start();
+    const std::uint32_t number = refused([&] {
+        for (std::uint64_t k = 0; k < 100; k++) ring.publish([&](std::uint64_t &event) { event = k; });
+    });
+    EXPECT(number == DISRUPTOR_HALTED);
+    try {
+        ring.finish();
+        EXPECT(false);
+    } catch (const disruptor::handler_failed &failed) {
+        EXPECT(failed.name() == "first");
+        EXPECT(thrown<std::runtime_error>([&] { std::rethrow_exception(failed.thrown()); }) == "too large");
+    }
+    EXPECT(most < 10);
+}
+
+void several_senders_share_a_ring() {
+    std::uint64_t total = 0;
+    disruptor::builder<std::uint64_t> graph(64);
+    graph.handle_mut("doubles", [](std::uint64_t &event, std::uint64_t, bool) { event *= 2; });
+    graph.and_then().handle("adds", [&](std::uint64_t event, std::uint64_t, bool) { total += event; });
+    auto ring = graph.start_several(3);
+    std::vector<std::thread> threads;
+    for (auto &sender : ring.senders)
+        threads.emplace_back([&sender] {
+            for (std::uint64_t k = 0; k < 1000; k += 4) {
+                std::uint64_t next = k;
+                sender.publish_batch(4, [&](std::uint64_t &event, std::uint64_t) { event = next++; });
+            }
+        });
+    for (std::thread &thread : threads) thread.join();
+    ring.finish();
+    EXPECT(total == 3 * 999000);
+}
+
+void a_thread_that_sleeps_is_woken_and_one_that_goes_away_drains() {
+    std::uint64_t seen = 0;
+    {
+        disruptor::builder<int> graph(4);
+        graph.handle("slow", [&](const int &, std::uint64_t, bool) { seen++; });
+        auto ring = graph.start();
+        for (int k = 0; k < 20; k++) {
+            std::this_thread::sleep_for(std::chrono::milliseconds(3));
+            ring.publish([&](int &event) { event = k; });
+        }
+    }
+    EXPECT(seen == 20);
+}
+
+} // namespace
+
+int main() {
+    a_full_ring_has_no_room();
+    a_batch_goes_on_after_the_event_at_which_a_handler_threw();
+    a_filler_that_throws_leaves_the_ring_in_order();
+    a_receiver_that_goes_away_halts_the_ring();
+    graphs_are_refused_by_name();
+    a_handler_that_throws_halts_the_ring_and_is_named();
+    several_senders_share_a_ring();
+    a_thread_that_sleeps_is_woken_and_one_that_goes_away_drains();
+    std::puts("each test passed");
+}

@@ -1,0 +1,17 @@
+package org.verified.disruptor;
+
+/** A handler threw, and so the ring was halted: the cause is what it threw. */
+public final class HandlerFailed extends RuntimeException {
+    private static final long serialVersionUID = 1;
+    private final String handler;
+
+    HandlerFailed(String handler, Throwable cause) {
+        super("the handler " + handler + " threw", cause);
+        this.handler = handler;
+    }
+
+    /** The name of the handler. */
+    public String handler() {
+        return handler;
+    }
+}

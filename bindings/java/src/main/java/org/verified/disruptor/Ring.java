@@ -1,0 +1,96 @@
+package org.verified.disruptor;
+
+import java.lang.ref.Cleaner;
+import java.util.ArrayList;
+import java.util.List;
+import java.util.function.Supplier;
+
+/**
+ * A ring of slots and its ends, for threads of your own. The events lie in an array of Java's heap and never move. The ring is let go
+ * once no end of it is reachable.
+ *
+ * @param <T> the class of its events
+ */
+public final class Ring<T> {
+    /** How many sequences there may be in a ring at most. */
+    public static final long MAX_LIMIT = 1L << 62;
+
+    /** How many bytes lie from one handle of a ring to the next. */
+    private static final long HANDLE = 128;
+
+    private static final Cleaner CLEANER = Cleaner.create();
+
+    final Bell bell = new Bell();
+    private final Object[] events;
+    private final long halter;
+    private volatile boolean isBroken;
+    private final List<Sender<T>> senders = new ArrayList<>();
+    private final List<Receiver<T>> receivers = new ArrayList<>();
+
+    private Ring(int size, long limit, int several, Supplier<? extends T> factory, long... upstreams) {
+        int first = Math.max(several, 1);
+        int count = first + upstreams.length + 1;
+        long handles = Answers.checked(Native.open(size, limit, upstreams, several));
+        CLEANER.register(this, () -> Native.free(handles, count));
+        events = new Object[size];
+        for (int k = 0; k < size; k++) {
+            events[k] = factory.get();
+        }
+        halter = handles + HANDLE * (count - 1);
+        for (int k = 0; k < first; k++) {
+            senders.add(new Sender<>(this, handles + HANDLE * k, handles + HANDLE * (count + k)));
+        }
+        for (int k = first; k < count - 1; k++) {
+            receivers.add(new Receiver<>(this, handles + HANDLE * k, handles + HANDLE * (count + k)));
+        }
+    }
+
+    /** Opens a ring of one sender: handler k follows those whose bits are in the mask {@code upstreams[k]}. */
+    public static <T> Ring<T> open(Supplier<? extends T> factory, int size, long limit, long... upstreams) {
+        return new Ring<T>(size, limit, 0, factory, upstreams);
+    }
+
+    /** Opens a ring of several senders, 1 to 16, which ends with a halt. */
+    public static <T> Ring<T> openSeveral(Supplier<? extends T> factory, int size, long limit, int senders, long... upstreams) {
+        if (senders <= 0) {
+            throw new Refusal(Refusal.Reason.BAD_PRODUCERS.number());
+        }
+        return new Ring<T>(size, limit, senders, factory, upstreams);
+    }
+
+    /** Its senders, each for one thread. */
+    public List<Sender<T>> senders() {
+        return senders;
+    }
+
+    /** The ends of its handlers, each for one thread. */
+    public List<Receiver<T>> receivers() {
+        return receivers;
+    }
+
+    /** Halts the ring: nobody claims from now on. */
+    public synchronized void halt() {
+        Answers.check(Native.halt(halter));
+        bell.ring();
+    }
+
+    /** Halts the ring for a handler that goes away before it had every event, so that nobody waits for it. */
+    public void giveUp() {
+        isBroken = true;
+        halt();
+    }
+
+    boolean isBroken() {
+        return isBroken;
+    }
+
+    int size() {
+        return events.length;
+    }
+
+    /** The event of a sequence. */
+    @SuppressWarnings("unchecked")
+    T get(long sequence) {
+        return (T) events[(int) sequence & (events.length - 1)];
+    }
+}

@@ -1,0 +1,95 @@
+package org.verified.disruptor;
+
+import java.lang.invoke.VarHandle;
+import java.lang.ref.Reference;
+
+/**
+ * An end that fills events where they lie and publishes them, for one thread.
+ *
+ * @param <T> the class of the events
+ */
+public final class Sender<T> {
+    private final Ring<T> ring;
+    private final long handle;
+    private final long answer;
+    private final Waiting waiting;
+
+    Sender(Ring<T> ring, long handle, long answer) {
+        this.ring = ring;
+        this.handle = handle;
+        this.answer = answer;
+        waiting = new Waiting(ring.size(), ring.bell);
+    }
+
+    /** The first of n sequences, or less than 0 where there is no room now, or another sender came first. */
+    private long tryClaim(long n) {
+        long first = Native.claim(handle, answer, n);
+        if (first >= 0) {
+            VarHandle.acquireFence();
+            return first;
+        }
+        if (first == -Refusal.Reason.NO_ROOM.number() || first == -Refusal.Reason.CONTENDED.number()) {
+            return first;
+        }
+        throw new Refusal((int) -first);
+    }
+
+    private long claim(long n) {
+        for (;;) {
+            long first = tryClaim(n);
+            if (first >= 0) {
+                return first;
+            }
+            waiting.await();
+        }
+    }
+
+    /** Publishes what lies there, also where the filling throws, so that the ring stays in order. */
+    private void fillAndPublish(long first, long n, EventTranslator<? super T> translator) {
+        waiting.foundRoom(n);
+        try {
+            for (long sequence = first; sequence < first + n; sequence++) {
+                translator.translateTo(ring.get(sequence), sequence);
+            }
+        } finally {
+            VarHandle.releaseFence();
+            Answers.check(Native.publish(handle, first, first + n - 1));
+            ring.bell.ring();
+        }
+    }
+
+    /** Publishes an event, once there is room for it and it is filled. */
+    public void publishEvent(EventTranslator<? super T> translator) {
+        fillAndPublish(claim(1), 1, translator);
+    }
+
+    /** Publishes n events together, once there is room for all and each is filled. */
+    public void publishEvents(int n, EventTranslator<? super T> translator) {
+        fillAndPublish(claim(n), n, translator);
+    }
+
+    /** The same, or answers false where there is no room now, or another sender came first. */
+    public boolean tryPublishEvents(int n, EventTranslator<? super T> translator) {
+        long first = tryClaim(n);
+        if (first < 0) {
+            return false;
+        }
+        fillAndPublish(first, n, translator);
+        return true;
+    }
+
+    /** How many events it published. One of several senders does not count them, and refuses this. */
+    public long published() {
+        try {
+            return Answers.checked(Native.progress(handle, answer, false));
+        } finally {
+            Reference.reachabilityFence(ring);
+        }
+    }
+
+    /** Closes the ring of one sender: no event comes any more. */
+    public void close() {
+        Answers.check(Native.close(handle));
+        ring.bell.ring();
+    }
+}

@@ -1,0 +1,226 @@
+import java.util.ArrayList;
+import java.util.List;
+import java.util.concurrent.Callable;
+import java.util.concurrent.atomic.AtomicLong;
+import org.verified.disruptor.Broken;
+import org.verified.disruptor.Disruptor;
+import org.verified.disruptor.EventHandler;
+import org.verified.disruptor.HandlerFailed;
+import org.verified.disruptor.Receiver;
+import org.verified.disruptor.Refusal;
+import org.verified.disruptor.Ring;
+import org.verified.disruptor.Sender;
+
+/** What no type says of a ring of slots in Java. */
+public final class RingTest {
+    private RingTest() {}
+
+    static final class Event {
+        long number;
+    }
+
+    private static void expect(Object is, Object wanted) {
+        if (!wanted.equals(is)) {
+            throw new AssertionError(is + ", and not " + wanted);
+        }
+    }
+
+    private static Throwable thrown(Callable<?> call) {
+        try {
+            call.call();
+        } catch (Throwable thrown) {
+            return thrown;
+        }
+        throw new AssertionError("nothing is thrown");
+    }
+
+    private static void refused(Refusal.Reason reason, Runnable call) {
+        Throwable thrown = thrown(() -> {
+            call.run();
+            return null;
+        });
+        expect(((Refusal) thrown).reason(), reason);
+    }
+
+    private static void fill(Event event, long sequence) {
+        event.number = sequence;
+    }
+
+    private static Ring<Event> ring(int size, long... upstreams) {
+        return Ring.open(Event::new, size, Ring.MAX_LIMIT, upstreams);
+    }
+
+    private static void aFullRingHasNoRoom() throws Exception {
+        Ring<Event> ring = ring(4, 0);
+        Sender<Event> sender = ring.senders().get(0);
+        expect(sender.tryPublishEvents(3, RingTest::fill), true);
+        expect(sender.tryPublishEvents(2, RingTest::fill), false);
+        refused(Refusal.Reason.BAD_COUNT, () -> sender.publishEvents(5, RingTest::fill));
+        List<Long> seen = new ArrayList<>();
+        ring.receivers().get(0).run((event, sequence, endOfBatch) -> {
+            expect(event.number, sequence);
+            seen.add(sequence);
+            // (the claim goes round the end of the slots, once the first batch is completed)
+            if (sequence == 3) {
+                sender.close();
+            } else if (sequence == 2) {
+                expect(endOfBatch, true);
+                expect(sender.tryPublishEvents(1, RingTest::fill), true);
+            }
+        });
+        expect(seen, List.of(0L, 1L, 2L, 3L));
+        expect(sender.published(), 4L);
+        refused(Refusal.Reason.HALTED, () -> sender.publishEvent(RingTest::fill));
+    }
+
+    private static void aBatchGoesOnAfterTheEventAtWhichAHandlerThrew() throws Exception {
+        Ring<Event> ring = ring(16, 0);
+        ring.senders().get(0).publishEvents(10, RingTest::fill);
+        ring.senders().get(0).close();
+        List<Long> seen = new ArrayList<>();
+        EventHandler<Event> handler = (event, sequence, endOfBatch) -> {
+            if (sequence == 3) {
+                throw new IllegalStateException("the fourth event");
+            }
+            seen.add(event.number);
+        };
+        Receiver<Event> receiver = ring.receivers().get(0);
+        Throwable thrown = thrown(() -> {
+            receiver.run(handler);
+            return null;
+        });
+        expect(thrown.getMessage(), "the fourth event");
+        expect(receiver.completed(), 3L);
+        receiver.run(handler);
+        expect(seen, List.of(0L, 1L, 2L, 4L, 5L, 6L, 7L, 8L, 9L));
+        expect(receiver.completed(), 10L);
+    }
+
+    private static void aFillingThatThrowsLeavesTheRingInOrder() throws Exception {
+        Ring<Event> ring = ring(4, 0);
+        Sender<Event> sender = ring.senders().get(0);
+        thrown(() -> {
+            sender.publishEvent((event, sequence) -> {
+                throw new IllegalStateException();
+            });
+            return null;
+        });
+        sender.publishEvent((event, sequence) -> event.number = 6);
+        sender.close();
+        List<Long> seen = new ArrayList<>();
+        ring.receivers().get(0).run((event, sequence, endOfBatch) -> seen.add(event.number));
+        expect(seen, List.of(0L, 6L));
+    }
+
+    private static void thoseWhoFollowOneThatGaveUpEnd() {
+        Ring<Event> ring = ring(4, 0, 1);
+        ring.senders().get(0).publishEvent(RingTest::fill);
+        ring.giveUp();
+        refused(Refusal.Reason.HALTED, () -> ring.senders().get(0).publishEvent(RingTest::fill));
+        Throwable thrown = thrown(() -> {
+            ring.receivers().get(1).run((event, sequence, endOfBatch) -> {});
+            return null;
+        });
+        expect(thrown.getClass(), Broken.class);
+    }
+
+    private static String fault(Runnable call) {
+        return thrown(() -> {
+            call.run();
+            return null;
+        }).getMessage();
+    }
+
+    private static Disruptor<Event> one(int size) {
+        return new Disruptor<>(Event::new, size).handle("a", (event, sequence, endOfBatch) -> {});
+    }
+
+    private static void graphsAreRefusedByName() {
+        EventHandler<Event> none = (event, sequence, endOfBatch) -> {};
+        expect(fault(() -> one(4).after("b")), "no handler before has the name b");
+        expect(fault(() -> one(4).handle("a", none)), "two handlers have the name a");
+        expect(fault(() -> one(4).handleChanging("b", none).start()),
+                "b would change events that another handler reads at the same time");
+        refused(Refusal.Reason.BAD_SIZE, () -> one(5).start());
+        refused(Refusal.Reason.NO_HANDLERS, () -> new Disruptor<>(Event::new, 4).start());
+        refused(Refusal.Reason.BAD_PRODUCERS, () -> one(4).startSeveral(17));
+        refused(Refusal.Reason.BAD_PRODUCERS, () -> one(4).startSeveral(0));
+    }
+
+    private static void aHandlerThatThrowsHaltsTheRingAndIsNamed() {
+        AtomicLong most = new AtomicLong();
+        Disruptor<Event> disruptor = new Disruptor<>(Event::new, 4);
+        disruptor.handle("first", (event, sequence, endOfBatch) -> {
+            if (event.number == 10) {
+                throw new IllegalStateException("too large");
+            }
+        });
+        disruptor.after("first").handle("second", (event, sequence, endOfBatch) -> most.set(event.number));
+        disruptor.start();
+        refused(Refusal.Reason.HALTED, () -> {
+            for (int k = 0; k < 100; k++) {
+                disruptor.publishEvent(RingTest::fill);
+            }
+        });
+        HandlerFailed failed = (HandlerFailed) thrown(() -> {
+            disruptor.shutdown();
+            return null;
+        });
+        expect(failed.handler(), "first");
+        expect(failed.getCause().getMessage(), "too large");
+        expect(most.get() < 10, true);
+    }
+
+    private static void severalSendersShareARing() throws InterruptedException {
+        long[] total = new long[1];
+        Disruptor<Event> disruptor = new Disruptor<>(Event::new, 64);
+        disruptor.handleChanging("doubles", (event, sequence, endOfBatch) -> event.number *= 2);
+        disruptor.after("doubles").handle("adds", (event, sequence, endOfBatch) -> total[0] += event.number);
+        List<Thread> threads = new ArrayList<>();
+        for (Sender<Event> sender : disruptor.startSeveral(3)) {
+            threads.add(new Thread(() -> {
+                for (long k = 0; k < 1000; k += 4) {
+                    long[] next = {k};
+                    sender.publishEvents(4, (event, sequence) -> event.number = next[0]++);
+                }
+            }));
+        }
+        threads.forEach(Thread::start);
+        for (Thread thread : threads) {
+            thread.join();
+        }
+        disruptor.shutdown();
+        expect(total[0], 3 * 999_000L);
+    }
+
+    private static void handlersFollowOneAnotherAsInLmaxsDsl() throws InterruptedException {
+        long[] seen = new long[3];
+        Disruptor<Event> disruptor = new Disruptor<>(Event::new, 4);
+        EventHandler<Event> first = (event, sequence, endOfBatch) -> seen[0]++;
+        EventHandler<Event> second = (event, sequence, endOfBatch) -> seen[1]++;
+        disruptor.handleEventsWith(first, second).then((event, sequence, endOfBatch) -> {
+            if (seen[0] > sequence && seen[1] > sequence) {
+                seen[2]++;
+            }
+        });
+        disruptor.start();
+        for (int k = 0; k < 20; k++) {
+            Thread.sleep(3); // (longer than a handler looks before it sleeps)
+            disruptor.publishEvent(RingTest::fill);
+        }
+        disruptor.close();
+        expect(seen[2], 20L);
+    }
+
+    public static void main(String[] arguments) throws Exception {
+        aFullRingHasNoRoom();
+        aBatchGoesOnAfterTheEventAtWhichAHandlerThrew();
+        aFillingThatThrowsLeavesTheRingInOrder();
+        thoseWhoFollowOneThatGaveUpEnd();
+        graphsAreRefusedByName();
+        aHandlerThatThrowsHaltsTheRingAndIsNamed();
+        severalSendersShareARing();
+        handlersFollowOneAnotherAsInLmaxsDsl();
+        System.out.println("each test passed");
+    }
+}

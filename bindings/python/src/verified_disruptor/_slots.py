@@ -1,0 +1,38 @@
+"""What lies in the slots of a ring: events of any class, or records in one buffer."""
+
+from __future__ import annotations
+
+import struct
+from collections.abc import Callable
+from typing import Any
+
+
+class Events:
+    """An event of a class in each slot, which the factory makes."""
+
+    def __init__(self, size: int, factory: Callable[[], Any]):
+        self.size = size
+        self.items = [factory() for _ in range(size)]
+
+    def stretch(self, first: int, count: int) -> list:
+        """The events of the sequences from `first` on, in order."""
+        at = first & (self.size - 1)
+        events = self.items[at : at + count]
+        return events if len(events) == count else events + self.items[: count - len(events)]
+
+
+class Records:
+    """A record of a struct format in each slot: items of one kind, as "Q" or "dd"."""
+
+    def __init__(self, size: int, record: str):
+        if len(set(record)) != 1:
+            raise ValueError("a record has items of one kind")
+        self.size, self.width, self.bytes = size, len(record), struct.calcsize(record)
+        self.items = memoryview(bytearray(size * self.bytes)).cast(record[0])
+
+    def stretch(self, first: int, count: int) -> tuple[memoryview, ...]:
+        """The items of the records from `first` on: one view, or two where they go round the end of the slots."""
+        at = first & (self.size - 1)
+        front = min(count, self.size - at)
+        views = (self.items[at * self.width : (at + front) * self.width],)
+        return views if front == count else (*views, self.items[: (count - front) * self.width])

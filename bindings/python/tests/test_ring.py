@@ -1,0 +1,182 @@
+"""What no type says of a ring of slots in Python, and the example of the README."""
+
+import array
+import os
+import re
+import subprocess
+import sys
+import threading
+import time
+import unittest
+
+from verified_disruptor import Broken, Disruptor, Ends, Events, HandlerFailed, Reason, Records, Refusal
+
+README = os.path.join(os.path.dirname(os.path.dirname(os.path.abspath(__file__))), "README.md")
+
+
+class Event:
+    number = 0
+
+
+def ends_of(size, upstreams, senders=None):
+    return Ends(size, lambda size: Events(size, Event), upstreams, senders)
+
+
+def send(sender, numbers):
+    with sender.events(len(numbers)) as events:
+        for event, number in zip(events, numbers):
+            event.number = number
+
+
+class Ring(unittest.TestCase):
+    def refused(self, reason, call, *arguments):
+        with self.assertRaises(Refusal) as raised:
+            call(*arguments)
+        self.assertEqual(raised.exception.reason, reason)
+
+    def test_events_come_round_the_end_of_the_slots(self):
+        ends, seen = ends_of(4, [0]), []
+        sender, receiver = ends.senders[0], ends.receivers[0]
+        send(sender, [0, 1, 2])
+        self.refused(Reason.BAD_COUNT, sender.events, 5)
+        sender_thread = threading.Thread(target=send, args=(sender, [3, 4, 5]))
+        sender_thread.start()  # (it waits for room)
+
+        def see(event, sequence, is_last):
+            self.assertEqual(event.number, sequence)
+            seen.append(event.number)
+            if sequence == 5:
+                sender.close()
+
+        receiver.run(see, room=2)
+        sender_thread.join()
+        self.assertEqual(seen, [0, 1, 2, 3, 4, 5])
+        self.assertEqual((sender.progress(), receiver.progress()), ((6, 6), (6, 6)))
+        self.refused(Reason.HALTED, sender.event)
+
+    def test_a_batch_goes_on_after_the_event_at_which_a_handler_raised(self):
+        ends, seen = ends_of(16, [0, 1]), []
+        send(ends.senders[0], range(10))
+        ends.senders[0].close()
+
+        def handle(event, sequence, is_last):
+            if sequence == 3:
+                raise ValueError("the fourth event")
+            seen.append(event.number)
+
+        with self.assertRaises(ValueError):
+            ends.receivers[0].run(handle)
+        self.assertEqual(ends.receivers[0].progress(), (10, 3))
+        ends.receivers[0].run(handle)
+        self.assertEqual(seen, [0, 1, 2, 4, 5, 6, 7, 8, 9])
+        ends.receivers[1].run(lambda event, sequence, is_last: seen.append(sequence))
+        self.assertEqual(seen[9:], list(range(10)))
+
+    def test_a_filling_that_raises_leaves_the_ring_in_order(self):
+        ends, seen = ends_of(4, [0]), []
+        with self.assertRaises(ValueError), ends.senders[0].event():
+            raise ValueError
+        send(ends.senders[0], [6])
+        ends.senders[0].close()
+        ends.receivers[0].run(lambda event, sequence, is_last: seen.append(event.number))
+        self.assertEqual(seen, [0, 6])
+
+    def test_those_who_follow_one_that_gave_up_end(self):
+        ends = ends_of(4, [0, 1])
+        send(ends.senders[0], [1])
+        ends.give_up()
+        self.refused(Reason.HALTED, ends.senders[0].event)
+        with self.assertRaises(Broken):
+            ends.receivers[1].run(print)
+
+    def test_graphs_are_refused_by_name(self):
+        def one():
+            return Disruptor(4, Event).handle("a", print)
+
+        for word, build in {
+            "no handler before has the name b": lambda: one().after("b"),
+            "two handlers have the name a": lambda: one().handle("a", print),
+            "b would change events that another handler reads at the same time": lambda: one()
+            .handle("b", print, changes=True)
+            .sender()
+            .__enter__(),
+        }.items():
+            with self.assertRaisesRegex(ValueError, word):
+                build()
+        self.refused(Reason.BAD_SIZE, Disruptor(5, Event).handle("a", print).sender().__enter__)
+        self.refused(Reason.BAD_SIZE, Disruptor(1 << 60, Event).handle("a", print).sender().__enter__)
+        self.refused(Reason.NO_HANDLERS, Disruptor(4, Event).sender().__enter__)
+        self.refused(Reason.BAD_PRODUCERS, one().senders(17).__enter__)
+
+    def test_a_handler_that_raises_halts_the_ring_and_is_named(self):
+        seen = []
+
+        def first(event, sequence, is_last):
+            if event.number == 10:
+                raise ValueError("too large")
+
+        disruptor = Disruptor(4, Event).handle("first", first).and_then()
+        disruptor.handle("second", lambda event, sequence, is_last: seen.append(event.number))
+        with self.assertRaises(HandlerFailed) as raised, disruptor.sender() as sender:
+            for number in range(100):
+                send(sender, [number])
+        self.assertEqual(raised.exception.name, "first")
+        self.assertEqual(str(raised.exception.__cause__), "too large")
+        self.assertTrue(all(number < 10 for number in seen))
+
+    def test_several_senders_share_a_ring(self):
+        total = []
+
+        def double(event, sequence, is_last):
+            event.number *= 2
+
+        disruptor = Disruptor(64, Event).handle("doubles", double, changes=True).and_then()
+        disruptor.handle("adds", lambda event, sequence, is_last: total.append(event.number))
+        with disruptor.senders(3) as senders:
+            threads = [
+                threading.Thread(target=lambda it=it: [send(it, range(k, k + 4)) for k in range(0, 400, 4)]) for it in senders
+            ]
+            for thread in threads:
+                thread.start()
+            for thread in threads:
+                thread.join()
+        self.assertEqual(sum(total), 3 * 2 * sum(range(400)))
+
+    def test_records_lie_in_one_buffer(self):
+        seen = []
+
+        def add(views, first):
+            for view in views:
+                for k in range(0, len(view), 2):
+                    view[k + 1] += view[k]
+
+        disruptor = Disruptor(8, record="QQ").handle_batches("adds", add, changes=True).and_then()
+        disruptor.handle_batches("sees", lambda views, first: seen.extend(it for view in views for it in view))
+        with disruptor.sender() as sender:
+            for k in range(0, 60, 3):
+                sender.send(array.array("Q", [k, 1, k + 1, 1, k + 2, 1]))
+            with self.assertRaises(ValueError):
+                sender.send(array.array("Q", [1]))
+        self.assertEqual(seen, [it for k in range(60) for it in (k, k + 1)])
+        self.assertRaises(ValueError, Records, 4, "QI")
+
+    def test_a_thread_that_sleeps_is_woken(self):
+        late = []
+        disruptor = Disruptor(4, Event)
+        disruptor.handle("slow", lambda event, sequence, is_last: late.append(time.monotonic() - event.number))
+        with disruptor.sender() as sender:
+            for _ in range(10):
+                time.sleep(0.03)
+                send(sender, [time.monotonic()])
+        self.assertEqual(len(late), 10)
+
+    def test_the_example_of_the_readme(self):
+        with open(README, encoding="utf-8") as readme:
+            program = re.search(r"```python\n(.*?)```", readme.read(), re.S)[1]
+        self.assertLessEqual(program.count("\n"), 30)
+        ran = subprocess.run([sys.executable, "-c", program], capture_output=True, text=True, timeout=60)
+        self.assertEqual((ran.stdout, ran.stderr), ("each handler had every order\n", ""))
+
+
+if __name__ == "__main__":
+    unittest.main()

@@ -1,0 +1,162 @@
+//! A ring whose handlers run.
+
+use crate::builder::{Fault, Handler};
+use crate::open::Halter;
+use crate::receiver::{Broken, Receiver};
+use crate::sender::Sender;
+use std::any::Any;
+use std::fmt;
+use std::ops::{Deref, DerefMut};
+use std::thread::{self, JoinHandle};
+
+/// Handlers panicked: each by its name, with what it panicked with. The ring was halted, and nobody who follows one of them was
+/// shown the event at which it panicked.
+pub struct Panicked(pub Vec<(String, Box<dyn Any + Send>)>);
+
+impl Panicked {
+    /// The names of the handlers that panicked, in the order in which they were added.
+    pub fn names(&self) -> Vec<&str> {
+        self.0.iter().map(|(name, _)| &**name).collect()
+    }
+
+    /// Goes on with the first panic.
+    pub fn resume(mut self) -> ! {
+        std::panic::resume_unwind(self.0.remove(0).1)
+    }
+}
+
+impl fmt::Display for Panicked {
+    fn fmt(&self, f: &mut fmt::Formatter<'_>) -> fmt::Result {
+        write!(f, "handlers panicked: {}", self.names().join(", "))
+    }
+}
+
+impl fmt::Debug for Panicked {
+    fn fmt(&self, f: &mut fmt::Formatter<'_>) -> fmt::Result {
+        f.debug_tuple("Panicked").field(&self.names()).finish()
+    }
+}
+
+impl std::error::Error for Panicked {}
+
+pub(crate) struct Threads(Vec<(String, JoinHandle<Result<(), Broken>>)>);
+
+impl Threads {
+    fn join(&mut self) -> Result<(), Panicked> {
+        let joined = self.0.drain(..).map(|(name, thread)| (name, thread.join()));
+        let panicked: Vec<_> = joined.filter_map(|(name, back)| Some((name, back.err()?))).collect();
+        if panicked.is_empty() {
+            Ok(())
+        } else {
+            Err(Panicked(panicked))
+        }
+    }
+}
+
+/// Starts a thread for each handler. Where one panics, its receiver is dropped, and so the ring is halted.
+pub(crate) fn start<T: Send + Sync + 'static>(
+    handlers: Vec<Handler<T>>,
+    receivers: Vec<Receiver<T>>,
+) -> Result<Threads, Fault> {
+    if let Some((it, _)) = handlers.iter().zip(&receivers).find(|(it, receiver)| it.is_changing && !receiver.is_alone())
+    {
+        return Err(Fault::NotAlone(it.name.clone()));
+    }
+    let mut threads = Threads(Vec::new());
+    for (Handler { name, work, .. }, mut receiver) in handlers.into_iter().zip(receivers) {
+        match thread::Builder::new().name(name.clone()).spawn(move || work(&mut receiver)) {
+            Ok(thread) => threads.0.push((name, thread)),
+            // (its receiver and those of the handlers after it are dropped, so those before it end too)
+            Err(why) => return Err(Fault::Thread(why.to_string())),
+        }
+    }
+    Ok(threads)
+}
+
+/// A ring whose handlers run. Publish by it, as by its [`Sender`]. When it is finished or dropped the ring is closed, and it waits
+/// until each handler had every event.
+pub struct Disruptor<T: Send + Sync> {
+    sender: Option<Sender<T>>,
+    threads: Threads,
+    halter: Halter<T>,
+}
+
+impl<T: Send + Sync> Disruptor<T> {
+    pub(crate) fn new(sender: Sender<T>, threads: Threads, halter: Halter<T>) -> Disruptor<T> {
+        Disruptor { sender: Some(sender), threads, halter }
+    }
+
+    fn end(&mut self) -> Result<(), Panicked> {
+        self.sender = None;
+        self.threads.join()
+    }
+
+    /// Closes the ring, and waits until each handler had every event.
+    pub fn finish(mut self) -> Result<(), Panicked> {
+        self.end()
+    }
+
+    /// Halts the ring: from now on a publication is refused.
+    pub fn halt(&self) {
+        self.halter.halt();
+    }
+}
+
+impl<T: Send + Sync> Drop for Disruptor<T> {
+    fn drop(&mut self) {
+        let _ = self.end();
+    }
+}
+
+impl<T: Send + Sync> Deref for Disruptor<T> {
+    type Target = Sender<T>;
+
+    fn deref(&self) -> &Sender<T> {
+        self.sender.as_ref().expect("it is not ended")
+    }
+}
+
+impl<T: Send + Sync> DerefMut for Disruptor<T> {
+    fn deref_mut(&mut self) -> &mut Sender<T> {
+        self.sender.as_mut().expect("it is not ended")
+    }
+}
+
+/// A ring of several senders whose handlers run. Take the senders, and finish it once they are done.
+pub struct Senders<T: Send + Sync> {
+    senders: Vec<Sender<T>>,
+    threads: Threads,
+    halter: Halter<T>,
+}
+
+impl<T: Send + Sync> Senders<T> {
+    pub(crate) fn new(senders: Vec<Sender<T>>, threads: Threads, halter: Halter<T>) -> Senders<T> {
+        Senders { senders, threads, halter }
+    }
+
+    /// The senders, the first time.
+    pub fn take(&mut self) -> Vec<Sender<T>> {
+        std::mem::take(&mut self.senders)
+    }
+
+    fn end(&mut self) -> Result<(), Panicked> {
+        self.halter.halt();
+        self.threads.join()
+    }
+
+    /// Halts the ring, and waits until each handler had every event that was claimed.
+    pub fn finish(mut self) -> Result<(), Panicked> {
+        self.end()
+    }
+
+    /// Halts the ring: from now on a publication is refused.
+    pub fn halt(&self) {
+        self.halter.halt();
+    }
+}
+
+impl<T: Send + Sync> Drop for Senders<T> {
+    fn drop(&mut self) {
+        let _ = self.end();
+    }
+}

@@ -1,0 +1,136 @@
+//! How a thread waits that looks again and again.
+
+use std::hint::spin_loop;
+use std::sync::atomic::{AtomicU32, Ordering};
+use std::sync::{Arc, Condvar, Mutex, PoisonError};
+use std::thread::yield_now;
+use std::time::Duration;
+
+/// How the threads of a ring wait for one another.
+#[derive(Clone, Copy, Debug, Default, PartialEq, Eq)]
+pub enum Wait {
+    /// By pauses that tune themselves, then by yielding the processor, and at last asleep until another end wakes it: a thread that
+    /// has nothing to do costs next to nothing.
+    #[default]
+    Parking,
+    /// By pauses, and then by yielding the processor.
+    Yielding,
+    /// By pauses alone: for threads that have a processor each.
+    Spinning,
+}
+
+/// What wakes the threads that sleep. That no change is missed is argued: a thread first says that it sleeps, and then looks once
+/// more; who changed something asks afterwards whether anybody sleeps. All these steps are sequentially consistent, those of the
+/// library too.
+#[derive(Default)]
+pub(crate) struct Bell {
+    sleepers: AtomicU32,
+    rings: Mutex<u64>,
+    rung: Condvar,
+}
+
+const LONGEST_SLEEP: Duration = Duration::from_millis(10);
+
+impl Bell {
+    pub(crate) fn ring(&self) {
+        if self.sleepers.load(Ordering::SeqCst) > 0 {
+            *self.rings.lock().unwrap_or_else(PoisonError::into_inner) += 1;
+            self.rung.notify_all();
+        }
+    }
+
+    fn listen(&self) -> u64 {
+        self.sleepers.fetch_add(1, Ordering::SeqCst);
+        *self.rings.lock().unwrap_or_else(PoisonError::into_inner)
+    }
+
+    /// Sleeps until a ring after the listening that answered `heard`, ten milliseconds at most.
+    fn sleep(&self, heard: u64) {
+        let rings = self.rings.lock().unwrap_or_else(PoisonError::into_inner);
+        drop(self.rung.wait_timeout_while(rings, LONGEST_SLEEP, |rings| *rings == heard));
+    }
+
+    fn stop_listening(&self) {
+        self.sleepers.fetch_sub(1, Ordering::SeqCst);
+    }
+}
+
+const PAUSED_LOOKS: u32 = 4;
+const YIELDING_LOOKS: u32 = 200;
+const MOST_PAUSES: u32 = 1024;
+
+pub(crate) struct Waiting {
+    how: Wait,
+    room: u64,
+    bell: Arc<Bell>,
+    // How many pauses a wait takes, and how many looks in a row found nothing.
+    pauses: u32,
+    looks: u32,
+    heard: Option<u64>,
+    // How many events found room since it last waited, of a sender.
+    found: u64,
+}
+
+impl Waiting {
+    pub(crate) fn new(how: Wait, room: u64, bell: &Arc<Bell>) -> Waiting {
+        Waiting { how, room, bell: Arc::clone(bell), pauses: 1, looks: 0, heard: None, found: 0 }
+    }
+
+    /// Waits after a look that found nothing.
+    #[cold]
+    pub(crate) fn wait(&mut self) {
+        if self.found > 0 {
+            let found = std::mem::take(&mut self.found);
+            self.found(found);
+        }
+        if self.how == Wait::Spinning || self.looks < PAUSED_LOOKS {
+            (0..self.pauses).for_each(|_| spin_loop());
+        } else if self.how == Wait::Yielding || self.looks < YIELDING_LOOKS {
+            yield_now();
+        } else if let Some(heard) = self.heard {
+            self.bell.sleep(heard);
+            self.stop_listening();
+            self.heard = Some(self.bell.listen());
+        } else {
+            self.heard = Some(self.bell.listen());
+        }
+        self.looks = self.looks.saturating_add(1);
+    }
+
+    /// Begins anew, after a look that found so many events. The pauses tune themselves by how many came after the last one.
+    #[inline]
+    pub(crate) fn found(&mut self, count: u64) {
+        if self.looks > 0 {
+            self.tune(count);
+        }
+    }
+
+    #[cold]
+    fn tune(&mut self, count: u64) {
+        self.looks = 0;
+        self.stop_listening();
+        if count > self.room / 3 || count < u64::from(self.pauses / 64) {
+            self.pauses = (self.pauses / 2).max(1);
+        } else if count < self.room / 6 && count >= u64::from(self.pauses / 32) {
+            self.pauses = (self.pauses * 2).min(MOST_PAUSES);
+        }
+    }
+
+    /// The same after a claim: a sender claims again at once, so what counts is how many found room until it waits again.
+    #[inline]
+    pub(crate) fn found_room(&mut self, count: u64) {
+        self.found += count;
+    }
+
+    fn stop_listening(&mut self) {
+        if self.heard.take().is_some() {
+            self.bell.stop_listening();
+        }
+    }
+}
+
+impl Drop for Waiting {
+    fn drop(&mut self) {
+        self.stop_listening();
+    }
+}

@@ -1,0 +1,215 @@
+//! What no type says of a ring of slots.
+
+use std::panic::{catch_unwind, AssertUnwindSafe};
+use std::sync::atomic::{AtomicUsize, Ordering};
+use std::sync::Arc;
+use std::time::Duration;
+use verified_disruptor::{open, open_several, Broken, Builder, Counts, Fault, Plan, Polled, Refusal, Wait, MAX_LIMIT};
+
+fn plan(size: u64, upstreams: &[u64]) -> Plan {
+    Plan { size, limit: MAX_LIMIT, upstreams: upstreams.to_vec(), wait: Wait::default() }
+}
+
+struct Counted(Arc<AtomicUsize>, u64);
+
+impl Drop for Counted {
+    fn drop(&mut self) {
+        self.0.fetch_add(1, Ordering::SeqCst);
+    }
+}
+
+#[test]
+fn each_event_is_dropped_once_with_the_last_end() {
+    let dropped = Arc::new(AtomicUsize::new(0));
+    let own = Arc::clone(&dropped);
+    let (mut sender, mut receivers, halter) = open(&plan(8, &[0]), move || Counted(Arc::clone(&own), 0)).unwrap();
+    for k in 0..20u64 {
+        sender.try_publish(|event| event.1 = k).unwrap();
+        let found = receivers[0]
+            .receive(8, |event, sequence, is_last| assert!(event.1 == k && sequence == k && is_last))
+            .unwrap();
+        assert_eq!(found, Polled::Handled(1));
+    }
+    assert_eq!(sender.progress(), Ok(Counts { begun: 20, done: 20 }));
+    assert_eq!(receivers[0].progress(), Counts { begun: 20, done: 20 });
+    drop(sender);
+    drop(halter);
+    assert_eq!(dropped.load(Ordering::SeqCst), 0);
+    drop(receivers);
+    assert_eq!(dropped.load(Ordering::SeqCst), 8);
+}
+
+#[test]
+fn a_full_ring_has_no_room_until_the_handler_completes() {
+    let (mut sender, mut receivers, halter) = open(&plan(4, &[0]), || 0u64).unwrap();
+    sender.try_publish_batch(3, |batch| batch.for_each(|event| *event = 1)).unwrap();
+    assert_eq!(sender.try_publish_batch(2, |_| ()), Err(Refusal::NoRoom));
+    assert_eq!(sender.try_publish_batch(5, |_| ()), Err(Refusal::BadCount));
+    let mut seen = Vec::new();
+    let found = receivers[0].receive(2, |event, sequence, is_last| seen.push((*event, sequence, is_last)));
+    assert_eq!(found, Ok(Polled::Handled(2)));
+    assert_eq!(seen, [(1, 0, false), (1, 1, true)]);
+    // (the claim goes round the end of the slots)
+    sender.try_publish_batch(3, |batch| batch.zip(7..).for_each(|(event, n)| *event = n)).unwrap();
+    seen.clear();
+    receivers[0].receive(9, |event, sequence, is_last| seen.push((*event, sequence, is_last))).unwrap();
+    assert_eq!(seen, [(1, 2, false), (7, 3, false), (8, 4, false), (9, 5, true)]);
+    assert_eq!(receivers[0].receive(0, |_, _, _| ()), Err(Refusal::BadCount));
+    halter.halt();
+    assert_eq!(sender.try_publish(|_| ()), Err(Refusal::Halted));
+    assert_eq!(receivers[0].receive(1, |_, _, _| ()), Ok(Polled::Idle));
+    drop(sender);
+    assert_eq!(receivers[0].receive(1, |_, _, _| ()), Ok(Polled::Drained));
+}
+
+#[test]
+fn a_filling_that_panics_leaves_the_ring_in_order() {
+    let (mut sender, mut receivers, _halter) = open(&plan(4, &[0]), || 5u64).unwrap();
+    assert!(catch_unwind(AssertUnwindSafe(|| sender.publish(|_| panic!("it cannot be filled")))).is_err());
+    sender.try_publish(|event| *event = 6).unwrap();
+    let mut seen = Vec::new();
+    receivers[0].receive(4, |event, _, _| seen.push(*event)).unwrap();
+    assert_eq!(seen, [5, 6]);
+}
+
+#[test]
+fn a_batch_goes_on_after_the_event_at_which_a_handler_panicked() {
+    let (mut sender, mut receivers, _halter) = open(&plan(16, &[0, 1]), || 0u64).unwrap();
+    sender.try_publish_batch(10, |batch| batch.zip(0..).for_each(|(event, n)| *event = n)).unwrap();
+    let mut seen = Vec::new();
+    let (first, second) = receivers.split_at_mut(1);
+    let turn = catch_unwind(AssertUnwindSafe(|| {
+        first[0].receive(16, |event, _, _| {
+            assert!(*event != 3, "the fourth event");
+            seen.push(*event);
+        })
+    }));
+    assert!(turn.is_err());
+    // (the handler after it has no more than what was handled)
+    assert_eq!(second[0].receive(16, |_, _, _| ()), Ok(Polled::Handled(3)));
+    assert_eq!(first[0].receive(16, |event, _, _| seen.push(*event)), Ok(Polled::Handled(6)));
+    assert_eq!(seen, [0, 1, 2, 4, 5, 6, 7, 8, 9]);
+    assert_eq!(second[0].receive(16, |_, _, _| ()), Ok(Polled::Handled(7)));
+}
+
+#[test]
+fn a_panic_at_the_last_event_of_a_batch_is_gone_on_from() {
+    let (mut sender, mut receivers, _halter) = open(&plan(4, &[0]), || 0u64).unwrap();
+    sender.try_publish_batch(4, |_| ()).unwrap();
+    assert!(catch_unwind(AssertUnwindSafe(|| receivers[0].receive(4, |_, s, _| assert!(s < 3)))).is_err());
+    assert_eq!(receivers[0].progress(), Counts { begun: 4, done: 3 });
+    assert_eq!(receivers[0].receive(4, |_, _, _| ()), Ok(Polled::Idle));
+    assert_eq!(receivers[0].progress(), Counts { begun: 4, done: 4 });
+    sender.try_publish_batch(4, |_| ()).unwrap();
+}
+
+#[test]
+fn a_receiver_that_is_dropped_halts_the_ring() {
+    let (mut sender, mut receivers, _halter) = open(&plan(4, &[0, 1]), || 0u64).unwrap();
+    let mut second = receivers.pop().unwrap();
+    sender.publish(|event| *event = 1).unwrap();
+    drop(receivers);
+    assert_eq!(sender.publish(|_| ()), Err(Refusal::Halted));
+    assert_eq!(second.run(|_, _, _| ()), Err(Broken));
+}
+
+#[test]
+fn only_a_handler_alone_changes_events() {
+    let (mut sender, mut receivers, _halter) = open(&plan(4, &[0, 0, 3]), || 1u64).unwrap();
+    let alone: Vec<_> = receivers.iter().map(|receiver| receiver.is_alone()).collect();
+    assert_eq!(alone, [false, false, true]);
+    sender.publish(|event| *event = 2).unwrap();
+    assert!(catch_unwind(AssertUnwindSafe(|| receivers[0].receive_mut(4, |event, _, _| *event = 3))).is_err());
+    for receiver in &mut receivers[..2] {
+        assert_eq!(receiver.receive(4, |event, _, _| assert_eq!(*event, 2)), Ok(Polled::Handled(1)));
+    }
+    assert_eq!(receivers[2].receive_mut(4, |event, _, _| *event += 1), Ok(Polled::Handled(1)));
+}
+
+#[test]
+fn graphs_are_refused_by_name() {
+    let fault = |builder: Builder<u64>| builder.build().err().unwrap();
+    let one = || Builder::new(4, || 0).handle("a", |_, _, _| ());
+    assert_eq!(fault(one().after(["b"]).handle("c", |_, _, _| ())), Fault::Unknown("b".into()));
+    assert_eq!(fault(one().handle("a", |_, _, _| ())), Fault::Twice("a".into()));
+    assert_eq!(fault(one().handle_mut("b", |_, _, _| ())), Fault::NotAlone("b".into()));
+    assert_eq!(fault(Builder::new(5, || 0).handle("a", |_, _, _| ())), Fault::Refused(Refusal::BadSize));
+    assert_eq!(fault(Builder::new(4, || 0)), Fault::Refused(Refusal::NoHandlers));
+    assert_eq!(one().build_several(17).err(), Some(Fault::Refused(Refusal::BadProducers)));
+    assert_eq!(Refusal::BadSize.to_string(), "bad-size");
+}
+
+#[test]
+fn a_handler_that_panics_halts_the_ring_and_is_named() {
+    let seen = Arc::new(AtomicUsize::new(0));
+    let own = Arc::clone(&seen);
+    let mut disruptor = Builder::new(4, || 0u64)
+        .handle("first", |event, _, _| assert!(*event < 10, "too large"))
+        .and_then()
+        .handle("second", move |event, _, _| own.store(*event as usize, Ordering::SeqCst))
+        .build()
+        .unwrap();
+    let refused = (0..100).find_map(|k| disruptor.publish(|event| *event = k).err());
+    assert_eq!(refused, Some(Refusal::Halted));
+    let panicked = disruptor.finish().unwrap_err();
+    assert_eq!(panicked.names(), ["first"]);
+    assert!(catch_unwind(AssertUnwindSafe(|| panicked.resume())).is_err());
+    assert!(seen.load(Ordering::SeqCst) < 10);
+}
+
+#[test]
+fn several_senders_share_a_ring() {
+    for wait in [Wait::Parking, Wait::Yielding] {
+        let total = Arc::new(AtomicUsize::new(0));
+        let own = Arc::clone(&total);
+        let mut disruptor = Builder::new(64, || 0usize)
+            .wait(wait)
+            .handle_mut("doubles", |event: &mut usize, _, _| *event *= 2)
+            .and_then()
+            .handle_with(
+                "adds",
+                move || std::rc::Rc::new(own),
+                |own, event, _, _| {
+                    own.fetch_add(*event, Ordering::Relaxed);
+                },
+            )
+            .build_several(3)
+            .unwrap();
+        let senders = disruptor.take();
+        std::thread::scope(|scope| {
+            for mut sender in senders {
+                scope.spawn(move || {
+                    (0..500).for_each(|k| sender.publish(|event| *event = k).unwrap());
+                    (500..1000).step_by(4).for_each(|k| {
+                        sender.publish_batch(4, |batch| batch.zip(k..).for_each(|(event, n)| *event = n)).unwrap();
+                    });
+                });
+            }
+        });
+        disruptor.finish().unwrap();
+        assert_eq!(total.load(Ordering::SeqCst), 3 * 999_000);
+    }
+}
+
+#[test]
+fn a_halted_ring_of_several_drains() {
+    let (mut senders, mut receivers, halter) = open_several(&plan(8, &[0]), 2, || 0u64).unwrap();
+    senders[1].publish(|event| *event = 1).unwrap();
+    senders[0].publish(|event| *event = 2).unwrap();
+    assert_eq!(senders[0].progress(), Err(Refusal::WrongEnd));
+    halter.halt();
+    assert_eq!(senders[0].publish(|_| ()), Err(Refusal::Halted));
+    let mut seen = Vec::new();
+    receivers[0].run(|event, _, _| seen.push(*event)).unwrap();
+    assert_eq!(seen, [1, 2]);
+}
+
+#[test]
+fn a_thread_that_sleeps_is_woken() {
+    let mut disruptor = Builder::new(4, || 0u64).handle("slow", |_, _, _| ()).build().unwrap();
+    for k in 0..20 {
+        std::thread::sleep(Duration::from_millis(3));
+        disruptor.publish(|event| *event = k).unwrap();
+    }
+    disruptor.finish().unwrap();
+}

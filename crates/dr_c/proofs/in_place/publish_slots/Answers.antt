@@ -1,0 +1,10 @@
+use Rattle.std.proofs.Common.{arith}
+use Rattle.dr_c.proofs.UnwrittenOfSeveral.{never_unwritten}
+use Rattle.dr_c.proofs.in_place.publish_slots.Goals as goal
+
+pub returns-clause-written : goal.returns-clause-written
+returns-clause-written c =
+    λ once below small.
+    let is = c.saturating_add.ensures in
+    never_unwritten c.leave_all.new.sender c.args.lo c.args.hi c.saturating_add.result (omega arith)
+    (c.leave_all.ensures.written once (omega arith)) c.publish.new.self c.publish.result c.publish.ensures.call

@@ -1,0 +1,11 @@
+use Rattle.std.proofs.Common.{refl, sym, subst}
+use Rattle.dr_c.specs.declared.end.End.{End}
+use Rattle.dr_c.specs.declared.end.End.TheVariants.{SenderOfBytes}
+use Rattle.dr_c.specs.Calls.{PublishesSlotsBy}
+use Rattle.dr_c.proofs.sending.publish_slots.Goals as goal
+
+pub returns-in-SenderOfBytes : goal.returns-in-SenderOfBytes
+returns-in-SenderOfBytes c =
+    let call = c.publish_slots in
+    subst (λ (e : End). PublishesSlotsBy c.args.lo c.args.hi c.number.result e (SenderOfBytes call.new.self)) (sym c.in-SenderOfBytes.is)
+    (call.new.self, call.result, refl, c.number.ensures, call.ensures.bytes, (call.ensures.call, call.ensures.written))

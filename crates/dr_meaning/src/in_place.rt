@@ -1,0 +1,116 @@
+//! The ends of an exchange whose events are filled and read where they lie, so that they may be of any type.
+
+ghost use Rattle.std.specs.Prelude.{◌≡◌, ◌||◌, ◌<◌, ◌≤◌, ℕ, Bool, [], IfErr, IfOk, length};
+ghost use Rattle.std.specs.Fn.{FnOnceReturnsAtMut};
+ghost use mathlib.Core.Option.{some};
+ghost use lib.ListN.{get_elem?};
+ghost use Rattle.dr_meaning.specs.Calls.Ends.{IsStretch, Received, tells_drained, with_completed};
+ghost use Rattle.dr_meaning.specs.Calls.Filling.{FillsFrom, FillsOne};
+ghost use Rattle.dr_meaning.specs.Calls.InPlaceInlets.{Changes, IsOpen, IsWhole, Opens, Publishes, Sending};
+ghost use Rattle.dr_meaning.specs.Calls.InPlaceOutlets.{SawMore, TakesUpTo};
+
+use crate::claim_fault::ClaimFault;
+use crate::command::{Claimed, Polled};
+
+/// A sender's end that fills events where they lie, one stretch after another: each is published before the next is
+/// claimed. Only claims are refused. What else an [`Inlet`](crate::Inlet) would refuse, the caller owes here.
+pub trait InPlaceInlet {
+    ghost use Rattle.dr_meaning.specs.declared.claim_fault.ClaimFault.{ClaimFault};
+
+    /// What lies in the exchange.
+    type Event;
+
+    /// What no call changes, as which end it is.
+    ghost Kept: { Type 0 } = { Unit {0} };
+
+    ghost kept: { Self → Self.Kept };
+
+    /// What it published so far, and the stretch that it claimed and did not publish.
+    ghost sending: { Self → Sending Self.Event };
+
+    /// What it tells of a claim of so many that was refused, by the end before and after it.
+    ghost refuses: { Self → ℕ → ClaimFault → Self → Type 0 };
+
+    /// Claims the next `n` sequences. It waits for nothing.
+    fn try_claim(&mut self, n: u64) -> Result<Claimed, ClaimFault>
+        requires closed { (sending self.old).pending ≡ [] }
+        ensures kept { kept self.new ≡ kept self.old }
+        ensures stretch { IfOk result (IsStretch n) }
+        ensures opens { IfOk result (λ c. Opens c.lo n (sending self.old) (sending self.new)) }
+        ensures refused { IfErr result (λ fault. refuses self.old n fault self.new × (sending self.new ≡ sending self.old)) };
+
+    /// Fills the event of a sequence that it claimed and did not publish, where it lies. What `change` finds there
+    /// is what an earlier event left, or an earlier change.
+    fn update<F: FnOnce(&mut Self::Event) + Drop>(&mut self, s: u64, change: F)
+        requires callable { F.IsAlwaysCallable change }
+        requires within { IsOpen (sending self.old) s }
+        ensures kept { kept self.new ≡ kept self.old }
+        ensures changes { Changes (λ was now. FnOnceReturnsAtMut F.FnOnce change was tt now) s (sending self.old) (sending self.new) };
+
+    /// As `update`, by a closure that is told a number.
+    fn update_at<F: Fn(&mut Self::Event, u64)>(&mut self, s: u64, fill: &F, number: u64)
+        requires callable { F.IsAlwaysCallable fill.now }
+        requires within { IsOpen (sending self.old) s }
+        ensures kept { kept self.new ≡ kept self.old }
+        ensures changes { Changes (FillsOne F.Fn fill.now number) s (sending self.old) (sending self.new) };
+
+    /// As `update_at`, by a closure with a state of its own.
+    fn update_by<F: FnMut(&mut Self::Event, u64)>(&mut self, s: u64, fill: &mut F, number: u64)
+        requires callable { F.IsAlwaysCallable fill.old }
+        requires within { IsOpen (sending self.old) s }
+        ensures kept { kept self.new ≡ kept self.old }
+        ensures changes { Changes (λ was now. FillsFrom F.FnMut fill.old number was fill.new now) s (sending self.old) (sending self.new) }
+        ensures callable { F.IsAlwaysCallable fill.new };
+
+    /// Publishes the stretch that it claimed, from its first sequence `lo` to its last `hi`, all of which is filled.
+    fn publish(&mut self, lo: u64, hi: u64)
+        requires whole { IsWhole lo hi (sending self.old) }
+        ensures kept { kept self.new ≡ kept self.old }
+        ensures publishes { Publishes (sending self.old) (sending self.new) };
+}
+
+/// A handler's end that shows what it took, of a handler that never retires. No call that it allows is refused: what
+/// an [`Outlet`](crate::Outlet) would refuse, the caller owes here.
+pub trait InPlaceOutlet {
+    /// What lies in the exchange.
+    type Event;
+
+    /// What no call changes, as which end it is.
+    ghost Kept: { Type 0 } = { Unit {0} };
+
+    ghost kept: { Self → Self.Kept };
+
+    /// What it handed out and completed so far.
+    ghost received: { Self → Received Self.Event };
+
+    /// Whether it was told that the exchange drained.
+    ghost told: { Self → Bool };
+
+    /// Whether it saw that at least so many events are published.
+    ghost saw: { Self → ℕ → Type 0 };
+
+    /// Takes some of the next events, at most `room`, whose first and number are told. It may read them until it
+    /// completes them.
+    fn poll(&mut self, room: u64) -> Polled
+        requires room { 0 < room }
+        ensures kept { kept self.new ≡ kept self.old }
+        ensures told { told self.new ≡ (told self.old || tells_drained result) }
+        ensures saw { SawMore (saw self.old) (saw self.new) }
+        ensures taken { TakesUpTo room (saw self.new) result (received self.old) (received self.new) };
+
+    /// An event that it took and did not complete, where it lies: so a handler is shown an event before it is
+    /// completed.
+    fn event(&self, s: u64) -> &Self::Event
+        requires low { (received self.now).completed ≤ s }
+        requires high { s < length (received self.now).events }
+        ensures { get_elem? (received self.now).events s ≡ some result.now };
+
+    /// Completes all events below `upto`.
+    fn complete(&mut self, upto: u64)
+        requires low { (received self.old).completed ≤ upto }
+        requires high { upto ≤ length (received self.old).events }
+        ensures kept { kept self.new ≡ kept self.old }
+        ensures told { told self.new ≡ told self.old }
+        ensures saw { SawMore (saw self.old) (saw self.new) }
+        ensures completed { received self.new ≡ with_completed (received self.old) upto };
+}

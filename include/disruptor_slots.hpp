@@ -1,0 +1,336 @@
+// Rings of slots for C++ (17 or later): the events are of any type that has a default constructor, lie in an array that all ends
+// keep, and are filled, read and changed in place. A builder gives each handler of a graph a thread of its own.
+#ifndef DISRUPTOR_SLOTS_HPP
+#define DISRUPTOR_SLOTS_HPP
+
+#include "disruptor.hpp"
+#include <algorithm>
+#include <exception>
+#include <functional>
+#include <initializer_list>
+#include <string>
+#include <thread>
+
+namespace disruptor {
+
+// The events of a ring, as many as it has slots.
+template <typename T>
+class slots {
+public:
+    explicit slots(std::uint64_t size) : events_(size) {}
+    T &at(std::uint64_t sequence) noexcept { return events_[DISRUPTOR_SLOT(sequence, events_.size())]; }
+    std::uint64_t size() const noexcept { return events_.size(); }
+
+private:
+    std::vector<T> events_;
+};
+template <typename T>
+using shared_slots = std::shared_ptr<std::unique_ptr<slots<T>>>;
+
+// An end that fills events and publishes them. What a filler throws passes, once what lies in its slots is published.
+template <typename T>
+class sender_in_place : public sender {
+public:
+    sender_in_place(const disruptor::shared &all, shared_slots<T> events) : sender(all), slots_(std::move(events)), waiting_(1, bell()) {}
+    // Publishes an event, once there is room for it and fill(event) has filled it.
+    template <typename Fill>
+    void publish(Fill &&fill) {
+        publish_batch(1, [&](T &event, std::uint64_t) { fill(event); });
+    }
+    // Publishes n events together, once there is room for all and fill(event, sequence) has filled each.
+    template <typename Fill>
+    void publish_batch(std::uint64_t n, Fill &&fill) {
+        fill_and_publish(claim(n, waiting_), n, fill);
+    }
+    // The same, or answers false where there is no room now, or another sender came first.
+    template <typename Fill>
+    [[nodiscard]] bool try_publish_batch(std::uint64_t n, Fill &&fill) {
+        const std::optional<std::uint64_t> lo = try_claim(n);
+        if (lo) fill_and_publish(*lo, n, fill);
+        return lo.has_value();
+    }
+    void write(std::uint64_t, const event &) = delete;
+    // Once the ring is open.
+    void begin() { waiting_ = waits((*slots_)->size()); }
+
+private:
+    template <typename Fill>
+    void fill_and_publish(std::uint64_t lo, std::uint64_t n, Fill &fill) {
+        slots<T> &events = **slots_;
+        try {
+            for (std::uint64_t s = lo; s < lo + n; s++) fill(events.at(s), s);
+        } catch (...) {
+            check_and_ring(disruptor_publish_slots(get(), lo, lo + n - 1));
+            throw;
+        }
+        check_and_ring(disruptor_publish_slots(get(), lo, lo + n - 1));
+    }
+    shared_slots<T> slots_;
+    waiting waiting_;
+};
+
+// The end of a handler. It may change an event where each other handler comes before it or after it.
+template <typename T>
+class receiver_in_place : public receiving {
+public:
+    receiver_in_place(const disruptor::shared &all, shared_slots<T> events) : receiving(all), slots_(std::move(events)) {}
+    // Shows `handle(event, sequence, is_last_of_batch)` the next events, `room` at most, and completes them.
+    template <typename Handler>
+    offer receive(std::uint64_t room, Handler &&handle) {
+        const auto take = [&] {
+            offer found = {};
+            check(disruptor_poll_slots(get(), room, &found));
+            return polled(found);
+        };
+        slots<T> &events = **slots_;
+        return show(take, [&](std::uint64_t s) -> T & { return events.at(s); }, handle);
+    }
+    // The same until the ring is drained; it sleeps while none comes.
+    template <typename Handler>
+    void run(Handler &&handle) {
+        const std::uint64_t room = (*slots_)->size();
+        take_turns(room, [&] { return receive(room, handle); });
+    }
+
+private:
+    shared_slots<T> slots_;
+};
+
+template <typename T>
+struct ring_in_place {
+    sender_in_place<T> sender;
+    std::vector<receiver_in_place<T>> receivers;
+    disruptor::halter halter;
+};
+
+template <typename T>
+struct ring_in_place_of_several {
+    std::vector<sender_in_place<T>> senders;
+    std::vector<receiver_in_place<T>> receivers;
+    disruptor::halter halter;
+};
+
+// Opens a ring of slots: handler k follows those whose bits are in the mask upstreams[k].
+template <typename T>
+[[nodiscard]] ring_in_place<T> open_in_place(std::uint64_t size, const std::vector<std::uint64_t> &upstreams,
+                                             std::uint64_t limit = DISRUPTOR_MAX_LIMIT) {
+    const disruptor::shared all = std::make_shared<common>();
+    const shared_slots<T> events = std::make_shared<std::unique_ptr<slots<T>>>();
+    ring_in_place<T> made = {{all, events}, unopened<receiver_in_place<T>>(upstreams.size(), all, events), halter(all)};
+    std::vector<disruptor_receiver> receiving(upstreams.size(), disruptor_receiver DISRUPTOR_NEW);
+    check(disruptor_open_slots(size, limit, upstreams.data(), upstreams.size(), made.sender.get(), receiving.data(), receiving.size(),
+                               all->halter()));
+    own(made.receivers, receiving);
+    *events = std::make_unique<slots<T>>(size);
+    made.sender.begin();
+    return made;
+}
+
+// Opens one of several senders, which ends with a halt.
+template <typename T>
+[[nodiscard]] ring_in_place_of_several<T> open_several_in_place(std::uint64_t size, const std::vector<std::uint64_t> &upstreams,
+                                                                std::size_t senders, std::uint64_t limit = DISRUPTOR_MAX_LIMIT) {
+    const disruptor::shared all = std::make_shared<common>();
+    const shared_slots<T> events = std::make_shared<std::unique_ptr<slots<T>>>();
+    ring_in_place_of_several<T> made = {unopened<sender_in_place<T>>(senders, all, events),
+                                        unopened<receiver_in_place<T>>(upstreams.size(), all, events), halter(all)};
+    std::vector<disruptor_sender> sending(senders, disruptor_sender DISRUPTOR_NEW);
+    std::vector<disruptor_receiver> receiving(upstreams.size(), disruptor_receiver DISRUPTOR_NEW);
+    check(disruptor_open_several_slots(size, limit, upstreams.data(), upstreams.size(), sending.data(), senders, receiving.data(),
+                                       receiving.size(), all->halter()));
+    own(made.senders, sending);
+    own(made.receivers, receiving);
+    *events = std::make_unique<slots<T>>(size);
+    for (sender_in_place<T> &it : made.senders) it.begin();
+    return made;
+}
+
+// A handler threw: which one, and what, for std::rethrow_exception. The ring was halted.
+class handler_failed : public std::runtime_error {
+public:
+    handler_failed(const std::string &name, std::exception_ptr what)
+        : std::runtime_error("a handler threw: " + name), name_(name), what_(std::move(what)) {}
+    const std::string &name() const noexcept { return name_; }
+    std::exception_ptr thrown() const noexcept { return what_; }
+
+private:
+    std::string name_;
+    std::exception_ptr what_;
+};
+
+// A handler of a graph has a thread; the first that throws halts the ring.
+class handlers {
+public:
+    handlers() = default;
+    handlers(handlers &&) = default;
+    handlers &operator=(handlers &&) = delete;
+    ~handlers() { join(); }
+    template <typename T, typename Work>
+    void start(const std::string &name, receiver_in_place<T> receiver, Work work) {
+        threads_.emplace_back([name, receiver = std::move(receiver), work = std::move(work), &failed = *failed_]() mutable {
+            try {
+                // (where it throws, the receiver goes away, which halts the ring)
+                receiver_in_place<T> own = std::move(receiver);
+                work(own);
+            } catch (const broken &) {
+            } catch (...) {
+                const std::lock_guard<std::mutex> lock(failed.mutex);
+                if (!failed.what) failed.name = name, failed.what = std::current_exception();
+            }
+        });
+    }
+    void join() noexcept {
+        for (std::thread &thread : threads_)
+            if (thread.joinable()) thread.join();
+    }
+    // Joins them, and throws handler_failed where one threw.
+    void finish() {
+        join();
+        if (failed_->what) throw handler_failed(failed_->name, std::exchange(failed_->what, nullptr));
+    }
+
+private:
+    struct failure {
+        std::mutex mutex;
+        std::string name;
+        std::exception_ptr what;
+    };
+    std::unique_ptr<failure> failed_ = std::make_unique<failure>();
+    std::vector<std::thread> threads_;
+};
+
+// A ring of one sender whose handlers run. When it is finished or goes away the ring is closed, and it waits until each handler had
+// every event.
+template <typename T>
+class running : public sender_in_place<T> {
+public:
+    running(sender_in_place<T> sender, disruptor::halter halter, handlers threads)
+        : sender_in_place<T>(std::move(sender)), halter_(std::move(halter)), threads_(std::move(threads)) {}
+    running(running &&) = default;
+    running &operator=(running &&) = delete;
+    ~running() {
+        if (this->shared_) disruptor_close(this->get()), this->shared_->ring();
+    }
+    void halt() { halter_.halt(); }
+    // Closes the ring and joins all threads; throws handler_failed where a handler threw.
+    void finish() {
+        this->close();
+        threads_.finish();
+    }
+
+private:
+    disruptor::halter halter_;
+    handlers threads_;
+};
+
+// The same of several senders: it is halted in the end, once they are done.
+template <typename T>
+class running_of_several {
+public:
+    std::vector<sender_in_place<T>> senders;
+    running_of_several(std::vector<sender_in_place<T>> ends, disruptor::halter halter, handlers threads)
+        : senders(std::move(ends)), halter_(std::make_unique<disruptor::halter>(std::move(halter))), threads_(std::move(threads)) {}
+    running_of_several(running_of_several &&) = default;
+    running_of_several &operator=(running_of_several &&) = delete;
+    ~running_of_several() {
+        if (halter_) halter_->halt();
+    }
+    void halt() { halter_->halt(); }
+    void finish() {
+        halt();
+        threads_.finish();
+    }
+
+private:
+    std::unique_ptr<disruptor::halter> halter_;
+    handlers threads_;
+};
+
+// Builds a graph: handlers are added in order, and each follows those that the last `after` named, or none. A bad name is thrown
+// as std::invalid_argument.
+template <typename T>
+class builder {
+public:
+    // For a ring of `size` slots, a power of two up to 65,536.
+    explicit builder(std::uint64_t size) : size_(size) {}
+    // Adds a handler, which is shown each event: handle(const T &event, sequence, is_last_of_batch).
+    template <typename Handler>
+    builder &handle(const std::string &name, Handler handler) {
+        return add(name, false, [handler = std::move(handler)](receiver_in_place<T> &receiver) mutable {
+            receiver.run([&](const T &event, std::uint64_t sequence, bool is_last) { handler(event, sequence, is_last); });
+        });
+    }
+    // Adds a handler that changes events: handle(T &event, sequence, is_last_of_batch). Each other handler comes before it or after.
+    template <typename Handler>
+    builder &handle_mut(const std::string &name, Handler handler) {
+        return add(name, true, [handler = std::move(handler)](receiver_in_place<T> &receiver) mutable { receiver.run(handler); });
+    }
+    // The handlers that come next follow these.
+    builder &after(std::initializer_list<const char *> names) {
+        after_ = 0;
+        for (const char *name : names) after_ |= UINT64_C(1) << place_of(name);
+        return *this;
+    }
+    // The handlers that come next follow all that there are.
+    builder &and_then() {
+        after_ = (UINT64_C(1) << works_.size()) - 1;
+        return *this;
+    }
+    // Opens the ring, and starts a thread for each handler.
+    [[nodiscard]] running<T> start() {
+        must_be_alone();
+        ring_in_place<T> ring = open_in_place<T>(size_, upstreams_);
+        handlers threads = start_all(ring.receivers);
+        return running<T>(std::move(ring.sender), std::move(ring.halter), std::move(threads));
+    }
+    [[nodiscard]] running_of_several<T> start_several(std::size_t senders) {
+        must_be_alone();
+        ring_in_place_of_several<T> ring = open_several_in_place<T>(size_, upstreams_, senders);
+        handlers threads = start_all(ring.receivers);
+        return running_of_several<T>(std::move(ring.senders), std::move(ring.halter), std::move(threads));
+    }
+
+private:
+    struct work {
+        std::string name;
+        bool is_changing;
+        std::function<void(receiver_in_place<T> &)> run;
+        // All handlers that come before it.
+        std::uint64_t before;
+    };
+    template <typename Run>
+    builder &add(const std::string &name, bool is_changing, Run run) {
+        for (const work &other : works_)
+            if (other.name == name) throw std::invalid_argument("two handlers have the name " + name);
+        if (works_.size() == 16) throw refusal(DISRUPTOR_TOO_MANY);
+        std::uint64_t before = after_;
+        for (std::size_t k = 0; k < works_.size(); k++)
+            if (after_ >> k & 1) before |= works_[k].before;
+        works_.push_back({name, is_changing, std::move(run), before});
+        upstreams_.push_back(after_);
+        return *this;
+    }
+    std::size_t place_of(const std::string &name) const {
+        for (std::size_t k = 0; k < works_.size(); k++)
+            if (works_[k].name == name) return k;
+        throw std::invalid_argument("no handler before has the name " + name);
+    }
+    void must_be_alone() const {
+        for (std::size_t k = 0; k < works_.size(); k++)
+            for (std::size_t other = 0; works_[k].is_changing && other < works_.size(); other++)
+                if (other != k && !(works_[k].before >> other & 1) && !(works_[other].before >> k & 1))
+                    throw std::invalid_argument(works_[k].name + " would change events that another handler reads at the same time");
+    }
+    handlers start_all(std::vector<receiver_in_place<T>> &receivers) {
+        handlers threads;
+        for (std::size_t k = 0; k < works_.size(); k++) threads.start(works_[k].name, std::move(receivers[k]), std::move(works_[k].run));
+        works_.clear();
+        return threads;
+    }
+    std::uint64_t size_, after_ = 0;
+    std::vector<work> works_;
+    std::vector<std::uint64_t> upstreams_;
+};
+
+} // namespace disruptor
+#endif

@@ -1,0 +1,218 @@
+/* A graph of handlers by their names for C (11 or later, with threads of POSIX): one sender hands events of your own type, which lie in
+ * an array of yours, to handlers that have a thread each. It is made of the calls of disruptor.h, a ring of slots:
+ *
+ *   static struct order orders[1024];
+ *   disruptor_graph graph = DISRUPTOR_GRAPH(orders);
+ *   disruptor_handle(&graph, "journal", journal, NULL, "");
+ *   disruptor_handle_changing(&graph, "fees", fees, NULL, "journal");
+ *   uint32_t refused = disruptor_start(&graph);
+ *
+ * One thread uses a graph, and it stays where it is from the start to the end. */
+#ifndef DISRUPTOR_THREADS_H
+#define DISRUPTOR_THREADS_H
+
+#include "disruptor.h"
+#include <pthread.h>
+#include <string.h>
+
+enum { DISRUPTOR_MOST_HANDLERS = 16 };
+
+/* What is done with each event: it may read it where it lies, until it returns, and change it if it was added as one that does.
+ * `own` is what was given with it. It answers 0, or else the ring is halted, and disruptor_finish answers that. */
+typedef int disruptor_handler(void *own, void *event, uint64_t sequence, bool is_last_of_batch);
+
+struct disruptor_graph;
+
+/* A handler of a graph. */
+typedef struct disruptor_work {
+    const char *name;
+    disruptor_handler *handle;
+    void *own;
+    bool is_changing;
+    /* The handlers that it follows, and all that come before it. */
+    uint64_t upstreams, before;
+    struct disruptor_graph *graph;
+    pthread_t thread;
+} disruptor_work;
+
+typedef struct disruptor_graph {
+    disruptor_sender sender;
+    disruptor_receiver receivers[DISRUPTOR_MOST_HANDLERS];
+    disruptor_halter halter;
+    disruptor_bell bell;
+    disruptor_waiting waiting;
+    unsigned char *events;
+    size_t width;
+    uint64_t size;
+    disruptor_work works[DISRUPTOR_MOST_HANDLERS];
+    size_t handlers, started;
+    /* The first refusal while it was built. */
+    uint32_t refused;
+    /* Which handler failed first, or a null pointer, and what it answered. */
+    const char *failed;
+    int failure;
+    bool is_broken;
+    pthread_mutex_t lock;
+} disruptor_graph;
+
+/* A graph over an array of events, whose length is a power of two up to 65,536. */
+#define DISRUPTOR_GRAPH(array) disruptor_graph_of(array, sizeof(array) / sizeof *(array), sizeof *(array))
+static inline disruptor_graph disruptor_graph_of(void *events, uint64_t size, size_t width) {
+    disruptor_graph graph = {.events = (unsigned char *)events, .width = width, .size = size, .lock = PTHREAD_MUTEX_INITIALIZER};
+    return graph;
+}
+
+/* The place of the handler with this name, or of none. */
+static inline size_t disruptor_place_of(const disruptor_graph *graph, const char *name, size_t length) {
+    size_t k = 0;
+    while (k < graph->handlers && (strlen(graph->works[k].name) != length || memcmp(graph->works[k].name, name, length))) k++;
+    return k;
+}
+
+/* Adds a handler, which follows those that `after` names, with a space between two. The name stays where it is. Refusals: BAD_ORDER
+ * (one of the names of `after` is none before, or another handler has this name) and TOO_MANY; disruptor_start answers them too. */
+static inline uint32_t disruptor_add(disruptor_graph *graph, disruptor_work work, const char *after) {
+    uint32_t refused = DISRUPTOR_OK;
+    if (graph->handlers == DISRUPTOR_MOST_HANDLERS) refused = DISRUPTOR_TOO_MANY;
+    else if (disruptor_place_of(graph, work.name, strlen(work.name)) < graph->handlers) refused = DISRUPTOR_BAD_ORDER;
+    for (const char *name = after + strspn(after, " "); !refused && *name; name += strspn(name, " ")) {
+        const size_t length = strcspn(name, " "), up = disruptor_place_of(graph, name, length);
+        if (up == graph->handlers) refused = DISRUPTOR_BAD_ORDER;
+        else work.upstreams |= UINT64_C(1) << up, work.before |= UINT64_C(1) << up | graph->works[up].before;
+        name += length;
+    }
+    if (!refused) graph->works[graph->handlers++] = work;
+    else if (!graph->refused) graph->refused = refused;
+    return refused;
+}
+static inline uint32_t disruptor_handle(disruptor_graph *graph, const char *name, disruptor_handler *handle, void *own,
+                                        const char *after) {
+    disruptor_work work = {.name = name, .handle = handle, .own = own};
+    return disruptor_add(graph, work, after);
+}
+
+/* Adds one that changes events. Each other handler comes before it or after it, or disruptor_start is refused with BAD_ORDER. */
+static inline uint32_t disruptor_handle_changing(disruptor_graph *graph, const char *name, disruptor_handler *handle, void *own,
+                                                 const char *after) {
+    disruptor_work work = {.name = name, .handle = handle, .own = own, .is_changing = true};
+    return disruptor_add(graph, work, after);
+}
+
+/* Whether each handler that changes events has them alone. */
+static inline bool disruptor_are_alone(const disruptor_graph *graph) {
+    for (size_t k = 0; k < graph->handlers; k++)
+        for (size_t other = 0; graph->works[k].is_changing && other < graph->handlers; other++)
+            if (other != k && !(graph->works[k].before >> other & 1) && !(graph->works[other].before >> k & 1)) return false;
+    return true;
+}
+
+/* The event of a sequence. */
+static inline void *disruptor_slot(disruptor_graph *graph, uint64_t sequence) {
+    return graph->events + DISRUPTOR_SLOT(sequence, graph->size) * graph->width;
+}
+
+/* Halts the ring from any thread. */
+static inline void disruptor_stop(disruptor_graph *graph) {
+    pthread_mutex_lock(&graph->lock);
+    disruptor_halt(&graph->halter);
+    pthread_mutex_unlock(&graph->lock);
+    disruptor_ring(&graph->bell);
+}
+
+/* Halts it for a handler that ends before it had every event, so that nobody waits for it. */
+static inline void disruptor_give_up(disruptor_graph *graph, const char *name, int failure) {
+    pthread_mutex_lock(&graph->lock);
+    if (!graph->failed) graph->failed = name, graph->failure = failure;
+    pthread_mutex_unlock(&graph->lock);
+    __atomic_store_n(&graph->is_broken, true, __ATOMIC_SEQ_CST);
+    disruptor_stop(graph);
+}
+
+/* Shows a handler the events of a batch, and completes those before the one at which it fails. */
+static inline int disruptor_show(disruptor_work *work, disruptor_receiver *receiver, const disruptor_offer *offer) {
+    disruptor_graph *graph = work->graph;
+    uint64_t k = 0;
+    int failure = 0;
+    while (k < offer->count && !failure) {
+        failure = work->handle(work->own, disruptor_slot(graph, offer->first + k), offer->first + k, k + 1 == offer->count);
+        if (!failure) k++;
+    }
+    disruptor_complete(receiver, offer->first + k);
+    disruptor_ring(&graph->bell);
+    return failure;
+}
+
+/* The thread of a handler. */
+static inline void *disruptor_work_on(void *given) {
+    disruptor_work *work = (disruptor_work *)given;
+    disruptor_graph *graph = work->graph;
+    disruptor_receiver *receiver = &graph->receivers[work - graph->works];
+    disruptor_waiting waiting = disruptor_waits_by(graph->size, &graph->bell);
+    for (;;) {
+        disruptor_offer offer;
+        if (disruptor_poll_slots(receiver, graph->size, &offer) || offer.kind == DISRUPTOR_DRAINED) return NULL;
+        if (offer.kind == DISRUPTOR_BATCH) {
+            disruptor_found(&waiting, offer.count);
+            const int failure = disruptor_show(work, receiver, &offer);
+            if (!failure) continue;
+            disruptor_give_up(graph, work->name, failure);
+            return NULL;
+        }
+        if (__atomic_load_n(&graph->is_broken, __ATOMIC_SEQ_CST)) return NULL;
+        disruptor_wait(&waiting);
+    }
+}
+
+/* Closes the ring, waits until each handler had every event, and frees the ring. It answers 0, or what the first handler answered that
+ * failed: graph.failed names it. No event from the one on at which it failed was shown to those that follow it. */
+static inline int disruptor_finish(disruptor_graph *graph) {
+    disruptor_close(&graph->sender);
+    disruptor_ring(&graph->bell);
+    for (size_t k = 0; k < graph->started; k++) pthread_join(graph->works[k].thread, NULL);
+    graph->started = 0;
+    disruptor_free(&graph->sender);
+    for (size_t k = 0; k < graph->handlers; k++) disruptor_free(&graph->receivers[k]);
+    disruptor_free(&graph->halter);
+    return graph->failure;
+}
+
+/* Opens the ring, and starts a thread for each handler. Refusals: those of the calls that built the graph, BAD_ORDER where one that
+ * changes events has them not alone, those of disruptor_open_slots, and NO_MEMORY where a thread is not started. */
+static inline uint32_t disruptor_start(disruptor_graph *graph) {
+    uint64_t upstreams[DISRUPTOR_MOST_HANDLERS];
+    for (size_t k = 0; k < graph->handlers; k++) upstreams[k] = graph->works[k].upstreams;
+    if (graph->refused) return graph->refused;
+    if (!disruptor_are_alone(graph)) return DISRUPTOR_BAD_ORDER;
+    const uint32_t refused = disruptor_open_slots(graph->size, DISRUPTOR_MAX_LIMIT, upstreams, graph->handlers, &graph->sender,
+                                                  graph->receivers, graph->handlers, &graph->halter);
+    if (refused) return refused;
+    graph->waiting = disruptor_waits_by(graph->size, &graph->bell);
+    for (; graph->started < graph->handlers; graph->started++) {
+        disruptor_work *work = &graph->works[graph->started];
+        work->graph = graph;
+        if (pthread_create(&work->thread, NULL, disruptor_work_on, work)) {
+            disruptor_give_up(graph, work->name, -1);
+            disruptor_finish(graph);
+            return DISRUPTOR_NO_MEMORY;
+        }
+    }
+    return DISRUPTOR_OK;
+}
+
+/* Claims n events for the sender to fill, from the sequence *lo on, once there is room. Refusals: those of disruptor_claim but
+ * NO_ROOM; HALTED also where a handler failed. */
+static inline uint32_t disruptor_next(disruptor_graph *graph, uint64_t n, uint64_t *lo) {
+    uint32_t refused;
+    while ((refused = disruptor_claim(&graph->sender, n, lo)) == DISRUPTOR_NO_ROOM) disruptor_wait(&graph->waiting);
+    if (!refused) disruptor_found_room(&graph->waiting, n);
+    return refused;
+}
+
+/* Publishes them. Refusals: those of disruptor_publish_slots. */
+static inline uint32_t disruptor_send(disruptor_graph *graph, uint64_t lo, uint64_t n) {
+    const uint32_t refused = disruptor_publish_slots(&graph->sender, lo, lo + n - 1);
+    if (!refused) disruptor_ring(&graph->bell);
+    return refused;
+}
+
+#endif

@@ -1,0 +1,35 @@
+#!/usr/bin/env bash
+# Packs what `make lib` left in the folder OUT for those who use it without the kit: a tarball with the library, the headers, the
+# packages, and in README the line of the kit that proved it.
+#
+#   tools/dist.sh OUT
+set -eu
+top=$(cd "$(dirname "$0")/.." && pwd)
+out=$(cd "$1" && pwd)
+said=$(sed -n 's/^const VERSION: &str = "\(.*\)";$/\1/p' "$top/crates/dr_command_line/src/words.rt")
+name=disruptor-${said%%,*}-$(uname -s | tr '[:upper:]' '[:lower:]')-$(uname -m)
+room=$(mktemp -d)
+trap 'rm -rf "$room"' EXIT
+
+to=$room/$name
+mkdir -p "$to/lib/pkgconfig" "$to/lib/cmake/disruptor" "$to/include"
+cp -P "$out"/libdisruptor.* "$to/lib"
+# (it may be unpacked anywhere)
+sed 's|^prefix=.*|prefix=${pcfiledir}/../..|' "$out/disruptor.pc" > "$to/lib/pkgconfig/disruptor.pc"
+cp "$top"/include/* "$to/include"
+cp "$top"/bindings/cpp/*.cmake "$to/lib/cmake/disruptor"
+cp -r "$top/bindings/rust" "$to/rust"
+rm -rf "$to/rust/target" "$to/rust/Cargo.lock"
+for it in "$out"/*.whl "$out/disruptor.jar"; do
+    if [ -f "$it" ]; then cp "$it" "$to"; fi
+done
+cat > "$to/README" <<END
+disruptor $said
+
+C, C++   include and lib: pkg-config by lib/pkgconfig, CMake by lib/cmake
+Rust     rust is the crate: DISRUPTOR_LIB names the folder lib
+Python   the wheel, by pip
+Java     disruptor.jar
+END
+tar -C "$room" -czf "$out/$name.tar.gz" "$name"
+echo "$out/$name.tar.gz"
