@@ -1,45 +1,149 @@
--- The ends of a new ring, each given to a worker.
-use Rattle.std.proofs.Common.{◌≡◌, List, [], map, length, take, sym, subst, ap, ◌∙◌}
-use Rattle.std.proofs.Math.Seq.{take-nil}
+-- The ends of a new ring, and the ends of a ring that come together.
+use Rattle.std.proofs.Common.{◌≡◌, ℕ, zero, suc, ◌≤◌, Bool, true, List, [], All, length, map, Result, Ok, Err, refl, sym, ap, subst, ◌∙◌, arith, inl, inr, ⊎_elim}
+use Rattle.std.specs.Prelude.{Some}
+use Rattle.std.proofs.lemmas.Bool.{eq-eqb}
+use Rattle.std.proofs.lemmas.List.{length-map}
+use Rattle.std.proofs.lemmas.List.Elements.{All-cons, All-nil}
+use mathlib.Core.Option.{some, some-injective, some-ne-none}
+use lib.ListN.{get_elem?}
 use Rattle.atomic_table.specs.Seated.{TableId}
-use Rattle.dr_seq.specs.declared.event.Event.{Event}
-use Rattle.dr_ring.specs.declared.record.SenderRecord.{SenderRecord}
-use Rattle.dr_ring.specs.declared.record.Step.{Step}
-use Rattle.dr_ring.specs.Meaning.Moments.{fresh_receivers, fresh_sender}
-use Rattle.dr_ring.specs.Meaning.Shape.{Shape, handlers_of}
-use Rattle.dr_ring.specs.Calls.Ends.{HalterEnd, ReceiverEnd, SenderEnd, SenderPlace, sender_place}
-use Rattle.dr_ring.specs.Calls.Making.{AreFreshEnds, at_ring}
-use Rattle.dr_ring.specs.Calls.Settling.{AreAllEnds}
-use Rattle.dr_threads.specs.Serving.{given_end, given_handler}
-use Rattle.dr_disruptor.specs.Running.{new_sender}
-use Rattle.dr_disruptor.specs.Serving.{AreReady, Worker}
+use Rattle.dr_meaning.specs.declared.refusal.Refusal.{Refusal}
+use Rattle.dr_meaning.specs.declared.refusal.Refusal.TheVariants.{OpenClaim}
+use Rattle.dr_meaning.specs.Calls.Handling.{Relation}
+use Rattle.dr_runs.proofs.Lists.{map_there}
+use Rattle.dr_plain.specs.declared.record.SenderRecord.{SenderRecord}
+use Rattle.dr_plain.specs.declared.settled.Settled.{Settled}
+use Rattle.dr_plain.specs.Meaning.Moments.{fresh_receivers}
+use Rattle.dr_plain.specs.Meaning.Records.{claimed, events_of}
+use Rattle.dr_plain.specs.Meaning.Settling.{FoundUnhalted, Settles}
+use Rattle.dr_plain.specs.Meaning.Shape.{Shape, handlers_of}
+use Rattle.dr_plain.specs.Calls.Ends.{HalterStand, ReceiverEnd, ReceiverPlace, SenderEnd, SenderPlace, receiver_place, received_of, sender_place}
+use Rattle.dr_plain.specs.Calls.Making.{at_ring}
+use Rattle.dr_plain.specs.Calls.Sending.{CloseCall}
+use Rattle.dr_plain.specs.Calls.Settling.{AreAllEnds, HasRun, IsHalterOf, handler_counts}
+use Rattle.dr_disruptor.specs.declared.fault.RunFault.TheVariants as fault
+use Rattle.dr_disruptor.specs.declared.served.Served.{Served}
+use Rattle.dr_plain.specs.Calls.InPlace.{SawPublished}
+use Rattle.dr_disruptor.specs.Serving.{AreServed, IsIdle}
+use Rattle.dr_disruptor.specs.Handlers.{AllWentThrough}
+use Rattle.dr_disruptor.proofs.Through.{all_went, end_back, many_back}
+use Rattle.dr_disruptor.specs.Running.{AreSettled, HasAll, refusal_of}
 
-abbrev the_end : TableId → SenderRecord → List Step → List Step → SenderEnd
-the_end ring knows past stored = record { ring = ring; knows = knows; past = past; stored = stored }
+-- a run that was not refused for its handlers lacked memory or a thread
+pub memory_is : (graph given : ℕ) → given ≡ graph → refusal_of graph given ≡ fault.Memory
+memory_is graph given same = rw (eq-eqb graph given (sym same)) refl
 
-pub are_ready : {A : Type 0} (k : Shape) (s s' : SenderEnd) (rs : List ReceiverEnd) (t : HalterEnd) (starts : List A) (ws : List (Worker A))
-    → AreFreshEnds k s rs t → AreAllEnds s rs t
-    → s' ≡ s → map given_end ws ≡ rs → map given_handler ws ≡ starts → AreReady k starts s' ws t
-are_ready k s s' rs t starts ws fresh all same ends handlers =
-    subst (λ (e : SenderEnd). AreReady k starts e ws t) (sym same) (record {
-      fresh = subst (λ (l : List ReceiverEnd). AreFreshEnds k s l t) (sym ends) fresh;
-      ends = subst (λ (l : List ReceiverEnd). AreAllEnds s l t) (sym ends) all;
-      handlers = handlers;
-    })
+module _ {E : Type 0} where
+  abbrev pub is_told : ReceiverEnd E → Bool
+  is_told e = e.knows.told
 
--- what a sender that stayed at its place was when it was made, and the receivers beside it
-module _ (k : Shape) (s s' : SenderEnd) (rs : List ReceiverEnd) (t : HalterEnd) (fresh : AreFreshEnds k s rs t) (same : sender_place s' ≡ sender_place s) where
-  pub same_plan : s'.knows.plan ≡ k
-  same_plan = ap (λ (p : SenderPlace). p.1) same ∙ ap (λ (r : SenderRecord). r.plan) fresh.sender
+  abbrev pub saw_by : ReceiverEnd E → ℕ → Type 0
+  saw_by e n = SawPublished e.knows n
 
-  pub same_ends : rs ≡ map (at_ring s'.ring) (fresh_receivers s'.knows.plan 0 (handlers_of s'.knows.plan))
-  same_ends = fresh.receivers ∙ ap (λ (t : TableId). map (at_ring t) (fresh_receivers k 0 (handlers_of k))) (ap (λ (p : SenderPlace). p.0) (sym same))
-      ∙ ap (λ (q : Shape). map (at_ring s'.ring) (fresh_receivers q 0 (handlers_of q))) (sym same_plan)
+  -- the receivers of a new ring received nothing
+  pub none_received : (t : TableId) (k : Shape) (a n h : ℕ) (e : ReceiverEnd E) → get_elem? (map (at_ring t) (fresh_receivers k a n)) h ≡ some e
+      → (received_of e).events ≡ []
+  none_received t k a zero h e at = absurd (some-ne-none e (sym at))
+  none_received t k a (suc n) zero e at = sym (ap (λ (x : ReceiverEnd E). (received_of x).events) (some-injective _ e at))
+  none_received t k a (suc n) (suc h) e at = none_received t k (suc a) n h e at
 
-  pub made_so : s ≡ new_sender s'.ring k
-  made_so = ap (λ (r : SenderRecord). the_end s.ring r s.past s.stored) fresh.sender ∙ ap (λ (p : List Step). the_end s.ring (fresh_sender k) p s.stored) fresh.past
-      ∙ ap (the_end s.ring (fresh_sender k) []) fresh.stored ∙ ap (λ (p : SenderPlace). new_sender p.0 k) (sym same)
+  pub all_idle : (t : TableId) (k : Shape) (a n : ℕ) → All (λ (e : ReceiverEnd E). IsIdle (received_of e)) (map (at_ring t) (fresh_receivers k a n))
+  all_idle t k a zero = All-nil (λ (e : ReceiverEnd E). IsIdle (received_of e))
+  all_idle t k a (suc n) = All-cons (λ (e : ReceiverEnd E). IsIdle (received_of e)) _ _ refl (all_idle t k (suc a) n)
 
--- where nothing is published, nothing is received
-pub none_taken : (received published : List Event) → received ≡ take (length received) published → published ≡ [] → received ≡ []
-none_taken received published begins none = begins ∙ ap (take (length received)) none ∙ take-nil (length received)
+  -- a sender that stays at its place has the same ends beside it
+  pub all_moved : (s s' : SenderEnd E) (rs : List (ReceiverEnd E)) → sender_place s' ≡ sender_place s → AreAllEnds s rs → AreAllEnds s' rs
+  all_moved s s' rs same all = record {
+    all = all.all ∙ ap (λ (p : SenderPlace). handlers_of p.1) (sym same);
+    each = λ h e at. let a = all.each h e at in (a.0 ∙ ap (λ (p : SenderPlace). p.0) (sym same), a.1);
+  }
+
+  pub halter_moved : (s s' : SenderEnd E) (t : HalterStand E) → sender_place s' ≡ sender_place s → IsHalterOf s t → IsHalterOf s' t
+  halter_moved s s' t same is = is ∙ ap (λ (p : SenderPlace). p.0) (sym same)
+
+  -- what was served comes back as all ends of the ring
+  pub receivers_back : {A : Type 0} (goes : Relation E A) (room : ℕ) (s : SenderEnd E) (ends : List (ReceiverEnd E)) (starts : List A)
+      → (served : List (Served (ReceiverEnd E) A)) → AreServed receiver_place received_of is_told saw_by goes room ends starts served → AreAllEnds s ends
+      → AreAllEnds s (map (λ (b : Served (ReceiverEnd E) A). b.outlet) served)
+  receivers_back goes room s ends starts served are all = record {
+    all = many_back receiver_place received_of is_told saw_by goes room ends starts served are ∙ all.all;
+    each = λ h e at.
+        let (given, there, same, told, idle) = end_back receiver_place received_of is_told saw_by goes room ends starts served are h e at in
+        let was = all.each h given there in
+        (ap (λ (q : ReceiverPlace). q.0) same ∙ was.0, ap (λ (q : ReceiverPlace). q.2) same ∙ was.1);
+  }
+
+  -- who was told that the ring drained received what was published
+  pub came_to : (s : SenderRecord E) (outlets : List (ReceiverEnd E)) → Settles s (map (λ (e : ReceiverEnd E). e.knows) outlets)
+      → (h : ℕ) (e : ReceiverEnd E) → get_elem? outlets h ≡ some e → e.knows.told ≡ true → (received_of e).events ≡ events_of s.published
+  came_to s outlets settles h e at told =
+      ap events_of ((settles.each h e.knows (map_there (λ (x : ReceiverEnd E). x.knows) outlets h e at)).drained told)
+
+  -- and completed all that it received
+  pub has_all : (s : SenderEnd E) (outlets : List (ReceiverEnd E)) → Settles s.knows (map (λ (e : ReceiverEnd E). e.knows) outlets)
+      → (h : ℕ) (e : ReceiverEnd E) → get_elem? outlets h ≡ some e → e.knows.told ≡ true → IsIdle (received_of e) → HasAll s e
+  has_all s outlets settles h e at told idle =
+      let all = (settles.each h e.knows (map_there (λ (x : ReceiverEnd E). x.knows) outlets h e at)).drained told in
+      (all, idle ∙ length-map e.knows.received (λ l. l.event) ∙ ap length all)
+
+  -- a close publishes nothing
+  pub closes : (e e' : SenderEnd E) (result : Result (Unit {0}) Refusal) → CloseCall e e' result → e'.knows.published ≡ e.knows.published
+  closes e e' (Ok done) call = ap (λ (r : SenderRecord E). r.published) call.1.1
+  closes e e' (Err OpenClaim) call = ap (λ (r : SenderRecord E). r.published) call.1.1
+  closes e e' (Err other) call = absurd call.1
+
+  -- no receiver saw more published than was
+  pub saw_at_most : (s : SenderRecord E) (outlets : List (ReceiverEnd E)) → Settles s (map (λ (e : ReceiverEnd E). e.knows) outlets)
+      → (h : ℕ) (e : ReceiverEnd E) → get_elem? outlets h ≡ some e → (n : ℕ) → SawPublished e.knows n → n ≤ length s.published
+  saw_at_most s outlets settles h e at n saw =
+      let has = settles.each h e.knows (map_there (λ (x : ReceiverEnd E). x.knows) outlets h e at) in
+      let enough = saw.enough in
+      ⊎_elim (λ is. let most = has.seen saw.place 0 saw.saw saw.there (inl is) in omega arith)
+      (λ counted. let most = has.seen saw.place counted.0 saw.saw saw.there (inr counted.1) in omega arith)
+      saw.word
+
+  -- all handlers went through what the sender had published before it closed the ring
+  pub went_whole : {A : Type 0} (goes : Relation E A) (room : ℕ) (live s : SenderEnd E) (ends : List (ReceiverEnd E)) (starts : List A)
+      → (served : List (Served (ReceiverEnd E) A)) (answer : Result (Unit {0}) Refusal) → CloseCall live s answer
+      → AreServed receiver_place received_of is_told saw_by goes room ends starts served
+      → Settles s.knows (map (λ (e : ReceiverEnd E). e.knows) (map (λ (b : Served (ReceiverEnd E) A). b.outlet) served))
+      → ((h : ℕ) (e : ReceiverEnd E) → get_elem? ends h ≡ some e → (received_of e).events ≡ [])
+      → AllWentThrough goes room (events_of live.knows.published) starts (map (λ (b : Served (ReceiverEnd E) A). b.handler) served)
+  went_whole {A} goes room live s ends starts served answer close are settles fresh =
+      let outlets : List (ReceiverEnd E) = map (λ (b : Served (ReceiverEnd E) A). b.outlet) served in
+      let events = events_of live.knows.published in
+      let published = closes live s answer close in
+      let many : length s.knows.published ≡ length events = ap length published ∙ sym (length-map live.knows.published (λ l. l.event)) in
+      all_went receiver_place received_of is_told saw_by goes room ends starts served are events fresh
+      (λ h e at. (
+        came_to s.knows outlets settles h e at (end_back receiver_place received_of is_told saw_by goes room ends starts served are h e at).3
+            ∙ ap events_of published,
+        λ n saw. (let most = saw_at_most s.knows outlets settles h e at n saw in omega arith),
+      ))
+
+  -- the ends that came together are those that the answer remembers
+  pub are_settled : (back s : SenderEnd E) (outlets : List (ReceiverEnd E)) (t : HalterStand E) (settled : Settled E) (values : List E)
+      → (answer : Result (Unit {0}) Refusal) × CloseCall back s answer
+      → (settled.sender.value ≡ s) × (settled.receivers.value.items ≡ outlets) × (settled.halter.value ≡ t)
+      → HasRun s outlets t → Settles s.knows (map (λ (e : ReceiverEnd E). e.knows) outlets)
+      → ((h : ℕ) (e : ReceiverEnd E) → get_elem? outlets h ≡ some e → HasAll s e) → FoundUnhalted s.knows
+      → (settled.claimed ≡ claimed s.knows) × (settled.published ≡ length s.knows.published)
+      × (settled.handlers.items ≡ map (λ (e : ReceiverEnd E). handler_counts e.knows) outlets) × (map (λ (event : E). Some event) values ≡ s.cells)
+      → AreSettled back settled values
+  are_settled back s outlets t settled values close ends run lists whole unhalted counts =
+      let sent = sym ends.0 in
+      let received = sym ends.1 in
+      record {
+        closes = subst (λ (x : SenderEnd E). (answer : Result (Unit {0}) Refusal) × CloseCall back x answer) sent close;
+        sent = ap (λ (x : SenderEnd E). x.knows.published) ends.0 ∙ closes back s close.0 close.1;
+        run = subst (λ (x : HalterStand E). HasRun settled.sender.value settled.receivers.value.items x) (sym ends.2)
+            (subst (λ (l : List (ReceiverEnd E)). HasRun settled.sender.value l t) received (subst (λ (x : SenderEnd E). HasRun x outlets t) sent run));
+        lists = subst (λ (l : List (ReceiverEnd E)). Settles settled.sender.value.knows (map (λ (e : ReceiverEnd E). e.knows) l)) received
+            (subst (λ (x : SenderEnd E). Settles x.knows (map (λ (e : ReceiverEnd E). e.knows) outlets)) sent lists);
+        whole = λ h e at. subst (λ (x : SenderEnd E). HasAll x e) sent (whole h e (ap (λ (l : List (ReceiverEnd E)). get_elem? l h) received ∙ at));
+        unhalted = subst (λ (x : SenderEnd E). FoundUnhalted x.knows) sent unhalted;
+        claims = counts.0 ∙ ap (λ (x : SenderEnd E). claimed x.knows) sent;
+        published = counts.1 ∙ ap (λ (x : SenderEnd E). length x.knows.published) sent;
+        counts = counts.2 ∙ ap (map (λ (e : ReceiverEnd E). handler_counts e.knows)) received;
+        events = counts.3 ∙ ap (λ (x : SenderEnd E). x.cells) sent;
+      }

@@ -1,5 +1,9 @@
+pub mod Sending
 pub mod Serving
+pub mod Handlers
+pub mod OneOf
+pub mod Teams
 pub mod Running
-pub mod Refused
-pub mod OneThread
-pub mod OfTypes
+pub mod Here
+pub mod Feeding
+pub mod Merging

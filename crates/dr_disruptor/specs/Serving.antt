@@ -1,45 +1,65 @@
--- What the workers of a ring's handlers promise, and the ends that they are given.
-use Rattle.std.specs.Prelude.{◌≡◌, ℕ, ◌^◌, Bool, List, map, Some}
-use Rattle.dr_seq.specs.declared.event.Event.{Event}
+-- What a handler's worker promises, and what workers gave back.
+use Rattle.std.specs.Prelude.{◌≡◌, ◌⊎◌, ℕ, ◌+◌, ◌≤◌, Bool, true, List, length, Some, All}
+use mathlib.Core.Option.{some}
+use lib.ListN.{get_elem?}
+use Rattle.std.specs.declared.thread.PromisedHandle.{PromisedHandle}
 use Rattle.dr_meaning.specs.Calls.Ends.{Received}
 use Rattle.dr_meaning.specs.Calls.Handling.{Relation}
-use Rattle.dr_ring.specs.Meaning.Shape.{Shape}
-use Rattle.dr_ring.specs.Calls.Ends.{SenderEnd, ReceiverEnd, HalterEnd, receiver_place, received_of}
-use Rattle.dr_ring.specs.Calls.Making.{AreFreshEnds}
-use Rattle.dr_ring.specs.Calls.Settling.{AreAllEnds}
-use Rattle.dr_ring.specs.Calls.Telling.{receiver_does}
-use Rattle.dr_threads.specs.declared.served.Served as threads
-use Rattle.dr_threads.specs.Serving as serving
-use Rattle.dr_threads.specs.Serving.{given_end, given_handler}
+use Rattle.dr_workers.specs.Meaning.Work.{Dealt, Works}
+use Rattle.dr_meaning.specs.Calls.InPlaceOutlets.{SawMore}
+use Rattle.dr_disruptor.specs.declared.served.Served.{Served}
+use Rattle.dr_disruptor.specs.declared.served.ServesPromise.{ServesPromise}
 
--- what a receiver shows, and whether it was told that the ring drained
-abbrev pub received_by : ReceiverEnd → Received Event
-received_by e = received_of e.knows
+-- a batch of a poll with so much room: it fits, and its last event is marked, unless it fills the room and others come after it
+abbrev pub IsPolled : {E : Type 0} → ℕ → (ℕ → Type 0) → Dealt E → Type 0
+IsPolled room Are batch = (length batch.events ≤ room) × ((batch.end ≡ true) ⊎ ((length batch.events ≡ room) × Are (batch.first + room + 1)))
 
-abbrev pub is_told : ReceiverEnd → Bool
-is_told e = e.knows.told
+-- all that an end handed out is completed
+abbrev pub IsIdle : {E : Type 0} → Received E → Type 0
+IsIdle r = r.completed ≡ length r.events
 
--- what a handler's thread gives back, and the thread
-abbrev pub Served : Type 0 → Type 0
-Served A = threads.Served ReceiverEnd A
+-- a handler was shown exactly what its end handed out, batch by batch, in polls with so much room, and all of it is completed
+pub record Shows {O A K E : Type 0} (kept : O → K) (received : O → Received E) (saw : O → ℕ → Type 0) (goes : Relation E A) (room : ℕ) (before after : A) (old new : O) : Type 0 where
+  pub place : kept new ≡ kept old
+  pub batches : List (Dealt E)
+  pub works : Works goes before after (Some (received old)) (Some (received new)) batches
+  pub saw_more : SawMore (saw old) (saw new)
+  pub polled : All (IsPolled room (saw new)) batches
+  pub idle : IsIdle (received new)
 
-abbrev pub Worker : Type 0 → Type 0
-Worker A = serving.Worker ReceiverEnd A
+-- so it is of what a worker gave back, and its end was told that the exchange drained
+pub record Serving {O A K E : Type 0} (kept : O → K) (received : O → Received E) (told : O → Bool) (saw : O → ℕ → Type 0) (goes : Relation E A) (room : ℕ)
+    (start : A) (given : O) (back : Served O A) : Type 0 where
+  pub shows : Shows kept received saw goes room start back.handler given back.outlet
+  pub drained : told back.outlet ≡ true
 
--- a worker took a handler through exactly what its receiver handed out
-abbrev pub Serving : {A : Type 0} → Relation Event A → A → ReceiverEnd → Served A → Type 0
-Serving goes start given back = serving.Serving receiver_place receiver_does (λ e. Some (received_by e)) is_told goes start given back
+-- so it is of each of some ends and handlers at their places
+pub record AreServed {O A K E : Type 0} (kept : O → K) (received : O → Received E) (told : O → Bool) (saw : O → ℕ → Type 0) (goes : Relation E A) (room : ℕ)
+    (ends : List O) (starts : List A) (served : List (Served O A)) : Type 0 where
+  pub many : length served ≡ length ends
+  pub handlers : length served ≡ length starts
+  pub each : (h : ℕ) (back : Served O A) → get_elem? served h ≡ some back
+      → (given : O) × (start : A) × (get_elem? ends h ≡ some given) × (get_elem? starts h ≡ some start)
+      × Serving kept received told saw goes room start given back
+
+-- a handler's thread
+abbrev pub Worker : Type 0 → Type 0 → Type 0
+Worker O A = PromisedHandle (Served O A) (ServesPromise O A)
+
+-- the end that it was given, and the handler
+abbrev pub given_end : {O A : Type 0} → Worker O A → O
+given_end w = w.promise.end.value
+
+abbrev pub given_handler : {O A : Type 0} → Worker O A → A
+given_handler w = w.promise.start.value
+
+-- each polls with so much room
+abbrev pub AreInBatches : {O A : Type 0} → ℕ → List (Worker O A) → Type 0
+AreInBatches room workers = All (λ w. w.promise.batch ≡ room) workers
 
 -- each worker gave back what it promised, in their order
-abbrev pub GaveBack : {A : Type 0} → Relation Event A → List (Worker A) → List (Served A) → Type 0
-GaveBack goes workers served = serving.GaveBack receiver_place receiver_does (λ e. Some (received_by e)) is_told goes workers served
-
--- a ring of a graph and so many slots, for as many sequences as there may be
-abbrev pub shape_of : List (List ℕ) → ℕ → Shape
-shape_of upstreams size = record { upstreams = upstreams; size = size; limit = 2 ^ 62 }
-
--- the sender of a new ring of this shape, a worker for each handler, each with the ring's end at its place, and the halter; no end has done anything yet
-pub record AreReady {A : Type 0} (k : Shape) (starts : List A) (sender : SenderEnd) (workers : List (Worker A)) (halter : HalterEnd) : Type 0 where
-  pub fresh : AreFreshEnds k sender (map given_end workers) halter
-  pub ends : AreAllEnds sender (map given_end workers) halter
-  pub handlers : map given_handler workers ≡ starts
+pub record GaveBack {O A K E : Type 0} (kept : O → K) (received : O → Received E) (told : O → Bool) (saw : O → ℕ → Type 0) (goes : Relation E A)
+    (workers : List (Worker O A)) (served : List (Served O A)) : Type 0 where
+  pub many : length served ≡ length workers
+  pub each : (h : ℕ) (back : Served O A) → get_elem? served h ≡ some back
+      → (w : Worker O A) × (get_elem? workers h ≡ some w) × Serving kept received told saw goes w.promise.batch (given_handler w) (given_end w) back

@@ -1,20 +1,37 @@
-//! A ring with its threads, in one call: LMAX's `Disruptor`.
+//! A ring with its threads, in one call, for events of any type.
 //!
-//! [`run`] makes the ring of a graph, starts a thread for each handler, sends a script from the calling thread,
-//! and hands back the handlers with how far each came ([`Ran`]). [`run_with`] leaves the sending to a closure,
-//! for events that come up while it runs. A [`WaitStrategy`] says how they wait for one another. [`run_here`] takes
-//! the handlers through a script on the calling thread alone. Begin with `specs/Running`, and for `run_here` with
-//! `specs/OneThread`: they say what each handler went through. [`run_two`] and [`run_three`] take handlers of as many
-//! types. The handlers' threads are those of `dr_threads`.
+//! [`run`] makes the ring of a graph over the events that it is given, starts a thread for each handler, calls a closure
+//! with the ring's sender, and hands back the handlers and the events ([`Ran`]). Events are filled where they lie
+//! ([`LiveSender::publish_with`]), and handlers are shown them there. [`run_senders`] has several senders, each of which a
+//! closure on a thread of its own sends by, and [`run_here`] has all on the calling thread. Begin with `specs/Running`.
 #![tactic(auto)]
 
-mod of_types;
-mod one_thread;
+mod fault;
+mod feed;
+mod feeds;
+mod here;
+mod one_of;
 mod running;
+mod running_here;
+mod running_senders;
+mod sender;
+mod served;
+mod team;
+mod way;
 mod workers;
 
-pub use dr_threads::{RunFault, Served, ServesPromise, WaitStrategy, Waits, serve};
-pub use of_types::{OneOf, run_three, run_two};
-pub use one_thread::run_here;
-pub use running::{Ran, run, run_waiting, run_with};
-pub use workers::LiveSender;
+pub use fault::RunFault;
+pub use feed::Feed;
+pub use feeds::Sent;
+pub use dr_meaning::{ByValue, ClaimFault, InPlaceHandler, InPlaceInlet, InPlaceOutlet};
+pub use here::Here;
+pub use one_of::OneOf;
+pub use running::{Ran, run};
+pub use running_here::run_here;
+pub use running_senders::run_senders;
+pub use sender::LiveSender;
+pub use served::{Served, ServesPromise, serve};
+pub use dr_workers::WaitStrategy;
+pub use team::Team;
+pub use way::Way;
+pub use workers::{Back, Worker, apart, join, start, wait_for};

@@ -1,166 +1,190 @@
-//! A whole run over a ring.
+//! A whole run over a ring with one sender.
 
-ghost use Rattle.std.specs.Prelude.{◌≡◌, false, Option, IfErr, IfOk, length, map};
+ghost use Rattle.std.specs.Prelude.{◌≡◌, ◌<◌, [], All, false, IfErr, IfOk, length, map};
 ghost use Rattle.std.specs.Fn.{FnOnceReturnsAtMut};
-ghost use Rattle.dr_seq.specs.declared.event.Event.{Event};
-ghost use Rattle.dr_workers.specs.declared.fault.WorkFault.{WorkFault};
-ghost use Rattle.dr_ring.specs.Calls.Ends.{SenderEnd, sender_place};
-ghost use Rattle.dr_ring.specs.Calls.Making.{at_ring};
-ghost use Rattle.dr_ring.specs.Calls.Sending.{ClosesOnceDone};
-ghost use Rattle.dr_ring.specs.Calls.Settling.{AreAllEnds};
-ghost use Rattle.dr_ring.specs.Meaning.Moments.{fresh_receivers};
-ghost use Rattle.dr_ring.specs.Meaning.Records.{claimed as claimed_of};
-ghost use Rattle.dr_ring.specs.Meaning.Settling.{FoundUnhalted};
-ghost use Rattle.dr_ring.specs.Meaning.Shape.{handlers_of};
-ghost use Rattle.dr_threads.specs.Endings.{AreFine};
-ghost use Rattle.dr_threads.specs.Handlers.{AllWentThrough};
-ghost use Rattle.dr_threads.specs.Serving.{given_end, given_handler};
-ghost use Rattle.dr_disruptor.specs.Refused.{refusal_of};
-ghost use Rattle.dr_disruptor.specs.Running.{IsRan, IsRanBy, IsRun};
-ghost use Rattle.dr_disruptor.specs.Serving.{shape_of};
+ghost use denote.RawPtr.{Ptr};
+ghost use mathlib.Core.Option.{some};
+ghost use lib.ListN.{get_elem?};
+ghost use Rattle.dr_plain.specs.Calls.Ends.{ReceiverEnd, SenderEnd, received_of, sender_place};
+ghost use Rattle.dr_plain.specs.Calls.Making.{AreFreshEnds};
+ghost use Rattle.dr_plain.specs.Calls.Sending.{CloseCall};
+ghost use Rattle.dr_plain.specs.Calls.Settling.{AreAllEnds, IsHalterOf};
+ghost use Rattle.dr_plain.specs.Meaning.Records.{events_of};
+ghost use Rattle.dr_disruptor.specs.Handlers.{AllWentThrough};
+ghost use Rattle.dr_disruptor.specs.Serving.{AreInBatches, IsIdle, given_end, given_handler};
+ghost use Rattle.dr_disruptor.specs.Running.{AreSettled, IsRanBy, refusal_of, shape_of};
 
-use crate::workers::{Abandoned, LiveSender, Worker, begin, gathered, joined, open};
+use crate::fault::RunFault;
+use crate::sender::LiveSender;
+use crate::team::Team;
+use crate::way::Way;
+use crate::workers::{Back, Worker, apart, join, start, wait_for};
+use dr_cells::Values;
 use dr_graph::Graph;
-use dr_meaning::InPlaceHandler;
-use dr_ring::{Halter, Settled, settle_all};
-use dr_seq::{Event, Size};
-use dr_threads::{Back, RunFault, WaitStrategy};
-use dr_workers::{OpenGate, SENDER, WorkFault, produce_with};
-use std::alloc::Global;
-use std::sync::Wait;
+use dr_meaning::{InPlaceHandler, MAX_LIMIT};
+use dr_plain::{Halter, Receiver, Sender, Settled, finish, ring};
+use dr_seq::Size;
+use dr_workers::Bell;
+use std::alloc::{AllocError, Global};
+use std::sync::{Arc, Wait};
 use std::thread::Threads;
 
-/// What came of a run: with the handlers how many events were published, how far each handler came, and how each
-/// worker ended, the sender's last, which is number 16.
-pub type Ran<H> = dr_threads::Ran<H, Settled>;
-
-// Closes the ring, joins its threads, and brings the ends together. It closes it also where memory runs out.
-fn finish<R: Threads, H: InPlaceHandler<Event> + Drop>(
-    rt: &R,
-    alloc: Global,
-    mut sender: LiveSender,
-    workers: Vec<Worker<H>>,
-    halter: Halter,
-    fault: Option<WorkFault>,
-) -> Result<Ran<H>, Abandoned>
-    requires ends { AreAllEnds sender (map given_end workers.items) halter }
-    requires unhalted { halter.knows.halted ≡ false }
-    requires fresh { map given_end workers.items ≡ map (at_ring sender.ring) (fresh_receivers sender.knows.plan 0 (handlers_of sender.knows.plan)) }
-    ensures ran { IfOk result (IsRan H.goes sender.knows.plan (map given_handler workers.items) sender.knows.sent.published fault) }
-    ensures closes { IfOk result (λ ran. ClosesOnceDone sender ran.settled.sender.value) }
-    ensures claimed { IfOk result (λ ran. ran.settled.claimed ≡ claimed_of sender.knows) }
-    ensures unhalted { IfOk result (λ _. FoundUnhalted sender.knows) }
-    ensures abandoned { IfErr result (λ e. ClosesOnceDone sender e.sender.value) }
-{
-    let Ok(served) = joined(rt, &mut sender, workers) else {
-        return Err(Abandoned::of(&sender));
-    };
-    let Ok(back) = gathered(alloc, served, fault) else {
-        return Err(Abandoned::of(&sender));
-    };
-    let Back {
-        outlets,
-        handlers,
-        endings,
-    } = back;
-    let settled = settle_all(sender.into_end(), outlets, halter);
-    Ok(dr_threads::Ran {
-        handlers,
-        settled,
-        endings,
-    })
+/// What came of a run.
+#[derive(Drop)]
+pub struct Ran<E, T, S, A> {
+    /// The handlers.
+    pub handlers: T,
+    /// How many events were published, and how far each handler came.
+    pub settled: S,
+    /// The events, as they were left in the ring's cells.
+    pub events: Values<E>,
+    /// What the closure answered that sent them.
+    pub sent: A,
 }
 
-/// Makes a ring for a graph, starts a thread for each handler, which stand in the graph's order, and sends a
-/// script from this thread, in claims of a quarter of the ring. Then it closes the ring, and waits until each
-/// handler has had all events.
+/// The ends of a run's ring, and the bell that wakes those who park.
+pub(crate) type Opened<E> = (Sender<E>, Vec<Receiver<E>>, Halter<E>, Arc<Bell, Global>);
+
+// A new ring for a graph and as many handlers as it has.
+pub(crate) fn open<E: Drop>(
+    alloc: Global,
+    graph: &Graph,
+    size: Size,
+    events: Vec<E>,
+    handlers: usize,
+) -> Result<Opened<E>, RunFault>
+    requires { length events.items ≡ size }
+    ensures fresh { IfOk result (λ r. (strip : Ptr) × AreFreshEnds (shape_of graph.now.upstreams size strip) events.items r.0 r.1.items r.2) }
+    ensures ends { IfOk result (λ r. AreAllEnds r.0 r.1.items × IsHalterOf r.0 r.2) }
+    ensures many { IfOk result (λ r. (handlers ≡ length graph.now.upstreams) × (length r.1.items ≡ handlers)) }
+    ensures refused { IfErr result (λ e. e ≡ refusal_of (length graph.now.upstreams) handlers) }
+{
+    let expected = graph.len();
+    if handlers != expected {
+        return Err(RunFault::Handlers {
+            graph: expected,
+            given: handlers,
+        });
+    }
+    let bell = Arc::new(alloc, Bell::new())?;
+    let Ok((sender, receivers, halter)) = ring(alloc, graph, size, MAX_LIMIT, events) else {
+        return Err(RunFault::Memory);
+    };
+    Ok((sender, receivers, halter, bell))
+}
+
+// Starts a thread for each handler of a new ring, with its end. Where a thread cannot be started, nothing is sent, and
+// those that were started are joined.
+fn begin<
+    R: Threads + Wait + Copy + Send + 'static,
+    E: Drop + Send + Sync + 'static,
+    H: InPlaceHandler<E> + Drop + Send + 'static,
+>(
+    rt: R,
+    alloc: Global,
+    mut sender: Sender<E>,
+    receivers: Vec<Receiver<E>>,
+    handlers: Vec<H>,
+    bell: &Arc<Bell, Global>,
+    way: Way,
+) -> Result<(Sender<E>, Vec<Worker<Receiver<E>, H>>), AllocError>
+    requires many { length receivers.items ≡ length handlers.items }
+    requires idle { All (λ e. IsIdle (received_of e)) receivers.items }
+    requires batch { 0 < way.batch }
+    ensures sender { IfOk result (λ r. r.0 ≡ sender) }
+    ensures ends { IfOk result (λ r. map given_end r.1.items ≡ receivers.items) }
+    ensures starts { IfOk result (λ r. map given_handler r.1.items ≡ handlers.items) }
+    ensures batches { IfOk result (λ r. AreInBatches way.batch r.1.items) }
+{
+    match start(rt, alloc, receivers, handlers, bell, way) {
+        Ok(workers) => Ok((sender, workers)),
+        Err(started) => {
+            let _closed = sender.close();
+            bell.ring();
+            wait_for(&rt, started);
+            Err(AllocError)
+        }
+    }
+}
+
+// Closes the ring, and wakes those who park.
+fn closed<R: Wait + Copy, E>(live: LiveSender<R, Sender<E>>) -> Sender<E>
+    ensures { (answer : _) × CloseCall live result answer }
+{
+    let (mut sender, bell) = live.into_end();
+    let _closed = sender.close();
+    bell.ring();
+    sender
+}
+
+// Closes the ring, joins its threads, and brings the ends together. It closes it also where memory runs out.
+fn wind_up<R: Threads + Wait + Copy, E: Drop, H: InPlaceHandler<E> + Drop>(
+    rt: R,
+    alloc: Global,
+    live: LiveSender<R, Sender<E>>,
+    workers: Vec<Worker<Receiver<E>, H>>,
+    halter: Halter<E>,
+    batch: u64,
+) -> Result<(Vec<H>, Settled<E>, Values<E>), AllocError>
+    requires ends { AreAllEnds live (map given_end workers.items) }
+    requires halter { IsHalterOf live halter }
+    requires unhalted { halter.knows.halted ≡ false }
+    requires fresh { (h : _) (e : ReceiverEnd E) → get_elem? (map given_end workers.items) h ≡ some e → (received_of e).events ≡ [] }
+    requires batches { AreInBatches batch workers.items }
+    ensures through { IfOk result (λ r. AllWentThrough H.goes batch (events_of live.knows.published) (map given_handler workers.items) r.0.items) }
+    ensures settled { IfOk result (λ r. AreSettled live r.1 r.2) }
+{
+    let sender = closed(live);
+    let served = join(&rt, workers)?;
+    let Back { outlets, handlers } = apart(alloc, served)?;
+    let (settled, events) = finish(sender, outlets, halter);
+    Ok((handlers, settled, events))
+}
+
+/// Makes a ring for a graph over these events, one for each slot, which are filled again and again. It starts a thread
+/// for each handler, which stand in the graph's order, and calls `send` with the ring's sender. Then it closes the ring,
+/// waits until each handler has had all events, and hands back the handlers and the events. So each handler went through
+/// exactly what the closure left published, each event once, in sequence order from 0 on, in batches of at most as many
+/// as the way says. The closure may not put another ring's sender in the place of the one that it is given.
 ///
 /// It is refused with `Handlers` where there are not as many handlers as the graph has, and with `Memory` where
 /// a thread could not be started: then nothing was sent. Where memory runs out after that, what was done is lost.
-pub fn run_waiting<
-    R: Threads + Wait + Copy + Send + 'static,
-    H: InPlaceHandler<Event> + Drop + Send + 'static,
->(
-    rt: R,
-    alloc: Global,
-    graph: &Graph,
-    size: Size,
-    handlers: Vec<H>,
-    script: &[Event],
-    strategy: WaitStrategy,
-) -> Result<Ran<H>, RunFault>
-    // No worker has a fault, and each handler went through exactly the script.
-    ensures whole { IfOk result (λ ran. AreFine ran.endings.items × AllWentThrough H.goes script.now handlers.items ran.handlers.items) }
-    // It went over a new ring of this graph and size.
-    ensures run { IfOk result (IsRun H.goes (shape_of graph.now.upstreams size) handlers.items script.now) }
-    ensures many { IfOk result (λ _. length handlers.items ≡ length graph.now.upstreams) }
-    ensures refused { IfErr result (λ e. e ≡ refusal_of (length graph.now.upstreams) (length handlers.items)) }
-{
-    let (fresh, receivers, halter, bell) = open(alloc, graph, size, handlers.len())?;
-    let (mut sender, workers) = begin(rt, alloc, fresh, receivers, handlers, &bell, strategy)?;
-    // With less than the ring in a claim the handlers have events while the sender writes.
-    let cut = (size.get() / 4).max(1);
-    let mut waits = strategy.begin(&rt, &bell, size.get());
-    let produced = produce_with(&rt, &mut sender, &OpenGate, SENDER, script, cut, &mut waits);
-    let ran = finish(&rt, alloc, sender, workers, halter, produced.fault)?;
-    Ok(ran)
-}
-
-/// As [`run_waiting`], by parking: an idle thread takes next to nothing of its processor.
 pub fn run<
     R: Threads + Wait + Copy + Send + 'static,
-    H: InPlaceHandler<Event> + Drop + Send + 'static,
+    E: Drop + Send + Sync + 'static,
+    H: InPlaceHandler<E> + Drop + Send + 'static,
+    T: Team<E, One = H>,
+    A: Drop,
+    F: FnOnce(&mut LiveSender<R, Sender<E>>) -> A + Drop,
 >(
     rt: R,
     alloc: Global,
     graph: &Graph,
     size: Size,
-    handlers: Vec<H>,
-    script: &[Event],
-) -> Result<Ran<H>, RunFault>
-    ensures whole { IfOk result (λ ran. AreFine ran.endings.items × AllWentThrough H.goes script.now handlers.items ran.handlers.items) }
-    ensures run { IfOk result (IsRun H.goes (shape_of graph.now.upstreams size) handlers.items script.now) }
-    ensures many { IfOk result (λ _. length handlers.items ≡ length graph.now.upstreams) }
-    ensures refused { IfErr result (λ e. e ≡ refusal_of (length graph.now.upstreams) (length handlers.items)) }
-{
-    run_waiting(
-        rt,
-        alloc,
-        graph,
-        size,
-        handlers,
-        script,
-        WaitStrategy::Parking,
-    )
-}
-
-/// As [`run_waiting`], with the sending by a closure, which is given the ring's sender and claims, writes and
-/// publishes what it likes, and answers its fault, if it has one. It leaves no claim open, or the handlers
-/// wait for ever.
-pub fn run_with<
-    R: Threads + Wait + Copy + Send + 'static,
-    H: InPlaceHandler<Event> + Drop + Send + 'static,
-    F: FnOnce(&mut LiveSender) -> Option<WorkFault> + Drop,
->(
-    rt: R,
-    alloc: Global,
-    graph: &Graph,
-    size: Size,
-    handlers: Vec<H>,
-    strategy: WaitStrategy,
+    events: Vec<E>,
+    handlers: T,
+    way: Way,
     send: F,
-) -> Result<Ran<H>, RunFault>
+) -> Result<Ran<E, T, Settled<E>, A>, RunFault>
     requires callable { F.IsAlwaysCallable send }
-    // The closure does not put another ring's sender in the place of the one that it is given.
-    requires place { (given : SenderEnd) (fault : Option WorkFault) (back : SenderEnd) → FnOnceReturnsAtMut F.FnOnce send given fault back → sender_place back ≡ sender_place given }
-    ensures ran { IfOk result (IsRanBy (FnOnceReturnsAtMut F.FnOnce send) H.goes (shape_of graph.now.upstreams size) handlers.items) }
-    ensures many { IfOk result (λ _. length handlers.items ≡ length graph.now.upstreams) }
-    ensures refused { IfErr result (λ e. e ≡ refusal_of (length graph.now.upstreams) (length handlers.items)) }
+    requires events { length events.items ≡ size }
+    requires batch { 0 < way.batch }
+    requires place { (given : SenderEnd E) (answer : A) (back : SenderEnd E) → FnOnceReturnsAtMut F.FnOnce send given answer back → sender_place back ≡ sender_place given }
+    ensures ran { IfOk result (IsRanBy (FnOnceReturnsAtMut F.FnOnce send) (λ sender. sender) T.went way.batch (shape_of graph.now.upstreams size) events.items handlers) }
+    ensures many { IfOk result (λ _. length (T.listed handlers) ≡ length graph.now.upstreams) }
+    ensures refused { IfErr result (λ e. e ≡ refusal_of (length graph.now.upstreams) (length (T.listed handlers))) }
 {
-    let given = handlers.len();
-    let (fresh, receivers, halter, bell) = open(alloc, graph, size, given)?;
-    let (mut sender, workers) = begin(rt, alloc, fresh, receivers, handlers, &bell, strategy)?;
-    let fault = send(&mut sender);
-    let ran = finish(&rt, alloc, sender, workers, halter, fault)?;
-    Ok(ran)
+    let given = handlers.many();
+    let (fresh, receivers, halter, bell) = open(alloc, graph, size, events, given)?;
+    let list = handlers.into_list(alloc)?;
+    let (sender, workers) = begin(rt, alloc, fresh, receivers, list, &bell, way)?;
+    let mut live = LiveSender::new(rt, sender, bell, way.strategy);
+    let sent = send(&mut live);
+    let (list, settled, events) = wind_up(rt, alloc, live, workers, halter, way.batch)?;
+    Ok(Ran {
+        handlers: T::from_list(list),
+        settled,
+        events,
+        sent,
+    })
 }

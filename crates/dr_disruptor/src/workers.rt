@@ -1,152 +1,135 @@
-//! A ring with the threads of its handlers: how it is opened, and how it is closed.
+//! Handlers' threads: how they are started, and what they give back.
 
-ghost use Rattle.std.specs.Prelude.{◌≡◌, ◌++◌, ◌∷◌, [], IfErr, IfOk, length, map};
-ghost use Rattle.dr_ring.specs.Calls.Making.{AreFreshEnds};
-ghost use Rattle.dr_ring.specs.Calls.Sending.{ClosesOnceDone};
-ghost use Rattle.dr_ring.specs.Calls.Settling.{AreAllEnds};
-ghost use Rattle.dr_ring.specs.Meaning.Moments.{fresh_sender};
-ghost use Rattle.dr_threads.specs.Serving.{endings_from, given_end, given_handler};
-ghost use Rattle.dr_threads.specs.declared.fault.RunFault.TheVariants as fault;
-ghost use Rattle.dr_disruptor.specs.Refused.{LeavesUnsent, refusal_of};
-ghost use Rattle.dr_disruptor.specs.Serving.{GaveBack, shape_of};
+ghost use Rattle.std.specs.Prelude.{◌≡◌, ◌<◌, [], All, IfOk, OnOk, length, map};
+ghost use Rattle.dr_disruptor.specs.Serving.{AreInBatches, GaveBack, IsIdle, given_end, given_handler};
 
-use dr_graph::Graph;
-use dr_meaning::{InPlaceHandler, MAX_LIMIT};
-use dr_ring::{Halter, Receiver, Sender, ring};
-use dr_seq::{Event, Size};
-use dr_threads::{Back, RunFault, Served, WaitStrategy, apart, join, start, wait_for};
-use dr_workers::{Bell, Ended, Ringing, SENDER, WorkFault};
+use dr_meaning::{InPlaceHandler, InPlaceOutlet};
+use crate::served::{Served, ServesPromise, serve};
+use crate::way::Way;
+use dr_workers::Bell;
 use std::alloc::{AllocError, Global};
-use std::snapshot::Snapshot;
 use std::sync::{Arc, Wait};
-use std::thread::Threads;
-
-/// A run's sender, which wakes the handlers' threads.
-pub type LiveSender = Ringing<Sender, Arc<Bell, Global>>;
+use std::thread::{self, Promise, PromisedHandle, Threads, join_promised};
 
 /// A handler's thread.
-pub(crate) type Worker<H> = dr_threads::Worker<Receiver, H>;
+pub type Worker<O, H> = PromisedHandle<Served<O, H>, ServesPromise<O, H>>;
 
-/// That a run was given up, for lack of memory or of a thread, with its sender as it was let go.
-#[derive(Drop)]
-pub(crate) struct Abandoned {
-    sender: Snapshot<Sender>,
+// Starts a thread for each handler with the end at its place. Where one cannot be started the earlier ones are in `started`,
+// in which a thread has its place before it is started.
+fn start_each<
+    R: Threads + Wait + Copy + Send + 'static,
+    O: InPlaceOutlet + Drop + Send + 'static,
+    H: InPlaceHandler<O::Event> + Drop + Send + 'static,
+>(
+    rt: R,
+    started: &mut Vec<Worker<O, H>>,
+    outlets: Vec<O>,
+    handlers: Vec<H>,
+    bell: &Arc<Bell, Global>,
+    way: Way,
+) -> Result<(), AllocError>
+    requires none { started.old.items ≡ [] }
+    requires many { length outlets.items ≡ length handlers.items }
+    requires idle { All (λ o. IsIdle (O.received o)) outlets.items }
+    requires batch { 0 < way.batch }
+    ensures given { OnOk result ((map given_end started.new.items ≡ outlets.items) × (map given_handler started.new.items ≡ handlers.items)) }
+    ensures batches { OnOk result (AreInBatches way.batch started.new.items) }
+{
+    started.reserve(handlers.len())?;
+    let mut handlers = handlers.into_iter();
+    for outlet in outlets {
+        let Some(handler) = handlers.next() else {
+            unreachable!();
+        };
+        let bell = Arc::try_clone(bell)?;
+        let Ok(worker) = thread::spawn_with(
+            &rt,
+            ServesPromise::of(&outlet, &handler, way.batch),
+            move ||
+                requires { IsIdle (O.received outlet) × (0 < way.batch) }
+            { serve(&rt, outlet, handler, &bell, way) },
+        ) else {
+            return Err(AllocError);
+        };
+        started.push(worker)?;
+    }
+    Ok(())
 }
 
-impl Abandoned {
-    // Of a run that is given up here.
-    pub(crate) fn of(sender: &LiveSender) -> Abandoned
-        ensures { result.sender.value ≡ sender.now }
-    {
-        Abandoned {
-            sender: Snapshot::of(sender.end()),
+/// Starts a thread for each handler with the end at its place. Where one cannot be started, those that were come back
+/// as the error: the exchange is to be closed or halted, and then [`wait_for`] waits for them.
+pub fn start<
+    R: Threads + Wait + Copy + Send + 'static,
+    O: InPlaceOutlet + Drop + Send + 'static,
+    H: InPlaceHandler<O::Event> + Drop + Send + 'static,
+>(
+    rt: R,
+    alloc: Global,
+    outlets: Vec<O>,
+    handlers: Vec<H>,
+    bell: &Arc<Bell, Global>,
+    way: Way,
+) -> Result<Vec<Worker<O, H>>, Vec<Worker<O, H>>>
+    requires many { length outlets.items ≡ length handlers.items }
+    requires idle { All (λ o. IsIdle (O.received o)) outlets.items }
+    requires batch { 0 < way.batch }
+    ensures ends { IfOk result (λ workers. map given_end workers.items ≡ outlets.items) }
+    ensures starts { IfOk result (λ workers. map given_handler workers.items ≡ handlers.items) }
+    ensures batches { IfOk result (λ workers. AreInBatches way.batch workers.items) }
+{
+    let mut started = Vec::new(alloc);
+    match start_each(rt, &mut started, outlets, handlers, bell, way) {
+        Ok(()) => Ok(started),
+        Err(_) => Err(started),
+    }
+}
+
+/// Waits for threads whose results nobody wants.
+pub fn wait_for<R: Threads, T: Drop, P: Promise<T>>(rt: &R, threads: Vec<PromisedHandle<T, P>>) {
+    for one in threads {
+        let _result = one.join(rt);
+    }
+}
+
+/// What each thread gives back, of an exchange that was closed or halted. Where memory runs out all threads end too,
+/// and what they give back is lost.
+pub fn join<R: Threads, O: InPlaceOutlet + Drop, H: InPlaceHandler<O::Event> + Drop>(
+    rt: &R,
+    workers: Vec<Worker<O, H>>,
+) -> Result<Vec<Served<O, H>>, AllocError>
+    ensures { IfOk result (λ served. GaveBack O.kept O.received O.told O.saw H.goes workers.items served.items) }
+{
+    match join_promised(rt, workers) {
+        Ok(served) => Ok(served),
+        Err(failed) => {
+            wait_for(rt, failed.value);
+            Err(AllocError)
         }
     }
 }
 
-impl From<Abandoned> for RunFault {
-    ghost from_gives = { λ _ given. given ≡ fault.Memory };
-
-    fn from(_: Abandoned) -> RunFault {
-        RunFault::Memory
-    }
+/// What came back of handlers' workers: the ends and the handlers.
+#[derive(Drop)]
+pub struct Back<O, H> {
+    pub outlets: Vec<O>,
+    pub handlers: Vec<H>,
 }
 
-// Closes a ring before anything was sent, and waits for those of its threads that were started.
-fn abandon<R: Threads, H: InPlaceHandler<Event> + Drop>(
-    rt: &R,
-    mut sender: LiveSender,
-    workers: Vec<Worker<H>>,
-) -> Abandoned
-    ensures { ClosesOnceDone sender result.sender.value }
-{
-    let _closed = sender.call(|end| end.close());
-    wait_for(rt, workers);
-    Abandoned::of(&sender)
-}
-
-/// The ends of a new ring for a graph and as many handlers as it has, and the bell that wakes those who park.
-pub(crate) fn open(
+/// What handlers' workers gave back, each kind in a list of its own.
+pub fn apart<O: Drop, H: Drop>(
     alloc: Global,
-    graph: &Graph,
-    size: Size,
-    handlers: usize,
-) -> Result<(LiveSender, Vec<Receiver>, Halter, Arc<Bell, Global>), RunFault>
-    ensures fresh { IfOk result (λ r. AreFreshEnds (shape_of graph.now.upstreams size) r.0 r.1.items r.2) }
-    ensures ends { IfOk result (λ r. AreAllEnds r.0 r.1.items r.2) }
-    ensures many { IfOk result (λ r. (handlers ≡ length graph.now.upstreams) × (length r.1.items ≡ handlers)) }
-    ensures refused { IfErr result (λ e. e ≡ refusal_of (length graph.now.upstreams) handlers) }
-{
-    let expected = graph.len();
-    if handlers != expected {
-        return Err(RunFault::Handlers {
-            graph: expected,
-            given: handlers,
-        });
-    }
-    let bell = Arc::new(alloc, Bell::new())?;
-    let theirs = Arc::try_clone(&bell)?;
-    let Ok((sender, receivers, halter)) = ring(alloc, graph, size, MAX_LIMIT) else {
-        return Err(RunFault::Memory);
-    };
-    Ok((Ringing::new(sender, theirs), receivers, halter, bell))
-}
-
-/// Starts a thread for each handler of a new ring, with its end. Where a thread cannot be started, nothing is
-/// sent, and those that were started are joined.
-pub(crate) fn begin<
-    R: Threads + Wait + Copy + Send + 'static,
-    H: InPlaceHandler<Event> + Drop + Send + 'static,
->(
-    rt: R,
-    alloc: Global,
-    sender: LiveSender,
-    receivers: Vec<Receiver>,
-    handlers: Vec<H>,
-    bell: &Arc<Bell, Global>,
-    strategy: WaitStrategy,
-) -> Result<(LiveSender, Vec<Worker<H>>), Abandoned>
-    requires many { length receivers.items ≡ length handlers.items }
-    requires fresh { sender.knows ≡ fresh_sender sender.knows.plan }
-    ensures sender { IfOk result (λ r. r.0 ≡ sender) }
-    ensures ends { IfOk result (λ r. map given_end r.1.items ≡ receivers.items) }
-    ensures starts { IfOk result (λ r. map given_handler r.1.items ≡ handlers.items) }
-    ensures unsent { IfErr result (λ e. LeavesUnsent sender e.sender.value) }
-{
-    match start(rt, alloc, receivers, handlers, bell, strategy) {
-        Ok(workers) => Ok((sender, workers)),
-        Err(started) => Err(abandon(&rt, sender, started)),
-    }
-}
-
-// Closes the ring, unless the sender left a claim open, and has what each thread gives back. Where memory
-// runs out all threads end too, and what they give back is lost.
-pub(crate) fn joined<R: Threads, H: InPlaceHandler<Event> + Drop>(
-    rt: &R,
-    sender: &mut LiveSender,
-    workers: Vec<Worker<H>>,
-) -> Result<Vec<Served<Receiver, H>>, AllocError>
-    ensures closes { ClosesOnceDone sender.old sender.new }
-    ensures kept { IfOk result (λ served. GaveBack H.goes workers.items served.items) }
-{
-    let _done = sender.call(|end| end.close());
-    join(rt, workers)
-}
-
-// What workers gave back, each kind in a list of its own, with how the sender's ended.
-pub(crate) fn gathered<H: Drop>(
-    alloc: Global,
-    served: Vec<Served<Receiver, H>>,
-    sender: Option<WorkFault>,
-) -> Result<Back<Receiver, H>, AllocError>
+    served: Vec<Served<O, H>>,
+) -> Result<Back<O, H>, AllocError>
     ensures outlets { IfOk result (λ back. back.outlets.items ≡ map (λ s. s.outlet) served.items) }
     ensures handlers { IfOk result (λ back. back.handlers.items ≡ map (λ s. s.handler) served.items) }
-    ensures endings { IfOk result (λ back. back.endings.items ≡ endings_from 0 served.items ++ record { who = 16; fault = sender } ∷ []) }
 {
-    let mut back = apart(alloc, served)?;
-    back.endings.push(Ended {
-        who: SENDER,
-        fault: sender,
-    })?;
-    Ok(back)
+    let many = served.len();
+    let mut outlets = Vec::with_capacity(alloc, many)?;
+    let mut handlers = Vec::with_capacity(alloc, many)?;
+    for one in served {
+        let Served { outlet, handler } = one;
+        outlets.push(outlet)?;
+        handlers.push(handler)?;
+    }
+    Ok(Back { outlets, handlers })
 }

@@ -41,3 +41,5 @@ pub mod Publishing
 pub mod Writing
 pub mod ManyWrites
 pub mod Crossing
+pub mod InPlaceReceiving
+pub mod InPlaceSending

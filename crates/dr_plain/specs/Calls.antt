@@ -11,3 +11,4 @@ pub mod Replies
 pub mod Handing
 pub mod Inlets
 pub mod Outlets
+pub mod InPlace

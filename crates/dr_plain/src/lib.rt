@@ -8,6 +8,7 @@ pub mod events;
 mod exchanges;
 mod filling;
 pub mod finishing;
+mod in_place;
 pub mod inlet;
 pub mod laws;
 mod left;

@@ -75,3 +75,8 @@ pub mod Later
 pub mod Shutting
 pub mod Crossing
 pub mod Moved
+pub mod OwnStretch
+pub mod OwnPublished
+pub mod InPlaceSending
+pub mod MarksFound
+pub mod InPlaceReceiving

@@ -12,3 +12,4 @@ pub mod Publishing
 pub mod Inlets
 pub mod Settling
 pub mod Replies
+pub mod InPlace

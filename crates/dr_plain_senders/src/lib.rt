@@ -15,6 +15,7 @@ mod filling;
 mod finishing;
 mod gathered;
 mod giving_up;
+mod in_place;
 mod inlet;
 pub mod laws;
 mod left;

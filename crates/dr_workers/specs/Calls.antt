@@ -3,3 +3,4 @@ pub mod Fault
 pub mod Stops
 pub mod Serving
 pub mod Waits
+pub mod Strategies

@@ -17,6 +17,7 @@ mod patience;
 mod producer;
 mod retries;
 mod ringing;
+mod strategy;
 mod waiting;
 
 pub use bell::{Bell, Rings};
@@ -28,4 +29,5 @@ pub use parking::Parking;
 pub use patience::{Patience, Spinning};
 pub use producer::{Produced, produce, produce_with};
 pub use ringing::Ringing;
+pub use strategy::{WaitStrategy, Waits};
 pub use waiting::Waiting;

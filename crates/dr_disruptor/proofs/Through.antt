@@ -1,0 +1,80 @@
+-- What handlers went through, whose ends began anew and came to the same events.
+use Rattle.std.proofs.Common.{◌≡◌, ℕ, ◌≤◌, Bool, true, List, [], ◌++◌, length, map, sym, subst, ap, ◌∙◌}
+use mathlib.Core.Option.{some, some-injective}
+use lib.ListN.{get_elem?, length-map}
+use Rattle.dr_meaning.specs.Calls.Ends.{Received}
+use Rattle.dr_meaning.specs.Calls.Handling.{Relation}
+use Rattle.dr_workers.specs.Meaning.Work.{FollowFrom, dealt_events}
+use Rattle.dr_runs.proofs.Elements.{at_below, value_at}
+use Rattle.dr_runs.proofs.Lists.{at_map, map_there}
+use Rattle.dr_disruptor.specs.declared.served.Served.{Served}
+use Rattle.dr_disruptor.specs.Handlers.{AllWentThrough, WentThrough}
+use Rattle.dr_disruptor.proofs.Showing.{weaken}
+use Rattle.dr_disruptor.specs.Serving.{AreInBatches, AreServed, GaveBack, IsIdle, Serving, Shows, Worker, given_end, given_handler}
+
+module _ {O A K E : Type 0} (kept : O → K) (received : O → Received E) (told : O → Bool) (saw : O → ℕ → Type 0) (goes : Relation E A) (room : ℕ) where
+  -- over an end that handed out nothing before
+  pub went : (start after : A) (given back : O) (events : List E) → Shows kept received saw goes room start after given back
+      → (received given).events ≡ [] → (received back).events ≡ events → ((n : ℕ) → saw back n → n ≤ length events) → WentThrough goes room start after events
+  went start after given back events s none all most = record {
+    batches = s.batches;
+    through = s.works.through;
+    order = subst (λ (l : List E). FollowFrom (length l) s.batches) none s.works.handed.1;
+    dealt = sym (s.works.handed.0 ∙ ap (λ (l : List E). l ++ dealt_events s.batches) none) ∙ all;
+    polled = weaken room (saw back) (λ n. n ≤ length events) most s.batches s.polled;
+  }
+
+  -- what workers gave back that poll with so much room
+  pub served_by : (ws : List (Worker O A)) (served : List (Served O A)) → AreInBatches room ws → GaveBack kept received told saw goes ws served
+      → AreServed kept received told saw goes room (map given_end ws) (map given_handler ws) served
+  served_by ws served polls are = record {
+    many = are.many ∙ sym (length-map ws given_end);
+    handlers = are.many ∙ sym (length-map ws given_handler);
+    each = λ h back at.
+        let (w, at_w, serving) = are.each h back at in
+        let polls_so : w.promise.batch ≡ room = ap (λ (x : Worker O A). x.promise.batch) (sym (value_at ws h w w at_w)) ∙ polls h w (at_below ws h w at_w) in (
+          given_end w,
+          given_handler w,
+          map_there given_end ws h w at_w,
+          map_there given_handler ws h w at_w,
+          subst (λ (n : ℕ). Serving kept received told saw goes n (given_handler w) (given_end w) back) polls_so serving,
+        );
+  }
+
+  module _ (ends : List O) (starts : List A) (served : List (Served O A)) (are : AreServed kept received told saw goes room ends starts served) where
+    abbrev outlets : List O
+    outlets = map (λ (s : Served O A). s.outlet) served
+
+    abbrev handlers : List A
+    handlers = map (λ (s : Served O A). s.handler) served
+
+    -- as many ends came back as were given, each in the place of one of them
+    pub many_back : length outlets ≡ length ends
+    many_back = length-map served (λ (s : Served O A). s.outlet) ∙ are.many
+
+    pub end_back : (h : ℕ) (e : O) → get_elem? outlets h ≡ some e
+        → (given : O) × (get_elem? ends h ≡ some given) × (kept e ≡ kept given) × (told e ≡ true) × IsIdle (received e)
+    end_back h e at =
+        let (back, at_back, same) = at_map (λ (s : Served O A). s.outlet) served h e at in
+        let (given, start, at_end, at_start, serving) = are.each h back at_back in (
+          given,
+          at_end,
+          ap kept (sym same) ∙ serving.shows.place,
+          ap told (sym same) ∙ serving.drained,
+          subst (λ (x : O). IsIdle (received x)) same serving.shows.idle,
+        )
+
+    -- all handlers went through the events to which all ends came
+    pub all_went : (events : List E) → ((h : ℕ) (e : O) → get_elem? ends h ≡ some e → (received e).events ≡ [])
+        → ((h : ℕ) (e : O) → get_elem? outlets h ≡ some e → ((received e).events ≡ events) × ((n : ℕ) → saw e n → n ≤ length events))
+        → AllWentThrough goes room events starts handlers
+    all_went events begins come = record {
+      many = length-map served (λ (s : Served O A). s.handler) ∙ are.handlers;
+      each = λ h start after at_start at_after.
+          let (back, at_back, same) = at_map (λ (s : Served O A). s.handler) served h after at_after in
+          let (given, begun, at_end, at_begun, serving) = are.each h back at_back in
+          let is : begun ≡ start = some-injective begun start (sym at_begun ∙ at_start) in
+          let end = come h back.outlet (map_there (λ (s : Served O A). s.outlet) served h back at_back) in
+          let went_one = went begun back.handler given back.outlet events serving.shows (begins h given at_end) end.0 end.1 in
+          subst (λ (a : A). WentThrough goes room a after events) is (subst (λ (a : A). WentThrough goes room begun a events) same went_one);
+    }

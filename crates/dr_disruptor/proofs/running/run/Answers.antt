@@ -1,0 +1,105 @@
+use Rattle.std.proofs.Common.{rules, ◌≡◌, List, All, length, map, refl, sym, subst, ap, ◌∙◌}
+use Rattle.std.specs.Fn.{FnOnceReturnsAtMut}
+use Rattle.std.specs.Prelude.{IfErr}
+use lib.ListN.{get_elem?}
+use Rattle.dr_disruptor.specs.declared.fault.RunFault.{RunFault}
+use Rattle.dr_plain.specs.declared.record.SenderRecord.{SenderRecord}
+use Rattle.dr_plain.specs.Calls.Ends.{HalterStand, ReceiverEnd, SenderEnd, received_of, sender_place}
+use Rattle.dr_plain.specs.Meaning.Records.{events_of}
+use Rattle.dr_plain.specs.Calls.Settling.{AreAllEnds}
+use Rattle.dr_plain.specs.Meaning.Shape.{handlers_of}
+use Rattle.dr_disruptor.specs.Handlers.{AllWentThrough}
+use Rattle.dr_disruptor.specs.Serving.{IsIdle, given_handler}
+use Rattle.dr_plain.specs.Calls.InPlace.{sending_of}
+use Rattle.dr_disruptor.specs.Running.{shape_of}
+use Rattle.dr_disruptor.proofs.Ready.{all_idle, all_moved, halter_moved, memory_is, none_received}
+use Rattle.dr_disruptor.proofs.running.run.Goals as goal
+
+pub begin-requires-clause-idle : goal.begin-requires-clause-idle
+begin-requires-clause-idle g c =
+    let fresh = c.in_ok-fresh.ensures.fresh in
+    let k = shape_of c.args.graph.now.upstreams c.args.size fresh.0 in
+    let all : All (λ (e : ReceiverEnd g.row.E.Denot). IsIdle (received_of e)) c.in_ok-fresh.receivers.items =
+    subst (All (λ (e : ReceiverEnd g.row.E.Denot). IsIdle (received_of e))) (sym fresh.1.receivers) (all_idle c.in_ok-fresh.fresh.ring k 0 (handlers_of k)) in
+    λ lifetimes outlive. all
+
+pub new-live-requires-clause-none : goal.new-live-requires-clause-none
+new-live-requires-clause-none g c =
+    ap (λ (s : SenderEnd g.row.E.Denot). (sending_of s).published) c.in_ok-sender.ensures.sender
+    ∙ ap (λ (r : SenderRecord g.row.E.Denot). events_of r.published) c.in_ok-fresh.ensures.fresh.1.sender
+
+pub wind_up-requires-clause-ends : goal.wind_up-requires-clause-ends
+wind_up-requires-clause-ends g c =
+    let made = c.in_ok-fresh in
+    let begun = c.in_ok-sender in
+    let sent = c.send-sent in
+    let gave : FnOnceReturnsAtMut g.F.FnOnce c.args.send c.new-live.result sent.result sent.new.arg2 =
+    record { shown = _; shows = refl; left = _; met = sent.ensures; leaves = refl } in
+    let same = c.requires.place c.new-live.result sent.result sent.new.arg2 gave ∙ ap sender_place (c.new-live.ensures ∙ begun.ensures.sender) in
+    all_moved made.fresh sent.new.arg2 _ same
+    (subst (λ (l : List (ReceiverEnd g.row.E.Denot)). AreAllEnds made.fresh l) (sym begun.ensures.ends) made.ensures.ends.0)
+
+pub wind_up-requires-clause-halter : goal.wind_up-requires-clause-halter
+wind_up-requires-clause-halter g c =
+    let made = c.in_ok-fresh in
+    let begun = c.in_ok-sender in
+    let sent = c.send-sent in
+    let gave : FnOnceReturnsAtMut g.F.FnOnce c.args.send c.new-live.result sent.result sent.new.arg2 =
+    record { shown = _; shows = refl; left = _; met = sent.ensures; leaves = refl } in
+    let same = c.requires.place c.new-live.result sent.result sent.new.arg2 gave ∙ ap sender_place (c.new-live.ensures ∙ begun.ensures.sender) in
+    halter_moved made.fresh sent.new.arg2 made.halter same made.ensures.ends.1
+
+pub wind_up-requires-clause-unhalted : goal.wind_up-requires-clause-unhalted
+wind_up-requires-clause-unhalted g c = ap (λ (t : HalterStand g.row.E.Denot). t.knows.halted) c.in_ok-fresh.ensures.fresh.1.halter
+
+pub wind_up-requires-clause-fresh : goal.wind_up-requires-clause-fresh
+wind_up-requires-clause-fresh g c =
+    let made = c.in_ok-fresh in
+    let fresh = made.ensures.fresh in
+    let k = shape_of c.args.graph.now.upstreams c.args.size fresh.0 in λ h e at.
+    none_received made.fresh.ring k 0 (handlers_of k) h e
+    (ap (λ (l : List (ReceiverEnd g.row.E.Denot)). get_elem? l h) (sym (c.in_ok-sender.ensures.ends ∙ fresh.1.receivers)) ∙ at)
+
+pub returns-in_err-list-clause-refused : goal.returns-in_err-list-clause-refused
+returns-in_err-list-clause-refused g c =
+    let is = memory_is (length c.args.graph.now.upstreams) (length (g.T.Team.listed c.args.handlers)) (sym c.many-given.ensures ∙ c.in_ok-fresh.ensures.many.0) in
+    subst (λ (f : RunFault). IfErr c.from_residual-in_err-list.result (λ e. e ≡ f)) (sym is) (search rules)
+
+pub returns-in_err-sender-clause-refused : goal.returns-in_err-sender-clause-refused
+returns-in_err-sender-clause-refused g c =
+    let is = memory_is (length c.args.graph.now.upstreams) (length (g.T.Team.listed c.args.handlers)) (sym c.many-given.ensures ∙ c.in_ok-fresh.ensures.many.0) in
+    subst (λ (f : RunFault). IfErr c.from_residual-in_err-sender.result (λ e. e ≡ f)) (sym is) (search rules)
+
+pub returns-in_err-list-2-clause-refused : goal.returns-in_err-list-2-clause-refused
+returns-in_err-list-2-clause-refused g c =
+    let is = memory_is (length c.args.graph.now.upstreams) (length (g.T.Team.listed c.args.handlers)) (sym c.many-given.ensures ∙ c.in_ok-fresh.ensures.many.0) in
+    subst (λ (f : RunFault). IfErr c.from_residual-in_err-list-2.result (λ e. e ≡ f)) (sym is) (search rules)
+
+pub from_list-requires-after_bounds : goal.from_list-requires-after_bounds
+from_list-requires-after_bounds g c =
+    let starts = c.in_ok-sender.ensures.starts ∙ c.in_ok-list.ensures in
+    let events = events_of c.send-sent.new.arg2.knows.published in
+    let wound = c.in_ok-list-2 in
+    λ lifetimes outlive. g.met.T.Team.stay c.args.way.batch events c.args.handlers wound.list.items
+    (subst (λ l. AllWentThrough g.H.InPlaceHandler.goes c.args.way.batch events l wound.list.items) starts wound.ensures.through)
+
+pub returns-clause-ran : goal.returns-clause-ran
+returns-clause-ran g c =
+    let made = c.in_ok-fresh in
+    let sent = c.send-sent in
+    let starts = c.in_ok-sender.ensures.starts ∙ c.in_ok-list.ensures in
+    let events = events_of sent.new.arg2.knows.published in
+    let wound = c.in_ok-list-2 in
+    let same : c.new-live.result ≡ made.fresh = c.new-live.ensures ∙ c.in_ok-sender.ensures.sender in
+    record {
+      strip = made.ensures.fresh.0;
+      given = c.new-live.result;
+      back = sent.new.arg2;
+      fresh = ap (λ (s : SenderEnd g.row.E.Denot). s.knows) same ∙ made.ensures.fresh.1.sender;
+      cells = ap (λ (s : SenderEnd g.row.E.Denot). s.cells) same ∙ made.ensures.fresh.1.cells;
+      sending = record { shown = _; shows = refl; left = _; met = sent.ensures; leaves = refl };
+      through = g.met.T.Team.go c.args.way.batch events c.args.handlers c.from_list.result
+          (subst (λ l. AllWentThrough g.H.InPlaceHandler.goes c.args.way.batch events l (g.T.Team.listed c.from_list.result)) starts
+          (subst (λ l. AllWentThrough g.H.InPlaceHandler.goes c.args.way.batch events (map given_handler c.in_ok-sender.workers.items) l) (sym c.from_list.ensures) wound.ensures.through));
+      settled = wound.ensures.settled;
+    }

@@ -1,0 +1,39 @@
+use Rattle.std.proofs.Common.{refl, subst, ◌∙◌}
+use Rattle.dr_meaning.specs.Calls.Filling.{FillsFrom}
+use Rattle.dr_disruptor.specs.Sending.{FillsOn, SendsAll}
+use Rattle.dr_disruptor.proofs.Stretches.{counted_all, filled_none, is_whole, sends}
+use Rattle.dr_disruptor.proofs.sender.LiveSender.publish_batch.Goals as goal
+
+pub fill_by-requires-clause-within : goal.fill_by-requires-clause-within
+fill_by-requires-clause-within g c =
+    filled_none (λ events. FillsOn (FillsFrom g.F.FnMut) c.args.fill.now 0 events c.args.fill.now) c.args.n c.in_ok-lo.field-0.lo
+    (g.I.InPlaceInlet.sending c.self.inside.end) (g.I.InPlaceInlet.sending c.claim.new.end) c.in_ok-lo.ensures.opens refl
+
+pub publish-requires : goal.publish-requires
+publish-requires g c = record {
+  whole = is_whole (λ events. FillsOn (FillsFrom g.F.FnMut) c.args.fill.now 0 events c.fill_by.new.fill) c.args.n c.in_ok-lo.field-0
+      (g.I.InPlaceInlet.sending c.claim.new.end) (g.I.InPlaceInlet.sending c.fill_by.new.end) c.in_ok-lo.ensures.stretch c.fill_by.ensures.filled;
+}
+
+pub invariant_of-self-2 : goal.invariant_of-self-2
+invariant_of-self-2 g c = (
+  c.publish.ensures.publishes.closed,
+  c.counted-self-inside.ensures
+      ∙ counted_all (λ events. FillsOn (FillsFrom g.F.FnMut) c.args.fill.now 0 events c.fill_by.new.fill) c.args.n c.self.inside.sent
+      (g.I.InPlaceInlet.sending c.self.inside.end).published (g.I.InPlaceInlet.sending c.publish.new.self).published
+      (sends (λ events. FillsOn (FillsFrom g.F.FnMut) c.args.fill.now 0 events c.fill_by.new.fill) c.args.n c.in_ok-lo.field-0.lo
+      (g.I.InPlaceInlet.sending c.self.inside.end) (g.I.InPlaceInlet.sending c.claim.new.end)
+      (g.I.InPlaceInlet.sending c.fill_by.new.end) (g.I.InPlaceInlet.sending c.publish.new.self) c.in_ok-lo.ensures.opens c.fill_by.ensures.filled
+      c.publish.ensures.publishes)
+      c.self.invariant.1,
+)
+
+pub returns-clause-sent : goal.returns-clause-sent
+returns-clause-sent g c =
+    subst (λ (e : g.row.I.Denot). SendsAll (λ events. FillsOn (FillsFrom g.F.FnMut) c.args.fill.now 0 events c.fill_by.new.fill) c.args.n
+    (g.I.InPlaceInlet.sending e).published (g.I.InPlaceInlet.sending c.publish.new.self).published)
+    c.self.view_is
+    (sends (λ events. FillsOn (FillsFrom g.F.FnMut) c.args.fill.now 0 events c.fill_by.new.fill) c.args.n c.in_ok-lo.field-0.lo
+    (g.I.InPlaceInlet.sending c.self.inside.end) (g.I.InPlaceInlet.sending c.claim.new.end)
+    (g.I.InPlaceInlet.sending c.fill_by.new.end) (g.I.InPlaceInlet.sending c.publish.new.self) c.in_ok-lo.ensures.opens c.fill_by.ensures.filled
+    c.publish.ensures.publishes)

@@ -1,0 +1,37 @@
+use Rattle.std.proofs.Common.{subst, ◌∙◌}
+use Rattle.dr_meaning.specs.Calls.Filling.{FillsOne}
+use Rattle.dr_disruptor.specs.Sending.{Fills, SendsAll}
+use Rattle.dr_disruptor.proofs.Stretches.{counted_all, filled_none, is_whole, sends}
+use Rattle.dr_disruptor.proofs.sender.LiveSender.publish_part.Goals as goal
+
+pub fill_each-requires-clause-within : goal.fill_each-requires-clause-within
+fill_each-requires-clause-within g c =
+    filled_none (Fills (FillsOne g.F.Fn c.args.fill.now) c.args.first) c.args.n c.in_ok-lo.field-0.lo (g.I.InPlaceInlet.sending c.self.inside.end)
+    (g.I.InPlaceInlet.sending c.claim.new.end) c.in_ok-lo.ensures.opens tt
+
+pub publish-requires : goal.publish-requires
+publish-requires g c = record {
+  whole = is_whole (Fills (FillsOne g.F.Fn c.args.fill.now) c.args.first) c.args.n c.in_ok-lo.field-0 (g.I.InPlaceInlet.sending c.claim.new.end)
+      (g.I.InPlaceInlet.sending c.fill_each.new.end) c.in_ok-lo.ensures.stretch c.fill_each.ensures.filled;
+}
+
+pub invariant_of-self-2 : goal.invariant_of-self-2
+invariant_of-self-2 g c = (
+  c.publish.ensures.publishes.closed,
+  c.counted-self-inside.ensures
+      ∙ counted_all (Fills (FillsOne g.F.Fn c.args.fill.now) c.args.first) c.args.n c.self.inside.sent (g.I.InPlaceInlet.sending c.self.inside.end).published
+      (g.I.InPlaceInlet.sending c.publish.new.self).published
+      (sends (Fills (FillsOne g.F.Fn c.args.fill.now) c.args.first) c.args.n c.in_ok-lo.field-0.lo (g.I.InPlaceInlet.sending c.self.inside.end) (g.I.InPlaceInlet.sending c.claim.new.end)
+      (g.I.InPlaceInlet.sending c.fill_each.new.end) (g.I.InPlaceInlet.sending c.publish.new.self) c.in_ok-lo.ensures.opens c.fill_each.ensures.filled
+      c.publish.ensures.publishes)
+      c.self.invariant.1,
+)
+
+pub returns-clause-sent : goal.returns-clause-sent
+returns-clause-sent g c =
+    let fills = Fills (FillsOne g.F.Fn c.args.fill.now) c.args.first in
+    subst (λ (e : g.row.I.Denot). SendsAll fills c.args.n (g.I.InPlaceInlet.sending e).published (g.I.InPlaceInlet.sending c.publish.new.self).published)
+    c.self.view_is
+    (sends fills c.args.n c.in_ok-lo.field-0.lo (g.I.InPlaceInlet.sending c.self.inside.end) (g.I.InPlaceInlet.sending c.claim.new.end)
+    (g.I.InPlaceInlet.sending c.fill_each.new.end) (g.I.InPlaceInlet.sending c.publish.new.self) c.in_ok-lo.ensures.opens c.fill_each.ensures.filled
+    c.publish.ensures.publishes)

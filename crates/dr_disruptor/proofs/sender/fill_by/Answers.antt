@@ -1,0 +1,25 @@
+use Rattle.std.proofs.Common.{◌+◌, refl, arith, ◌∙◌}
+use Rattle.dr_meaning.specs.Calls.Filling.{FillsFrom}
+use Rattle.dr_disruptor.specs.Sending.{FillsOn}
+use Rattle.dr_disruptor.proofs.Stretches.{fills_on, filled_more, may_fill}
+use Rattle.dr_disruptor.proofs.sender.fill_by.Goals as goal
+
+pub update_by-requires-clause-within : goal.update_by-requires-clause-within
+update_by-requires-clause-within g c =
+    may_fill (λ events. FillsOn (FillsFrom g.F.FnMut) c.args.fill.now 0 events c.loop-k.fill) c.loop-k.k c.args.n c.args.lo (c.args.lo + c.loop-k.k)
+    (g.I.InPlaceInlet.sending c.args.end.now) (g.I.InPlaceInlet.sending c.loop-k.end) c.loop-k.invariant.2 c.loop-k-test.true refl
+
+pub loop-k-preserved : goal.loop-k-preserved
+loop-k-preserved g c =
+    let by = FillsFrom g.F.FnMut in
+    let start = c.args.fill.now in
+    let old = c.loop-k.fill in
+    let new = c.update_by.new.fill in (
+      c.update_by.ensures.callable,
+      c.update_by.ensures.kept ∙ c.loop-k.invariant.1,
+      filled_more (λ events. FillsOn by start 0 events old) (λ events. FillsOn by start 0 events new) (λ was now. by old c.loop-k.k was new now)
+          c.loop-k.k c.args.n c.args.lo (c.args.lo + c.loop-k.k)
+          (g.I.InPlaceInlet.sending c.args.end.now) (g.I.InPlaceInlet.sending c.loop-k.end) (g.I.InPlaceInlet.sending c.update_by.new.self)
+          c.loop-k.invariant.2 c.loop-k-test.true refl
+          (λ events was now many are left. fills_on by 0 c.loop-k.k events start old new was now are (omega arith) left) c.update_by.ensures.changes,
+    )

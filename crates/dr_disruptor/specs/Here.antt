@@ -1,0 +1,40 @@
+-- What a ring's sender is that has the ring's handlers on its thread.
+use Rattle.std.specs.Prelude.{◌≡◌, ℕ, List, length}
+use mathlib.Core.Option.{some}
+use lib.ListN.{get_elem?}
+use Rattle.dr_meaning.specs.Calls.Ends.{Received}
+use Rattle.dr_meaning.specs.Calls.Handling.{Relation}
+use Rattle.dr_plain.specs.Calls.Ends.{ReceiverEnd, SenderEnd, SenderPlace, sender_place}
+use Rattle.dr_meaning.specs.declared.claim_fault.ClaimFault.{ClaimFault}
+use Rattle.dr_meaning.specs.Calls.InPlaceInlets.{Sending}
+use Rattle.dr_plain.specs.Calls.InPlace.{RefusesClaim, sending_of}
+use Rattle.dr_disruptor.specs.Serving.{Shows}
+
+-- each of some handlers was shown what its end handed out, from what both were before
+pub record AreShown {O A K E : Type 0} (kept : O → K) (received : O → Received E) (saw : O → ℕ → Type 0) (goes : Relation E A) (room : ℕ)
+    (ends : List O) (starts : List A) (outlets : List O) (handlers : List A) : Type 0 where
+  pub many : length outlets ≡ length ends
+  pub alike : length handlers ≡ length outlets
+  pub begun : length starts ≡ length ends
+  pub each : (h : ℕ) (outlet : O) (handler : A) → get_elem? outlets h ≡ some outlet → get_elem? handlers h ≡ some handler
+      → (end : O) × (start : A) × (get_elem? ends h ≡ some end) × (get_elem? starts h ≡ some start) × Shows kept received saw goes room start handler end outlet
+
+-- the ring's sender, and with which ends and handlers it began, which take so many events at once
+pub record HereEnd (E A : Type 0) : Type 0 where
+  pub sender : SenderEnd E
+  pub ends : List (ReceiverEnd E)
+  pub starts : List A
+  pub batch : ℕ
+
+abbrev pub HerePlace : Type 0 → Type 0 → Type 0
+HerePlace E A = SenderPlace × List (ReceiverEnd E) × List A × ℕ
+
+module _ {E A : Type 0} where
+  abbrev pub here_place : HereEnd E A → HerePlace E A
+  here_place e = (sender_place e.sender, e.ends, e.starts, e.batch)
+
+  abbrev pub sending_here : HereEnd E A → Sending E
+  sending_here e = sending_of e.sender
+
+  abbrev pub refuses_here : HereEnd E A → ℕ → ClaimFault → HereEnd E A → Type 0
+  refuses_here e n fault e' = RefusesClaim e.sender n fault e'.sender

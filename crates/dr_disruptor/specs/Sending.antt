@@ -1,0 +1,59 @@
+-- What a run's sender has filled and published.
+use Rattle.std.specs.Prelude.{◌≡◌, ◌≢◌, ℕ, ◌+◌, ◌-◌, ◌<◌, min, List, [], ◌∷◌, ◌++◌, Some, None, length, map, replicate}
+use Rattle.dr_meaning.specs.declared.refusal.Refusal.{Refusal}
+use Rattle.dr_meaning.specs.declared.refusal.Refusal.TheVariants.{NoRoom}
+use Rattle.dr_meaning.specs.declared.claim_fault.ClaimFault.{ClaimFault}
+use Rattle.dr_meaning.specs.declared.claim_fault.ClaimFault.TheVariants.{Refused}
+use Rattle.dr_meaning.specs.Calls.InPlaceInlets.{Sending}
+
+-- a claim of n was refused for another cause than that there was no room, after it was tried again and again: what the end sent is as before
+pub record IsRefused {I K E : Type 0} (kept : I → K) (sending : I → Sending E) (refuses : I → ℕ → ClaimFault → I → Type 0) (n : ℕ) (r : Refusal) (old new : I) : Type 0 where
+  pub tried : I
+  pub place : kept tried ≡ kept old
+  pub before : sending tried ≡ sending old
+  pub refused : refuses tried n (Refused r) new
+  pub waits : r ≢ NoRoom
+  pub same : sending new ≡ sending old
+
+module _ {E : Type 0} where
+  -- one event more is published, which is what a change left of what lay in its cell
+  abbrev pub SendsOne : (E → E → Type 0) → List E → List E → Type 0
+  SendsOne Change old new = (was : E) × (now : E) × Change was now × (new ≡ old ++ now ∷ [])
+
+  -- these events were filled one after another, of which the first has this number, and each from what was left in its cell
+  abbrev pub Fills : (ℕ → E → E → Type 0) → ℕ → List E → Type 0
+  Fills by k [] = Unit {0}
+  Fills by k (event ∷ events) = (was : E) × by k was event × Fills by (k + 1) events
+
+  -- so they were by what goes from one state to another as it fills
+  abbrev pub FillsOn : {S : Type 0} → (S → ℕ → E → S → E → Type 0) → S → ℕ → List E → S → Type 0
+  FillsOn by state k [] last = state ≡ last
+  FillsOn {S} by state k (event ∷ events) last = (was : E) × (next : S) × by state k was next event × FillsOn by next (k + 1) events last
+
+  -- k of n sequences that were claimed from lo on are filled, of which this is so, and the others have no event yet
+  pub record FillsPart (Are : List E → Type 0) (k n lo : ℕ) (old new : Sending E) : Type 0 where
+    pub events : List E
+    pub left : ℕ
+    pub many : length events ≡ k
+    pub all : k + left ≡ n
+    pub fills : Are events
+    pub pending : new.pending ≡ map (λ event. Some event) events ++ replicate left None
+    pub at : new.first ≡ lo
+    pub published : new.published ≡ old.published
+
+  -- n events, of which this is so, are published after others
+  pub record SendsAll (Are : List E → Type 0) (n : ℕ) (old new : List E) : Type 0 where
+    pub events : List E
+    pub many : length events ≡ n
+    pub fills : Are events
+    pub published : new ≡ old ++ events
+
+  -- of n events, in claims of at most so many, the first were published, and the claim of the next ones was refused
+  pub record StopsAfter {I K : Type 0} (by : ℕ → E → E → Type 0) (kept : I → K) (sending : I → Sending E) (refuses : I → ℕ → ClaimFault → I → Type 0) (n cut : ℕ)
+      (r : Refusal) (old new : I) : Type 0 where
+    pub done : ℕ
+    pub between : I
+    pub some : done < n
+    pub place : kept between ≡ kept old
+    pub sent : SendsAll (Fills by 0) done (sending old).published (sending between).published
+    pub refused : IsRefused kept sending refuses (min (n - done) cut) r between new

@@ -1,0 +1,190 @@
+//! A ring's sender with its handlers on one thread.
+
+ghost use Rattle.std.specs.Prelude.{◌≡◌, ◌<◌, [], All, IfOk, length};
+ghost use Rattle.dr_plain.specs.Calls.Ends.{receiver_place, received_of};
+ghost use Rattle.dr_plain.specs.Calls.Sending.{CloseCall};
+ghost use Rattle.dr_meaning.specs.Calls.Filling.{FillsOne};
+ghost use Rattle.dr_disruptor.specs.Here.{AreShown, HereEnd, sending_here};
+ghost use Rattle.dr_plain.specs.Calls.InPlace.{SawPublished};
+ghost use Rattle.dr_disruptor.specs.Serving.{AreServed, IsIdle};
+
+use crate::served::{Served, serve, turn};
+use crate::way::Way;
+use dr_meaning::{ClaimFault, Claimed, InPlaceHandler, InPlaceInlet, InPlaceOutlet, Refusal};
+use dr_plain::{Receiver, Sender};
+use dr_workers::{Bell, Spinning};
+use std::alloc::{AllocError, Global};
+use std::marker::Model;
+use std::snapshot::Snapshot;
+use std::sync::Wait;
+
+/// A ring's sender with the ring's handlers, which have their turns on the same thread where a claim finds no room.
+pub struct Here<E, H: InPlaceHandler<E>> {
+    sender: Sender<E>,
+    receivers: Vec<Receiver<E>>,
+    handlers: Vec<H>,
+    // Nobody listens to it.
+    bell: Bell,
+    way: Way,
+    ends: Snapshot<Vec<Receiver<E>>>,
+    starts: Snapshot<Vec<H>>,
+}
+
+impl<E, H: InPlaceHandler<E>> Model for Here<E, H> {
+    ghost use Rattle.std.specs.Prelude.{◌<◌};
+    ghost use Rattle.dr_plain.specs.Calls.Ends.{receiver_place, received_of};
+    ghost use Rattle.dr_disruptor.specs.Here.{AreShown, HereEnd};
+    ghost use Rattle.dr_plain.specs.Calls.InPlace.{SawPublished};
+
+    ghost Value = { HereEnd E H };
+
+    ghost view = { λ here. record { sender = here.sender; ends = here.ends.value.items; starts = here.starts.value.items; batch = here.way.batch } };
+
+    ghost invariant = { λ here. (0 < here.way.batch) × AreShown receiver_place received_of (λ e n. SawPublished e.knows n) H.goes here.way.batch here.ends.value.items here.starts.value.items here.receivers.items here.handlers.items };
+}
+
+// Gives each handler a turn, in the graph's order, over all that is there for it, at most a batch.
+fn round<O: InPlaceOutlet, H: InPlaceHandler<O::Event>>(
+    outlets: &mut [O],
+    handlers: &mut [H],
+    bell: &Bell,
+    batch: u64,
+)
+    requires many { length outlets.old ≡ length handlers.old }
+    requires idle { All (λ o. IsIdle (O.received o)) outlets.old }
+    requires batch { 0 < batch }
+    ensures { AreShown O.kept O.received O.saw H.goes batch outlets.old handlers.old outlets.new handlers.new }
+{
+    for h in 0..outlets.len() {
+        let _more = turn(
+            &mut outlets[h],
+            &mut handlers[h],
+            bell,
+            &mut Spinning,
+            batch,
+        );
+    }
+}
+
+// Takes each handler through all that its end has yet to hand out, one after another.
+fn serve_each<R: Wait, O: InPlaceOutlet + Drop, H: InPlaceHandler<O::Event> + Drop>(
+    rt: &R,
+    alloc: Global,
+    outlets: Vec<O>,
+    handlers: Vec<H>,
+    bell: &Bell,
+    way: Way,
+) -> Result<Vec<Served<O, H>>, AllocError>
+    requires many { length outlets.items ≡ length handlers.items }
+    requires idle { All (λ o. IsIdle (O.received o)) outlets.items }
+    requires batch { 0 < way.batch }
+    ensures { IfOk result (λ served. AreServed O.kept O.received O.told O.saw H.goes way.batch outlets.items handlers.items served.items) }
+{
+    let mut served = Vec::with_capacity(alloc, outlets.len())?;
+    let mut handlers = handlers.into_iter();
+    for outlet in outlets {
+        let Some(handler) = handlers.next() else {
+            unreachable!();
+        };
+        served.push(serve(rt, outlet, handler, bell, way))?;
+    }
+    Ok(served)
+}
+
+impl<E, H: InPlaceHandler<E>> Here<E, H> {
+    // The handlers had no turn yet.
+    pub(crate) fn new(
+        sender: Sender<E>,
+        receivers: Vec<Receiver<E>>,
+        handlers: Vec<H>,
+        way: Way,
+    ) -> Here<E, H>
+        requires many { length receivers.items ≡ length handlers.items }
+        requires idle { All (λ e. IsIdle (received_of e)) receivers.items }
+        requires batch { 0 < way.batch }
+        ensures { result ≡ record { sender = sender; ends = receivers.items; starts = handlers.items; batch = way.batch } }
+    {
+        let ends = Snapshot::of(&receivers);
+        let starts = Snapshot::of(&handlers);
+        Here {
+            sender,
+            receivers,
+            handlers,
+            bell: Bell::new(),
+            way,
+            ends,
+            starts,
+        }
+    }
+}
+
+impl<E: Drop, H: InPlaceHandler<E> + Drop> Here<E, H> {
+    // Closes the ring, and takes each handler through what is left.
+    pub(crate) fn drained<R: Wait>(
+        self,
+        rt: &R,
+        alloc: Global,
+    ) -> Result<(Sender<E>, Vec<Served<Receiver<E>, H>>), AllocError>
+        ensures closes { IfOk result (λ r. (answer : _) × CloseCall self.sender r.0 answer) }
+        ensures served { IfOk result (λ r. AreServed receiver_place received_of (λ e. e.knows.told) (λ e n. SawPublished e.knows n) H.goes self.batch self.ends self.starts r.1.items) }
+    {
+        let Here {
+            mut sender,
+            receivers,
+            handlers,
+            bell,
+            way,
+            ends: _,
+            starts: _,
+        } = self;
+        let _closed = sender.close();
+        let served = serve_each(rt, alloc, receivers, handlers, &bell, way)?;
+        Ok((sender, served))
+    }
+}
+
+impl<E, H: InPlaceHandler<E>> InPlaceInlet for Here<E, H> {
+    ghost use Rattle.dr_disruptor.specs.Here.{HerePlace, here_place, refuses_here, sending_here};
+
+    type Event = E;
+
+    ghost Kept = { HerePlace E H };
+
+    ghost kept = { here_place };
+
+    ghost sending = { sending_here };
+
+    ghost refuses = { refuses_here };
+
+    fn try_claim(&mut self, n: u64) -> Result<Claimed, ClaimFault> {
+        match Sender::try_claim(&mut self.sender, n) {
+            Ok(claimed) => Ok(claimed),
+            Err(Refusal::NoRoom) => {
+                round(
+                    self.receivers.as_mut_slice(),
+                    self.handlers.as_mut_slice(),
+                    &self.bell,
+                    self.way.batch,
+                );
+                Err(ClaimFault::Refused(Refusal::NoRoom))
+            }
+            Err(refusal) => Err(ClaimFault::Refused(refusal)),
+        }
+    }
+
+    fn update<F: FnOnce(&mut E) + Drop>(&mut self, s: u64, change: F) {
+        InPlaceInlet::update(&mut self.sender, s, change)
+    }
+
+    fn update_at<F: Fn(&mut E, u64)>(&mut self, s: u64, fill: &F, number: u64) {
+        self.sender.update_at(s, fill, number)
+    }
+
+    fn update_by<F: FnMut(&mut E, u64)>(&mut self, s: u64, fill: &mut F, number: u64) {
+        InPlaceInlet::update_by(&mut self.sender, s, fill, number)
+    }
+
+    fn publish(&mut self, lo: u64, hi: u64) {
+        InPlaceInlet::publish(&mut self.sender, lo, hi)
+    }
+}

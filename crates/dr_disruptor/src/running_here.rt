@@ -1,0 +1,95 @@
+//! A whole run on one thread.
+
+ghost use Rattle.std.specs.Prelude.{◌≡◌, ◌<◌, [], false, IfErr, IfOk, length};
+ghost use mathlib.Core.Option.{some};
+ghost use lib.ListN.{get_elem?};
+ghost use Rattle.dr_plain.specs.Calls.Ends.{ReceiverEnd, received_of};
+ghost use Rattle.dr_plain.specs.Calls.Settling.{AreAllEnds, IsHalterOf};
+ghost use Rattle.dr_plain.specs.Meaning.Records.{events_of};
+ghost use Rattle.dr_disruptor.specs.Handlers.{AllWentThrough};
+ghost use Rattle.dr_disruptor.specs.Here.{HereEnd, sending_here};
+ghost use Rattle.dr_disruptor.specs.Running.{AreSettled, IsRanBy, refusal_of, shape_of};
+
+use crate::fault::RunFault;
+use crate::feed::Feed;
+use dr_meaning::InPlaceHandler;
+use crate::here::Here;
+use crate::running::{Ran, open};
+use crate::sender::LiveSender;
+use dr_workers::WaitStrategy;
+use crate::team::Team;
+use crate::way::Way;
+use crate::workers::{Back, apart};
+use dr_cells::Values;
+use dr_graph::Graph;
+use dr_plain::{Halter, Settled, finish};
+use dr_seq::Size;
+use std::alloc::{AllocError, Global};
+use std::sync::Wait;
+
+// Closes the ring, takes each handler through what is left, and brings the ends together.
+fn wind_up_here<R: Wait + Copy, E: Drop, H: InPlaceHandler<E> + Drop>(
+    rt: R,
+    alloc: Global,
+    live: LiveSender<R, Here<E, H>>,
+    halter: Halter<E>,
+) -> Result<(Vec<H>, Settled<E>, Values<E>), AllocError>
+    requires ends { AreAllEnds live.sender live.ends }
+    requires halter { IsHalterOf live.sender halter }
+    requires unhalted { halter.knows.halted ≡ false }
+    requires fresh { (h : _) (e : ReceiverEnd E) → get_elem? live.ends h ≡ some e → (received_of e).events ≡ [] }
+    ensures through { IfOk result (λ r. AllWentThrough H.goes live.batch (events_of live.sender.knows.published) live.starts r.0.items) }
+    ensures settled { IfOk result (λ r. AreSettled live.sender r.1 r.2) }
+{
+    let (here, _bell) = live.into_end();
+    let (sender, served) = here.drained(&rt, alloc)?;
+    let Back { outlets, handlers } = apart(alloc, served)?;
+    let (settled, events) = finish(sender, outlets, halter);
+    Ok((handlers, settled, events))
+}
+
+/// As [`run`](crate::run), on this thread alone: where a claim finds no room, each handler has a turn, in the graph's
+/// order, over all that is there for it. It starts no thread, and nobody waits, so the strategy of the way is not used.
+/// Its sender is of a type that depends on the handlers', so `send` is a [`Feed`] in place of a closure.
+///
+/// It is refused with `Handlers` where there are not as many handlers as the graph has, and with `Memory` where there
+/// is none for the ring: then nothing was sent. Where memory runs out after that, what was done is lost.
+pub fn run_here<
+    R: Wait + Copy,
+    E: Drop,
+    H: InPlaceHandler<E> + Drop + Send + 'static,
+    T: Team<E, One = H>,
+    A: Drop,
+    F: Feed<E, Answer = A> + Drop,
+>(
+    rt: R,
+    alloc: Global,
+    graph: &Graph,
+    size: Size,
+    events: Vec<E>,
+    handlers: T,
+    way: Way,
+    send: F,
+) -> Result<Ran<E, T, Settled<E>, A>, RunFault>
+    requires events { length events.items ≡ size }
+    requires batch { 0 < way.batch }
+    // It went over a new ring of this graph, size and events: each handler went through exactly what the feed left
+    // published, each event once, in sequence order from 0 on, in batches of at most so many.
+    ensures ran { IfOk result (IsRanBy (λ (given : HereEnd E H) (answer : A) (back : HereEnd E H). F.gives send answer (sending_here given).published (sending_here back).published) (λ here. here.sender) T.went way.batch (shape_of graph.now.upstreams size) events.items handlers) }
+    ensures many { IfOk result (λ _. length (T.listed handlers) ≡ length graph.now.upstreams) }
+    ensures refused { IfErr result (λ e. e ≡ refusal_of (length graph.now.upstreams) (length (T.listed handlers))) }
+{
+    let given = handlers.many();
+    let (sender, receivers, halter, bell) = open(alloc, graph, size, events, given)?;
+    let list = handlers.into_list(alloc)?;
+    let here = Here::new(sender, receivers, list, way);
+    let mut live = LiveSender::new(rt, here, bell, WaitStrategy::Spinning);
+    let sent = send.feed(&mut live);
+    let (list, settled, events) = wind_up_here(rt, alloc, live, halter)?;
+    Ok(Ran {
+        handlers: T::from_list(list),
+        settled,
+        events,
+        sent,
+    })
+}

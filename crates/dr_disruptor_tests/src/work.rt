@@ -1,0 +1,86 @@
+//! Handlers of several kinds.
+
+use dr_disruptor::InPlaceHandler;
+use dr_meaning::Handler;
+
+/// Adds up the numbers that it is shown, and writes down the sequences that are marked, as digits.
+#[derive(Clone, Copy, Debug, Default, PartialEq, Eq)]
+pub struct Tally {
+    pub sum: u64,
+    pub marked: u64,
+}
+
+impl InPlaceHandler<u64> for Tally {
+    ghost use Rattle.std.specs.Prelude.{⊤};
+
+    ghost goes = { λ old event s end new. ⊤ };
+
+    fn on_event_in_place(&mut self, event: &u64, s: u64, end: bool) {
+        self.sum = self.sum.wrapping_add(*event);
+        if end {
+            self.marked = self.marked.wrapping_mul(10).wrapping_add(s);
+        }
+    }
+}
+
+/// How many events came.
+#[derive(Clone, Copy, Debug, Default, PartialEq, Eq)]
+pub struct Count(pub u64);
+
+impl InPlaceHandler<u64> for Count {
+    ghost use Rattle.std.specs.Prelude.{⊤};
+
+    ghost goes = { λ old event s end new. ⊤ };
+
+    fn on_event_in_place(&mut self, _event: &u64, _s: u64, _end: bool) {
+        self.0 = self.0.wrapping_add(1);
+    }
+}
+
+/// Whether numbers from 0 on and from 100 on each came in their order.
+#[derive(Clone, Copy, Debug, PartialEq, Eq)]
+pub struct InOrder {
+    pub low: u64,
+    pub high: u64,
+    pub is_broken: bool,
+}
+
+impl Default for InOrder {
+    fn default() -> InOrder {
+        InOrder {
+            low: 0,
+            high: 100,
+            is_broken: false,
+        }
+    }
+}
+
+impl InPlaceHandler<u64> for InOrder {
+    ghost use Rattle.std.specs.Prelude.{⊤};
+
+    ghost goes = { λ old event s end new. ⊤ };
+
+    fn on_event_in_place(&mut self, event: &u64, _s: u64, _end: bool) {
+        if *event == self.low {
+            self.low = self.low.wrapping_add(1);
+        } else if *event == self.high {
+            self.high = self.high.wrapping_add(1);
+        } else {
+            self.is_broken = true;
+        }
+    }
+}
+
+/// The greatest number that came, each given by value.
+#[derive(Clone, Copy, Debug, Default, PartialEq, Eq)]
+pub struct Greatest(pub u64);
+
+impl Handler<u64> for Greatest {
+    ghost use Rattle.std.specs.Prelude.{⊤};
+
+    ghost goes = { λ old event s end new. ⊤ };
+
+    fn on_event(&mut self, event: u64, _s: u64, _end: bool) {
+        self.0 = self.0.max(event);
+    }
+}

@@ -1,5 +1,0 @@
-use Rattle.dr_facade.proofs.Marked.{sees_same}
-use Rattle.dr_facade.proofs.many_senders.ReceiverInPlaceOutlet.complete.Goals as goal
-
-pub returns-clause-saw : goal.returns-clause-saw
-returns-clause-saw g c = sees_same c.args.upto c.args.self.now c.complete.new.self c.in-Ok.ensures

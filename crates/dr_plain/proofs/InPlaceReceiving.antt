@@ -1,0 +1,115 @@
+-- What a poll of a receiver takes and sees, of a ring with one sender.
+use Rattle.std.proofs.Common.{◌≡◌, ◌⊎◌, Bool, true, ◌<◌, ◌≤◌, ◌+◌, ◌-◌, ◌^◌, ℕ, zero, suc, min, List, [], ◌∷◌, ◌++◌, length, Ok, inl, inr, ⊎_elim, refl, sym, ap, ◌∙◌, arith}
+use Rattle.std.proofs.lemmas.Bool.{cases_eq}
+use Rattle.std.proofs.lemmas.List.{append-nil, length-append, length-map, map-append}
+use mathlib.Core.Option.{some, some-ne-none}
+use lib.ListN.{get_elem?}
+use Rattle.dr_graph.specs.Meaning.Graph.{upstreams_of}
+use Rattle.dr_meaning.proofs.Leasts.{least_of-le}
+use Rattle.dr_meaning.specs.declared.command.Polled.{Polled}
+use Rattle.dr_meaning.specs.declared.command.Polled.TheVariants.{Batch, Drained, Gating, Idle}
+use Rattle.dr_lent.specs.declared.lent.Lent.{Lent}
+use Rattle.dr_runs.specs.declared.look.Look.{Look}
+use Rattle.dr_runs.specs.Looks.{count_looks, look, offered_by}
+use Rattle.dr_runs.specs.Polls.{PollLooks, offer}
+use Rattle.dr_runs.specs.Words.{closed_word, count_word, cursor_word}
+use Rattle.dr_runs.proofs.Lists.{at_behind}
+use Rattle.dr_plain.specs.declared.record.ReceiverRecord.{ReceiverRecord}
+use Rattle.dr_plain.specs.Meaning.Records.{events_of}
+use Rattle.dr_plain.specs.Meaning.Replies as replies
+use Rattle.dr_plain.specs.Calls.Ends.{ReceiverEnd, received_of}
+use Rattle.dr_plain.specs.Calls.Receiving.{PollCall}
+use Rattle.dr_meaning.specs.Calls.InPlaceOutlets.{SawMore, TakesUpTo}
+use Rattle.dr_plain.specs.Calls.InPlace.{SawPublished}
+
+-- a batch is as long as the room allows, and ends what was offered unless it fills the room
+marks : (room first count off : ℕ) (end : Bool) → first < off → count ≡ min (off - first) room → (first + count ≡ off → end ≡ true)
+    → (end ≡ true) ⊎ ((count ≡ room) × (first + room + 1 ≤ off))
+marks room first count off end there many ends =
+    elim (cases_eq (first + count) off) [ inl whole ↦ inl (ends whole) | inr more ↦ inr (omega arith, omega arith) ]
+
+at_front : {A : Type 0} (xs ys : List A) (i : ℕ) (x : A) → get_elem? xs i ≡ some x → get_elem? (xs ++ ys) i ≡ some x
+at_front [] ys i x at = absurd (some-ne-none x (sym at))
+at_front (y ∷ xs) ys zero x at = at
+at_front (y ∷ xs) ys (suc i) x at = at_front xs ys i x at
+
+module _ {T : Type 0} where
+  -- what it looked at further
+  saw_more : (r r' : ReceiverRecord T) (more : List Look) → r'.looks ≡ r.looks ++ more → SawMore (SawPublished r) (SawPublished r')
+  saw_more r r' more grew = λ n s.
+      record {
+        place = s.place;
+        saw = s.saw;
+        there = ap (λ (l : List Look). get_elem? l s.place) grew ∙ at_front r.looks more s.place s.saw s.there;
+        word = s.word;
+        enough = s.enough;
+      }
+
+  -- what its barrier offered was published
+  saw_offer : (r : ReceiverRecord T) (n closed cursor : ℕ) (old : List Look) (ups counts : List ℕ) → length counts ≡ length ups
+      → r.looks ≡ old ++ look closed_word closed ∷ look cursor_word cursor ∷ count_looks ups counts → n ≤ offered_by cursor counts → SawPublished r n
+  saw_offer r n closed cursor old ups [] many is enough = record {
+    place = length old + 1;
+    saw = look cursor_word cursor;
+    there = ap (λ (l : List Look). get_elem? l (length old + 1)) is
+        ∙ at_behind old (look closed_word closed ∷ look cursor_word cursor ∷ count_looks ups []) 1 (look cursor_word cursor) refl;
+    word = inl refl;
+    enough = enough;
+  }
+  saw_offer r n closed cursor old [] (c ∷ counts) many is enough = absurd (omega arith)
+  saw_offer r n closed cursor old (u ∷ ups) (c ∷ counts) many is enough =
+      let least = least_of-le (c ∷ counts) 0 (omega arith) in
+      record {
+        place = length old + 2;
+        saw = look (count_word u) c;
+        there = ap (λ (l : List Look). get_elem? l (length old + 2)) is
+            ∙ at_behind old (look closed_word closed ∷ look cursor_word cursor ∷ count_looks (u ∷ ups) (c ∷ counts)) 2 (look (count_word u) c) refl;
+        word = inr (u, refl);
+        enough = omega arith;
+      }
+
+  pub looked : (room : ℕ) (e e' : ReceiverEnd T) (polled : Polled) → PollCall e room e' (Ok polled) → SawMore (SawPublished e.knows) (SawPublished e'.knows)
+  looked room e e' (Batch first count end) call = saw_more e.knows e'.knows _ (ap (λ (r : ReceiverRecord T). r.looks) call.1.1.2.5.2)
+  looked room e e' Drained call = saw_more e.knows e'.knows _ (ap (λ (r : ReceiverRecord T). r.looks) call.1.1.2.3)
+  looked room e e' Gating call = saw_more e.knows e'.knows _ (ap (λ (r : ReceiverRecord T). r.looks) call.1.1.2.3)
+  looked room e e' Idle call = saw_more e.knows e'.knows _ (ap (λ (r : ReceiverRecord T). r.looks) call.1.1.2.3)
+
+  pub saw_same : (r r' : ReceiverRecord T) → r'.looks ≡ r.looks → SawMore (SawPublished r) (SawPublished r')
+  saw_same r r' same = saw_more r r' [] (same ∙ sym (append-nil r.looks))
+
+  pub takes : (room : ℕ) (e e' : ReceiverEnd T) (polled : Polled) → PollCall e room e' (Ok polled) → length e'.knows.received < 2 ^ 64 → 0 < room
+      → TakesUpTo room (SawPublished e'.knows) polled (received_of e) (received_of e')
+  takes room e e' (Batch first count end) call fits there =
+      let sees = call.1.1 in
+      let seen : PollLooks = sees.0 in
+      let A = sees.2 in
+      let lents = A.5.0 in
+      let offered : first < offer seen = A.1 in
+      let many : count ≡ min (offer seen - first) room = A.2 in
+      let next : first ≡ length e.knows.received = A.0 in
+      let taken : length lents ≡ count = A.5.1 in
+      let all : length e'.knows.received ≡ length e.knows.received + length lents = ap (λ (r : ReceiverRecord T). length r.received) A.5.2
+      ∙ length-append e.knows.received lents in
+      let events : events_of e'.knows.received ≡ events_of e.knows.received ++ events_of lents =
+      ap (λ (r : ReceiverRecord T). events_of r.received) A.5.2 ∙ map-append (λ (l : Lent T). l.event) e.knows.received lents in
+      let completed = ap (λ (r : ReceiverRecord T). r.completed) A.5.2 in
+      let looks = ap (λ (r : ReceiverRecord T). r.looks) A.5.2 in
+      record {
+        events = events_of lents;
+        many = length-map lents (λ (l : Lent T). l.event) ∙ taken;
+        some = omega arith;
+        within = omega arith;
+        fits = omega arith;
+        begins = next ∙ sym (length-map e.knows.received (λ (l : Lent T). l.event));
+        marked = ⊎_elim (λ last. inl last)
+            (λ full. inr (
+              full.0,
+              saw_offer e'.knows (first + room + 1) seen.closed seen.cursor e.knows.looks
+                  (upstreams_of e.knows.plan.upstreams e.knows.number) seen.counts sees.1 looks full.1,
+            ))
+            (marks room first count (offer seen) end offered many A.3.1);
+        taken = λ i. record { events = events i; completed = completed i };
+      }
+  takes room e e' Drained call fits there = ap replies.received_of call.1.1.2.3
+  takes room e e' Gating call fits there = ap replies.received_of call.1.1.2.3
+  takes room e e' Idle call fits there = ap replies.received_of call.1.1.2.3

@@ -1,3 +1,0 @@
-pub mod Untroubled
-pub mod Polled
-pub mod Settled

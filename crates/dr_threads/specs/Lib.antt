@@ -1,4 +1,0 @@
-pub mod Serving
-pub mod Handlers
-pub mod Endings
-pub mod Waits
