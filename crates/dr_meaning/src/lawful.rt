@@ -1,15 +1,17 @@
 //! The theorems that the exchange stands on. These functions do nothing when they run: their
 //! contracts are the theorems.
 
-ghost use Rattle.std.specs.Prelude.{ℕ, ◌≤◌, ◌++◌, ◌∷◌, [], List, length};
-ghost use Rattle.dr_graph.specs.Meaning.Graph.{IsGraph, IsLayered};
+ghost use Rattle.std.specs.Prelude.{ℕ, ◌≡◌, ◌⊎◌, ◌+◌, ◌-◌, ◌<◌, ◌≤◌, ◌++◌, ◌∷◌, [], Bool, false, true, Contains, List, length, slice_index};
+ghost use Rattle.dr_graph.specs.Meaning.Graph.{IsGraph, IsLayered, upstreams_of};
 ghost use Rattle.dr_meaning.specs.declared.command.Command.{Command};
-ghost use Rattle.dr_meaning.specs.declared.command.Command.TheVariants.{Retire};
-ghost use Rattle.dr_meaning.specs.Meaning.Machine.{Setup, State, gate, step};
+ghost use Rattle.dr_meaning.specs.declared.command.Command.TheVariants.{Claim, Complete, Poll, Publish, Retire, Write};
+ghost use Rattle.dr_meaning.specs.declared.command.Reply.TheVariants.{Batch, Claimed, Completed, Drained, Published, Written};
+ghost use Rattle.dr_meaning.specs.Meaning.Machine.{Setup, State, front, gate, gating, handlers, next, producers, step};
 ghost use Rattle.dr_meaning.specs.Meaning.Transcript.{Transcript, LeadsTo};
 ghost use Rattle.dr_meaning.specs.Meaning.Laws.{Laws};
 ghost use Rattle.dr_meaning.specs.Meaning.Tells.{Tells};
 ghost use Rattle.dr_meaning.specs.Meaning.Progress.{NobodyIsStuck, CompletesAll, ClaimsRound, Drains, PublishesFront, CanFinish, GoOn, to_do};
+ghost use Rattle.dr_meaning.specs.Meaning.Progress.{AwaitedGoesOn, ClaimAwaits, IsPathUp, MayComplete, MayPublish, MayTake, WaitsFor, after, reply_to};
 ghost use Rattle.dr_meaning.specs.Meaning.Stuck.{IsFalseAfter, circle, shared_circle, line, one_completed, two_completed, one_retired, halted, left_behind, claimed_by_nobody};
 ghost use Rattle.dr_meaning.specs.Meaning.TooFar.{IsTooFar, pair, claim_of, claim_up_to, receipt_of, completion_of, retirement_of, halt, drain, written, written_again, published, taken, completed, taken_by_both, join, two_published, first_receipt, second_receipt, completed_beside, taken_beside, completed_by_both, first_taken};
 ghost use Rattle.dr_meaning.specs.Meaning.TooFar.{shared, claim_by, drain_of, receipt_of_both, each_claimed, first_published, second_published, each_published, each_completed, third_completed, drain_with_room};
@@ -106,14 +108,36 @@ pub fn nobody_is_stuck<E>()
     ensures { (c : Setup) (t : Transcript E) (m : State E) → IsGraph c.upstreams → LeadsTo c t m → NobodyIsStuck c m }
 {}
 
-/// That nobody is stuck says each of its four facts, and is false where somebody is. Where two handlers
-/// wait for each other, as in no graph, neither goes on, nor does the last one, which waits for them,
+/// What that nobody is stuck says of each, by calls and what they answer.
+pub fn what_nobody_is_stuck_says<E>()
+    // The producer of the first sequence that is claimed and not published can write it, and then publish it.
+    ensures front { (c : Setup) (m : State E) → NobodyIsStuck c m → front m < next m → MayPublish c m (slice_index m.owners (front m)) (front m) }
+    ensures publishes { (c : Setup) (m : State E) (p s : ℕ) → MayPublish c m p s → (event : E) → (reply_to c m (Write p s event) ≡ Written) × (reply_to c (after c m (Write p s event)) (Publish p s s) ≡ Published) }
+    // A handler has completed all before the front, or it goes on, or one that it waits for does.
+    ensures handlers { (c : Setup) (m : State E) → NobodyIsStuck c m → (h : ℕ) → h < handlers c → m.retired h ≡ false → (slice_index m.completed h ≡ front m) ⊎ AwaitedGoesOn c m h }
+    // A claim that ends at most a round beyond the front is accepted, or one that it waits for goes on.
+    ensures claims { (c : Setup) (m : State E) → NobodyIsStuck c m → (p n : ℕ) → p < producers c.mode → 0 < n → m.halted ≡ false → next m + n ≤ c.limit → next m + n ≤ c.size + front m → (reply_to c m (Claim p n) ≡ Claimed (next m) (next m + n - 1)) ⊎ ClaimAwaits c m n }
+    // After a halt, with nothing left to publish, a handler is told `Drained`, or it goes on, or one that it waits for does.
+    ensures drains { (c : Setup) (m : State E) → NobodyIsStuck c m → (h max : ℕ) → h < handlers c → m.retired h ≡ false → 0 < max → m.halted ≡ true → front m ≡ next m → (reply_to c m (Poll h max) ≡ Drained) ⊎ AwaitedGoesOn c m h }
+    // Who goes on is handed its next event, or completes all that it took, which is more than before.
+    ensures goes_on { (c : Setup) (m : State E) (h : ℕ) → AwaitedGoesOn c m h → (up : ℕ) × (path : List ℕ) × IsPathUp c m h path up × (MayTake c m up ⊎ MayComplete c m up) }
+    ensures takes { (c : Setup) (m : State E) (h : ℕ) → MayTake c m h → (end : Bool) × (reply_to c m (Poll h 1) ≡ Batch (slice_index m.taken h) 1 end) }
+    ensures completes { (c : Setup) (m : State E) (h : ℕ) → MayComplete c m h → (slice_index m.completed h < slice_index m.taken h) × (reply_to c m (Complete h (slice_index m.taken h)) ≡ Completed) }
+    // Who waits took all that one of its upstreams completed, which is not retired, and completed all that it took.
+    ensures path_ends { (c : Setup) (m : State E) (from to : ℕ) → IsPathUp c m from [] to → from ≡ to }
+    ensures path { (c : Setup) (m : State E) (from up to : ℕ) (ups : List ℕ) → IsPathUp c m from (up ∷ ups) to → WaitsFor c m from up × IsPathUp c m up ups to }
+    ensures waits { (c : Setup) (m : State E) (h up : ℕ) → WaitsFor c m h up → Contains (upstreams_of c.upstreams h) up × (m.retired up ≡ false) × (slice_index m.completed up ≤ slice_index m.taken h) × (slice_index m.completed h ≡ slice_index m.taken h) }
+    // A claim waits for a handler that gates it and left it no room.
+    ensures claim_waits { (c : Setup) (m : State E) (n : ℕ) → ClaimAwaits c m n → (last : ℕ) × Contains (gating c m) last × (c.size + slice_index m.completed last < next m + n) × AwaitedGoesOn c m last }
+{}
+
+/// That nobody is stuck is false where somebody is. Where two handlers wait for each other, as in no
+/// graph, neither goes on, nor does the last one, which waits for them,
 /// though others can. A claim that this one gates is not accepted, also of two sequences, of a second
 /// producer, or after a retirement; after a halt none of the three is told `Drained`, the second one at
 /// a poll with room for two. Nor does a handler go on that follows a retired one, nor is a sequence
 /// published whose producer is none of those that there are.
 pub fn a_circle_is_stuck()
-    ensures each { (c : Setup) (m : State ℕ) → NobodyIsStuck c m → PublishesFront c m × ((h : ℕ) → CompletesAll c m h) × ((p n : ℕ) → ClaimsRound c m p n) × ((h max : ℕ) → Drains c m h max) }
     ensures whole { IsFalseAfter circle one_completed (λ m. NobodyIsStuck circle m) }
     ensures of_the_circle { IsFalseAfter circle one_completed (λ m. CompletesAll circle m 0) }
     ensures of_the_circle_at_first { IsFalseAfter circle two_published (λ m. CompletesAll circle m 1) }

@@ -155,9 +155,6 @@ stuck_of_circle read holds =
       | inr awaits ↦ circle_is_stuck Single one (blocked_one read).circle 0 (inl refl) awaits
     ]
 
-pub returns-clause-each : goal.returns-clause-each
-returns-clause-each c c' m holds = (holds.publishes, holds.completes, holds.claims, holds.drains)
-
 pub returns-clause-whole : goal.returns-clause-whole
 returns-clause-whole c = (one, led_to_one, λ whole. stuck_of_circle (reads Single one) (whole.completes 0))
 
