@@ -67,7 +67,7 @@ bench-plots:
 	bench/tables.py
 
 hello:
-	examples/hello.sh $(DIR)
+	examples/hello.sh $(or $(DIR),$$(mktemp -d)/hello) $(FROM)
 
 clean:
 	rm -rf disruptor $(log) out crates/*/out
@@ -86,8 +86,8 @@ help:
 	@echo '  make install PREFIX=/opt  installs program, libraries, headers and man page there, or else in /usr/local'
 	@echo '  make bench                events a second of core and ring: some minutes, and many where other work runs'
 	@echo '  make bench-plots          draws what bench/measured holds, as docs/pictures, and writes its tables: seconds'
-	@echo '  make hello DIR=../hello   starts a repository of your own in that folder, with a program over the'
-	@echo '                            ring, which is proved, built and run: ten to 25 minutes'
+	@echo '  make hello DIR=../hello   starts a repository of your own in that folder, with a program over the ring, which is proved, built'
+	@echo '                            and run: ten to 25 minutes; FROM=example_feeds takes another of crates/example_*'
 	@echo '  make clean                removes what was built, and what proofs are kept'
 	@echo
 	@echo 'What is printed of proofs goes to $(log).'

@@ -1,11 +1,17 @@
 #!/usr/bin/env bash
 # Starts a repository of your own: copies of the library's crates, with what is proved of them here, and the program of
-# crates/example_ring as its crate `hello`. It proves, builds and runs that, and compares what it prints.
+# crates/example_orders, or of another example, as its crate `hello`. It proves, builds and runs that, and compares what it
+# prints.
 #
-#   examples/hello.sh [FOLDER]      without FOLDER in a new folder, whose path is printed
+#   examples/hello.sh [FOLDER [EXAMPLE]]      without FOLDER in a new folder, whose path is printed
 set -u
 top=$(cd "$(dirname "$0")/.." && pwd) || exit 2
 own=${1:-$(mktemp -d)/hello}
+example=${2:-example_orders}
+if [ ! -f "$top/crates/$example/src/main.rt" ]; then
+    echo "there is no $example: name one of" "$top"/crates/example_* | sed 's|[^ ]*/||g'
+    exit 1
+fi
 if [ -e "$own" ]; then
     echo "$own is there already: name a new folder"
     exit 1
@@ -26,7 +32,7 @@ below() {
     done
 }
 
-for crate in $(below example_ring | awk '!seen[$0]++'); do
+for crate in $(below "$example" | awk '!seen[$0]++'); do
     mkdir -p "$own/crates/$crate/out"
     cp -r "$top/crates/$crate/src" "$top/crates/$crate/specs" "$own/crates/$crate/" || exit 2
     [ -d "$top/crates/$crate/proofs" ] && cp -r "$top/crates/$crate/proofs" "$own/crates/$crate/"
@@ -34,8 +40,12 @@ for crate in $(below example_ring | awk '!seen[$0]++'); do
     [ -d "$top/crates/$crate/out/rlib" ] && cp -r "$top/crates/$crate/out/rlib" "$own/crates/$crate/out/"
     grep "^$crate:" "$top/crates.txt" >> "$own/crates.txt" || exit 2
 done
-cp -r "$top/crates/example_ring/src" "$top/crates/example_ring/stdout" "$own/crates/hello/" || exit 2
-sed -n 's/^example_ring:/hello:/p' "$top/crates.txt" >> "$own/crates.txt"
+for part in src specs proofs stdout; do
+    [ ! -e "$top/crates/$example/$part" ] || cp -r "$top/crates/$example/$part" "$own/crates/hello/" || exit 2
+done
+sed -n "s/^$example:/hello:/p" "$top/crates.txt" >> "$own/crates.txt"
+# (its own files name it by its crate)
+grep -rl "$example" "$own/crates/hello" | xargs -r sed -i "s/\b$example\b/hello/g"
 cp "$top/HANDLES" "$own/"
 
 echo "proving and building $own/crates/hello; what rt says goes to $own/hello.log"
