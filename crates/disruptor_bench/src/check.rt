@@ -12,7 +12,7 @@ use std::thread::Threads;
 use std::time::Duration;
 
 /// Topologies of which a round is checked: each shape over each exchange, and further ones.
-const CHECKED: [&str; 44] = [
+const CHECKED: [&str; 46] = [
     "core-unicast",
     "core-unicast-step",
     "core-unicast-b10",
@@ -57,10 +57,12 @@ const CHECKED: [&str; 44] = [
     "side2-b7",
     "plain8-diamond",
     "plain16-side3-b7",
+    "run-unicast",
+    "run-diamond-b10",
 ];
 
 /// Command lines that ask for nothing.
-const WRONG: [[&str; 4]; 29] = [
+const WRONG: [[&str; 4]; 30] = [
     ["", "64", "0", "1"],
     ["core", "64", "0", "1"],
     ["core-", "64", "0", "1"],
@@ -84,6 +86,7 @@ const WRONG: [[&str; 4]; 29] = [
     ["plain-senders17-unicast", "64", "0", "1"],
     ["plain-senders3-unicast-step", "64", "0", "1"],
     ["plain-senders3", "64", "0", "1"],
+    ["run-unicast-step", "64", "0", "1"],
     ["Diamond", "64", "0", "1"],
     ["unicorn", "64", "0", "1"],
     ["unicast", "63", "0", "1"],
@@ -94,7 +97,7 @@ const WRONG: [[&str; 4]; 29] = [
 
 /// Prints the name of a topology as it was read, and how many events a round of it had.
 fn check_round(
-    rt: &(impl Runtime + Threads + Wait + Sync),
+    rt: &(impl Runtime + Threads + Wait + Sync + Copy + Send + 'static),
     alloc: Global,
     name: &str,
 ) -> Result<(), Fault> {
@@ -107,7 +110,10 @@ fn check_round(
     Ok(())
 }
 
-fn check_rounds(rt: &(impl Runtime + Threads + Wait + Sync), alloc: Global) -> Result<(), Fault> {
+fn check_rounds(
+    rt: &(impl Runtime + Threads + Wait + Sync + Copy + Send + 'static),
+    alloc: Global,
+) -> Result<(), Fault> {
     for name in &CHECKED {
         check_round(rt, alloc, *name)?;
     }
@@ -151,7 +157,10 @@ fn check_line(rt: &impl Runtime) -> Result<(), Fault> {
 }
 
 /// Prints what `make test` compares.
-pub fn check(rt: &(impl Runtime + Threads + Wait + Sync), alloc: Global) -> Result<(), Fault> {
+pub fn check(
+    rt: &(impl Runtime + Threads + Wait + Sync + Copy + Send + 'static),
+    alloc: Global,
+) -> Result<(), Fault> {
     check_line(rt)?;
     check_wrong(rt)?;
     check_rounds(rt, alloc)

@@ -1,5 +1,6 @@
 //! Why nothing is measured.
 
+use dr_disruptor::RunFault;
 use dr_graph::GraphFault;
 use dr_meaning::{Refusal, Trouble};
 use std::alloc::{AllocError, AllocFailed};
@@ -82,6 +83,18 @@ impl From<GraphFault> for Fault {
         Fault {
             line: fault.name(),
             status: 3,
+        }
+    }
+}
+
+impl From<RunFault> for Fault {
+    fn from(fault: RunFault) -> Fault {
+        match fault {
+            RunFault::Graph(fault) => Fault::from(fault),
+            RunFault::Refused(refusal) => Fault::from(refusal),
+            RunFault::Memory => Fault::MEMORY,
+            RunFault::Size(_) | RunFault::Handlers { .. } | RunFault::Senders { .. } =>
+                Fault::USAGE,
         }
     }
 }

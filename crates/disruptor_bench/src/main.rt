@@ -1,6 +1,6 @@
 //! Measures the exchanges: events a second through a core on one thread, through a ring with a thread
-//! for each end, over atomic words with one sender or over plain memory with one or several, and through
-//! a core behind a lock with a thread for each producer and each handler.
+//! for each end, over atomic words with one sender or over plain memory with one or several, by a run in
+//! one call, and through a core behind a lock with a thread for each producer and each handler.
 //!
 //! `disruptor_bench TOPOLOGY SIZE SECONDS ROUNDS` runs a topology over a ring of SIZE slots for about
 //! SECONDS in each of ROUNDS rounds, and prints the round in the middle:
@@ -12,6 +12,7 @@ mod arguments;
 mod behind_lock;
 mod check;
 mod fault;
+mod in_one_call;
 mod measured;
 mod one_thread;
 mod plain;
@@ -48,7 +49,7 @@ fn print_list(rt: &impl Runtime) -> Result<(), Fault> {
 
 /// One round over an exchange of its own with a thread for each end.
 fn round(
-    rt: &(impl Runtime + Threads + Wait + Sync),
+    rt: &(impl Runtime + Threads + Wait + Sync + Copy + Send + 'static),
     alloc: Global,
     order: &Order,
 ) -> Result<Round, Fault> {
@@ -56,13 +57,14 @@ fn round(
         Exchange::Core(_) => Err(Fault::USAGE),
         Exchange::Ring => threads::round(rt, alloc, order),
         Exchange::Plain(width) => plain::round(rt, alloc, order, width),
+        Exchange::InOneCall => in_one_call::round(*rt, alloc, order),
         Exchange::PlainSenders(senders) => plain_senders::round(rt, alloc, order, senders),
         Exchange::Lock(producers) => behind_lock::round(rt, alloc, order, producers),
     }
 }
 
 fn add_rounds_of_threads(
-    rt: &(impl Runtime + Threads + Wait + Sync),
+    rt: &(impl Runtime + Threads + Wait + Sync + Copy + Send + 'static),
     alloc: Global,
     order: &Order,
     rounds: &mut Vec<Round>,
@@ -74,7 +76,7 @@ fn add_rounds_of_threads(
 }
 
 fn add_rounds(
-    rt: &(impl Runtime + Threads + Wait + Sync),
+    rt: &(impl Runtime + Threads + Wait + Sync + Copy + Send + 'static),
     alloc: Global,
     order: &Order,
     rounds: &mut Vec<Round>,
@@ -87,7 +89,7 @@ fn add_rounds(
 
 /// The round in the middle.
 fn measure(
-    rt: &(impl Runtime + Threads + Wait + Sync),
+    rt: &(impl Runtime + Threads + Wait + Sync + Copy + Send + 'static),
     alloc: Global,
     order: &Order,
 ) -> Result<Round, Fault> {
@@ -98,7 +100,7 @@ fn measure(
 
 /// The round in the middle, as a line.
 fn print_measured(
-    rt: &(impl Runtime + Threads + Wait + Sync),
+    rt: &(impl Runtime + Threads + Wait + Sync + Copy + Send + 'static),
     alloc: Global,
     order: Order,
 ) -> Result<(), Fault> {
@@ -107,7 +109,7 @@ fn print_measured(
 }
 
 fn answer(
-    rt: &(impl Runtime + Threads + Wait + Sync),
+    rt: &(impl Runtime + Threads + Wait + Sync + Copy + Send + 'static),
     alloc: Global,
     request: Option<Request>,
 ) -> Result<(), Fault> {

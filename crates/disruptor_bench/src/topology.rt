@@ -14,6 +14,8 @@ pub enum Exchange {
     Ring,
     /// The ring over plain memory, of events of such a width, with a thread for each end.
     Plain(Width),
+    /// The same with events of two words, by a run in one call.
+    InOneCall,
     /// The ring over plain memory with so many senders, and a thread for each end.
     PlainSenders(u64),
     /// The core behind a lock, with so many producers, and a thread for each of them and for each handler.
@@ -65,7 +67,7 @@ pub struct Topology {
 }
 
 /// The main topologies: those of the tables, and a row for each further width of an event.
-pub const LISTED: [&str; 42] = [
+pub const LISTED: [&str; 46] = [
     "core-unicast",
     "core-unicast-step",
     "core-unicast-b10",
@@ -102,6 +104,10 @@ pub const LISTED: [&str; 42] = [
     "plain-diamond",
     "plain-diamond-b10",
     "plain-diamond-b100",
+    "run-unicast",
+    "run-unicast-b10",
+    "run-multicast",
+    "run-multicast-b10",
     "core1-unicast",
     "plain1-unicast",
     "core8-unicast",
@@ -149,6 +155,9 @@ impl Exchange {
         if let Some(rest) = name.strip_prefix("plain") {
             return Exchange::of_width(false, rest);
         }
+        if let Some(rest) = name.strip_prefix("run-") {
+            return Some((Exchange::InOneCall, rest));
+        }
         if let Some(rest) = name.strip_prefix("lock") {
             return Exchange::of_producers(true, rest);
         }
@@ -161,6 +170,7 @@ impl Exchange {
             Exchange::Core(_) => "core",
             Exchange::Ring => "ring",
             Exchange::Plain(_) => "plain",
+            Exchange::InOneCall => "run",
             Exchange::PlainSenders(_) => "plain-senders",
             Exchange::Lock(_) => "lock",
         }
@@ -331,6 +341,7 @@ impl fmt::Display for Topology {
         let word = self.exchange.word();
         match self.exchange {
             Exchange::Ring => (),
+            Exchange::InOneCall => write!(f, "{word}-")?,
             Exchange::Core(width) | Exchange::Plain(width) => write!(f, "{word}{width}-")?,
             Exchange::PlainSenders(count) | Exchange::Lock(count) => write!(f, "{word}{count}-")?,
         }
