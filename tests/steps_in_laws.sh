@@ -5,10 +5,11 @@
 # brings them together, loads too: no other file calls that.
 set -u
 cd "$(dirname "$0")/.." || exit 1
-calls='[.:](load|store|peek|swap|exchange|compare_exchange|fetch_[a-z]+|load_new_seat|swap_new_seat)(_with)?[(:]'
+# (a function that is named and not called, as `let f = AtomicU64::load;`, counts too)
+calls='[.:](load|store|peek|swap|exchange|compare_exchange|fetch_[a-z]+|load_new_seat|swap_new_seat)(_with)?([^A-Za-z0-9_]|$)'
 
 ends='\b(split_seat|join_seat|settling)\b'
-stores='[.:](store|swap|exchange|compare_exchange|fetch_[a-z]+|swap_new_seat)(_with)?[(:]'
+stores='[.:](store|swap|exchange|compare_exchange|fetch_[a-z]+|swap_new_seat)(_with)?([^A-Za-z0-9_]|$)'
 
 others_in() {
     local src=$1
@@ -27,7 +28,7 @@ others_in() {
         /Has(Stored|Loaded)|TookAll/ { told = 1 }
         $0 ~ stores && !stored || $0 ~ calls && !told && FILENAME !~ /settling/ { print FILENAME ":" FNR ":" $0 }' {} +
     # What an end remembers of a step is a definition, which has one look in it: not a function written here.
-    grep -rnE '[.:]peek[(:]|then = [{] (Loads [(]λ|Stores .*[)] [(]λ)' "$src" --include='*.rt'
+    grep -rnE '[.:]peek([^A-Za-z0-9_]|$)|then = [{] (Loads [(]λ|Stores .*[)] [(]λ)' "$src" --include='*.rt'
 }
 
 # (The tokens of plain memory are exchanged in slots that an end has in hand, which is no step.)

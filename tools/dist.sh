@@ -7,6 +7,7 @@ set -eu
 top=$(cd "$(dirname "$0")/.." && pwd)
 out=$(cd "$1" && pwd)
 said=$(sed -n 's/^const VERSION: &str = "\(.*\)";$/\1/p' "$top/crates/dr_command_line/src/words.rt")
+[ -n "$said" ] || { echo "crates/dr_command_line/src/words.rt has no line with the version"; exit 1; }
 name=disruptor-${said%%,*}-$(uname -s | tr '[:upper:]' '[:lower:]')-$(uname -m)
 room=$(mktemp -d)
 trap 'rm -rf "$room"' EXIT

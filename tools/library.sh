@@ -11,6 +11,7 @@ proved=${3:-$top/crates/dr_c/out/libdr_c.a}
 # (allocations of the library go through the kit's heap.c, which calls malloc and free)
 kit=$(dirname "$(rt doc)")
 version=$(sed -n 's/^const VERSION: &str = "\([^,"]*\).*/\1/p' "$top/crates/dr_command_line/src/words.rt")
+[ -n "$version" ] || { echo "crates/dr_command_line/src/words.rt has no line with the version"; exit 1; }
 [ -f "$proved" ] || { echo "$proved is not there: make lib proves it"; exit 1; }
 grep -q "^#define DISRUPTOR_VERSION \"$version\"" "$top/include/disruptor.h" || { echo "include/disruptor.h has not the version $version"; exit 1; }
 # (a release with another name breaks programs that are linked already: while the first number is 0, each with another second)
