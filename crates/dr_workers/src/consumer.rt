@@ -80,14 +80,7 @@ fn turn<E: Copy, R: Wait, O: Outlet<E>, G: Gate, H: InPlaceHandler<E>, P: Patien
 /// drained: each batch goes to the handler, then the worker passes its gate, then it completes the
 /// batch. Where nothing came it waits as `patience` does. A refusal ends the work. A worker that the
 /// gate stops goes on without it, and answers `Stopped` at its end.
-pub fn consume_with<
-    E: Copy,
-    R: Wait,
-    O: Outlet<E>,
-    G: Gate,
-    H: InPlaceHandler<E>,
-    P: Patience,
->(
+pub fn consume_with<E: Copy, R: Wait, O: Outlet<E>, G: Gate, H: InPlaceHandler<E>, P: Patience>(
     rt: &R,
     outlet: &mut O,
     gate: &G,
@@ -142,14 +135,7 @@ pub fn consume<E: Copy, R: Wait, O: Outlet<E>, G: Gate, H: Handler<E>>(
 
 /// As [`consume_with`] over an end of two-word events that is the worker's own: it takes up to [`BATCH`] of them at
 /// once, and rings the bell with each completion. The end comes back, with the fault if there is one.
-pub fn serve<
-    R: Wait,
-    O: Outlet<Event>,
-    G: Gate,
-    H: InPlaceHandler<Event>,
-    B: Rings,
-    P: Patience,
->(
+pub fn serve<R: Wait, O: Outlet<Event>, G: Gate, H: InPlaceHandler<Event>, B: Rings, P: Patience>(
     rt: &R,
     outlet: O,
     gate: &G,
