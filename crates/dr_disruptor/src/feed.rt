@@ -2,8 +2,8 @@
 
 ghost use Rattle.std.specs.Prelude.{◌≡◌, List};
 
-use dr_meaning::InPlaceInlet;
 use crate::sender::LiveSender;
+use dr_meaning::InPlaceInlet;
 use std::sync::Wait;
 
 /// What sends the events of a run, by whichever sender: what a closure is that takes any of them.

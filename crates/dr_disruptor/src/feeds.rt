@@ -7,10 +7,9 @@ ghost use Rattle.dr_disruptor.specs.Feeding.{AreGiven, IsUnsent, LeavesClosed, f
 ghost use Rattle.dr_plain_senders.specs.Calls.InPlace.{sending_of};
 
 use crate::sender::LiveSender;
-use dr_workers::WaitStrategy;
 use crate::workers::wait_for;
 use dr_plain_senders::Sender;
-use dr_workers::Bell;
+use dr_workers::{Bell, WaitStrategy};
 use std::alloc::{AllocError, Global};
 use std::marker::PhantomData;
 use std::snapshot::Snapshot;

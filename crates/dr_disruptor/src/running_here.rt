@@ -12,18 +12,18 @@ ghost use Rattle.dr_disruptor.specs.Running.{AreSettled, IsRanBy, refusal_of, sh
 
 use crate::fault::RunFault;
 use crate::feed::Feed;
-use dr_meaning::InPlaceHandler;
 use crate::here::Here;
 use crate::running::{Ran, open};
 use crate::sender::LiveSender;
-use dr_workers::WaitStrategy;
 use crate::team::Team;
 use crate::way::Way;
 use crate::workers::{Back, apart};
 use dr_cells::Values;
 use dr_graph::Graph;
+use dr_meaning::InPlaceHandler;
 use dr_plain::{Halter, Settled, finish};
 use dr_seq::Size;
+use dr_workers::WaitStrategy;
 use std::alloc::{AllocError, Global};
 use std::sync::Wait;
 

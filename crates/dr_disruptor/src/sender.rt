@@ -6,13 +6,13 @@ ghost use Rattle.dr_meaning.specs.Calls.Filling.{FillsFrom, FillsOne};
 ghost use Rattle.dr_meaning.specs.Calls.Ends.{IsStretch};
 ghost use Rattle.dr_meaning.specs.Calls.InPlaceInlets.{Opens};
 ghost use Rattle.dr_disruptor.specs.Sending.{Fills, FillsOn, FillsPart, IsRefused, SendsAll, SendsOne, StopsAfter};
-ghost use Rattle.dr_plain_senders.specs.Calls.InPlace.{HaltCall, sending_of};
+ghost use Rattle.dr_plain_senders.specs.Calls.InPlace.{sending_of};
+ghost use Rattle.dr_plain_senders.specs.Calls.Sending.{HaltCall};
 ghost use Rattle.dr_plain_senders.specs.Calls.Ends.{sender_place};
 
-use dr_workers::WaitStrategy;
 use dr_meaning::{ClaimFault, Claimed, InPlaceInlet, Refusal};
 use dr_plain_senders as several;
-use dr_workers::{Bell, Patience};
+use dr_workers::{Bell, Patience, WaitStrategy};
 use std::alloc::Global;
 use std::marker::Model;
 use std::sync::{Arc, Wait};

@@ -5,8 +5,8 @@ ghost use Rattle.dr_disruptor.specs.Handlers.{AllWentThrough};
 ghost use Rattle.dr_disruptor.specs.OneOf.{AreThree, AreTwo};
 ghost use Rattle.dr_disruptor.specs.declared.one_of.OneOf.TheVariants.{First, Second};
 
-use dr_meaning::InPlaceHandler;
 use crate::one_of::OneOf;
+use dr_meaning::InPlaceHandler;
 use std::alloc::{AllocError, Global};
 
 /// The handlers of a run, in the graph's order: a list of one type, or two or three of different types. In the run they

@@ -3,9 +3,9 @@
 ghost use Rattle.std.specs.Prelude.{◌≡◌, ◌<◌, [], All, IfOk, OnOk, length, map};
 ghost use Rattle.dr_disruptor.specs.Serving.{AreInBatches, GaveBack, IsIdle, given_end, given_handler};
 
-use dr_meaning::{InPlaceHandler, InPlaceOutlet};
 use crate::served::{Served, ServesPromise, serve};
 use crate::way::Way;
+use dr_meaning::{InPlaceHandler, InPlaceOutlet};
 use dr_workers::Bell;
 use std::alloc::{AllocError, Global};
 use std::sync::{Arc, Wait};

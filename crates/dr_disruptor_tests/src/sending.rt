@@ -13,11 +13,11 @@ use std::thread::Threads;
 
 const LAST: [u64; 3] = [10, 11, 12];
 
-/// What came of the numbers from 1 to 12 over a diamond.
+/// What came of some numbers over a diamond.
 type Numbers = Ran<u64, Vec<Tally>, Settled<u64>, u64>;
 
-/// Sends the numbers from 1 to 12, each call some of them.
-fn sent<R: Threads + Wait + Abort + Copy + Send + 'static>(
+/// Sends the numbers from 1 to 5, the first two one at a time.
+fn one_by_one<R: Threads + Wait + Abort + Copy + Send + 'static>(
     rt: R,
     alloc: Global,
     way: Way,
@@ -25,8 +25,8 @@ fn sent<R: Threads + Wait + Abort + Copy + Send + 'static>(
     requires { 0 < way.batch }
 {
     let graph = diamond(&rt, alloc);
-    let size = size(&rt, 8);
-    let events = vec![in alloc; 0u64; 8].expect(&rt, "memory");
+    let size = size(&rt, 4);
+    let events = vec![in alloc; 0u64; 4].expect(&rt, "memory");
     let tallies = vec![in alloc; Tally::default(); 3].expect(&rt, "memory");
     let ran = run(rt, alloc, &graph, size, events, tallies, way, |sender| {
         check(&rt, sender.published(), 0);
@@ -34,7 +34,25 @@ fn sent<R: Threads + Wait + Abort + Copy + Send + 'static>(
         check(&rt, sender.try_publish_with(|event| *event = 2), Ok(()));
         let each = sender.publish_each(3, 2, |event: &mut u64, k| *event = k.wrapping_add(3));
         check(&rt, each, Ok(()));
-        let mut next = 6u64;
+        sender.published()
+    });
+    ran.expect(&rt, "a run")
+}
+
+/// Sends the numbers from 1 to 4 in one claim, and then those from 10 to 12.
+fn together<R: Threads + Wait + Abort + Copy + Send + 'static>(
+    rt: R,
+    alloc: Global,
+    way: Way,
+) -> Numbers
+    requires { 0 < way.batch }
+{
+    let graph = diamond(&rt, alloc);
+    let size = size(&rt, 4);
+    let events = vec![in alloc; 0u64; 4].expect(&rt, "memory");
+    let tallies = vec![in alloc; Tally::default(); 3].expect(&rt, "memory");
+    let ran = run(rt, alloc, &graph, size, events, tallies, way, |sender| {
+        let mut next = 1u64;
         let batch = sender.publish_batch(
             4,
             &mut |event: &mut u64, _k| {
@@ -54,39 +72,42 @@ fn sent<R: Threads + Wait + Abort + Copy + Send + 'static>(
     ran.expect(&rt, "a run")
 }
 
-fn check_sent(rt: &impl Abort, ran: Numbers) {
-    check(rt, ran.sent, 12);
-    check(rt, ran.settled.claimed(), 12);
-    check(rt, ran.settled.published(), 12);
+/// So many numbers were sent, whose sum is this for each handler, and that of those that lie in the ring at last.
+fn check_sent(rt: &impl Abort, ran: Numbers, many: u64, sum: u64, last: u64) {
+    check(rt, ran.sent, many);
+    check(rt, ran.settled.claimed(), many);
+    check(rt, ran.settled.published(), many);
     for tally in ran.handlers.iter() {
-        check(rt, tally.sum, 78);
+        check(rt, tally.sum, sum);
     }
     let mut events = ran.events;
-    let mut last = 0u64;
+    let mut left = 0u64;
     while let Some(event) = events.next() {
-        last = last.wrapping_add(event);
+        left = left.wrapping_add(event);
     }
-    check(rt, last, 68);
+    check(rt, left, last);
+}
+
+/// Both runs.
+fn check_both<R: Threads + Wait + Abort + Copy + Send + 'static>(rt: R, alloc: Global, way: Way)
+    requires { 0 < way.batch }
+{
+    check_sent(&rt, one_by_one(rt, alloc, way), 5, 15, 14);
+    check_sent(&rt, together(rt, alloc, way), 7, 43, 37);
 }
 
 #[test]
 fn each_call_by_yielding(rt: HostRuntime) {
-    let ran = sent(rt, rt.alloc(), Way::by(WaitStrategy::Yielding));
-    check_sent(&rt, ran);
+    check_both(rt, rt.alloc(), Way::by(WaitStrategy::Yielding));
 }
 
 #[test]
 fn each_call_by_spinning_in_batches(rt: HostRuntime) {
-    let ran = sent(
-        rt,
-        rt.alloc(),
-        Way::by(WaitStrategy::Spinning).in_batches(1),
-    );
-    check_sent(&rt, ran);
+    let way = Way::by(WaitStrategy::Spinning).in_batches(1);
+    check_both(rt, rt.alloc(), way);
 }
 
 #[test]
 fn each_call_by_parking(rt: HostRuntime) {
-    let ran = sent(rt, rt.alloc(), Way::by(WaitStrategy::Parking));
-    check_sent(&rt, ran);
+    check_both(rt, rt.alloc(), Way::by(WaitStrategy::Parking));
 }

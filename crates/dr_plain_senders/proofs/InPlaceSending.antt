@@ -1,6 +1,6 @@
 -- One of several senders fills and publishes the stretch that it claimed, and is not refused then.
 use Rattle.std.proofs.Common.{◌≡◌, ◌<◌, ◌≤◌, ◌+◌, ◌-◌, ◌^◌, ℕ, Bool, true, false, ◌==◌, List, [], ◌∷◌, ◌++◌, length, map, replicate, Option, None, Some, Ok, Err, inl, inr, refl, sym, ap, subst, ◌∙◌, arith, length-append}
-use Rattle.std.specs.Prelude.{◌&&◌, flat_map, is_none, nat_lt}
+use Rattle.std.specs.Prelude.{◌&&◌, flat_map, is_none, nat_lt, IfOk, Result}
 use Rattle.std.specs.List.{range_with_len}
 use Rattle.std.proofs.lemmas.Bool.{and_from, and_parts, cases_Bool, cases_eq, eq-eqb, eqb-true, false≢true, le-ltb, lt-ltb, ltb-true, ne_eqb}
 use Rattle.std.proofs.lemmas.List.{length-map, length-replicate}
@@ -16,7 +16,7 @@ use Rattle.dr_meaning.specs.Calls.Ends.{Exactly, IsAnswerOf, MayFail, MayHold, V
 use Rattle.dr_meaning.proofs.Causes.{none_join, none_of_stretch}
 use Rattle.dr_runs.proofs.Elements.{at_below}
 use Rattle.dr_runs.proofs.Lists.{at_map, same_lists}
-use Rattle.dr_plain_senders.specs.declared.claiming.ClaimFault.{ClaimFault}
+use Rattle.dr_meaning.specs.declared.claim_fault.ClaimFault.{ClaimFault}
 use Rattle.dr_plain_senders.specs.declared.record.Own.{Own}
 use Rattle.dr_plain_senders.specs.declared.record.SenderRecord.{SenderRecord}
 use Rattle.dr_plain_senders.specs.declared.record.Stage.{Stage}
@@ -24,11 +24,11 @@ use Rattle.dr_plain_senders.specs.Meaning.Records.{Owns, events_of, fresh_own, i
 use Rattle.dr_plain_senders.specs.Meaning.Shape.{Shape}
 use Rattle.dr_plain_senders.specs.Calls.Ends.{EndPlace, SenderEnd, sender_place}
 use Rattle.dr_plain_senders.specs.Calls.Publishing.{Inside, IsReach, LendsWritten, Looked, Outside, PublishCall, PublishLooks, PublishSees, Reach, is_between, reach_unclaimed, stretch_tests, tests_of_publication}
-use Rattle.dr_plain_senders.specs.Calls.Sending.{SenderClaimCall}
+use Rattle.dr_plain_senders.specs.Calls.Sending.{HaltCall, SenderClaimCall}
 use Rattle.dr_plain_senders.specs.Calls.Writing.{Found, Has, IsAsked, IsSight, Never, Sight, Unasked, UpdateCall, WriteCall, sight_tests, tests_of_write, written_where}
 use Rattle.dr_meaning.specs.Calls.InPlaceInlets as inlet
 use Rattle.dr_meaning.specs.Calls.InPlaceInlets.{Changes, IsOpen, IsWhole, Opens, Sending, with_filled}
-use Rattle.dr_plain_senders.specs.Calls.InPlace.{HaltCall, events_in, first_open, has_one_stretch, is_neat, sending_by, sending_of, writes_open}
+use Rattle.dr_plain_senders.specs.Calls.InPlace.{events_in, first_open, has_one_stretch, is_neat, sending_by, sending_of, writes_open}
 use Rattle.dr_plain_senders.proofs.OwnStretch.{claimed_events, claimed_first, claimed_neat, claimed_writes, many_fresh, many_where, open_has, open_once, open_write, written_open}
 use Rattle.dr_plain_senders.proofs.OwnPublished.{many_published, more_events, published_neat, published_writes}
 
@@ -79,7 +79,7 @@ module _ {T : Type 0} where
 
   -- A claim.
 
-  pub opens : (e e' : SenderEnd T) (n : ℕ) (c : Claimed) → SenderClaimCall e n e' (Ok c) → ((s : ℕ) (t : Stage T) → Owns e.knows s t → s < c.lo)
+  opens : (e e' : SenderEnd T) (n : ℕ) (c : Claimed) → SenderClaimCall e n e' (Ok c) → ((s : ℕ) (t : Stage T) → Owns e.knows s t → s < c.lo)
       → (sending_of e).pending ≡ [] → Opens c.lo n (sending_of e) (sending_of e')
   opens e e' n c call apart closed =
       let N = closed_neat e.plan e.knows.own e.writes closed in
@@ -108,6 +108,11 @@ module _ {T : Type 0} where
           let right = length-append own (fresh_own p lo n) in
           let wrote = length-replicate {A = Option T} n None in
           let new = many_fresh T p lo n in omega arith
+
+  pub claim_opens : (e e' : SenderEnd T) (n : ℕ) (result : Result Claimed ClaimFault) → SenderClaimCall e n e' result → (sending_of e).pending ≡ []
+      → IfOk result (λ c. Opens c.lo n (sending_of e) (sending_of e'))
+  claim_opens e e' n (Ok c) call closed = opens e e' n c call call.1.2 closed
+  claim_opens e e' n (Err fault) call closed = tt
 
   -- a refused one
   pub stays : (e e' : SenderEnd T) (n : ℕ) (fault : ClaimFault) → SenderClaimCall e n e' (Err fault) → sending_of e' ≡ sending_of e

@@ -22,13 +22,7 @@ impl<T> InPlaceInlet for Sender<T> {
     ghost refuses = { RefusesClaim };
 
     fn try_claim(&mut self, n: u64) -> Result<Claimed, ClaimFault> {
-        match Sender::try_claim(self, n) {
-            Ok(claimed) => Ok(claimed),
-            Err(dr_plain_senders::ClaimFault::Refused(refusal)) => Err(ClaimFault::Refused(
-                refusal,
-            )),
-            Err(dr_plain_senders::ClaimFault::Contended) => Err(ClaimFault::Contended),
-        }
+        Sender::try_claim(self, n)
     }
 
     fn update<F: FnOnce(&mut T) + Drop>(&mut self, s: u64, change: F) {

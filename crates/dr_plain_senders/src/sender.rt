@@ -3,11 +3,7 @@
 ghost use Rattle.std.specs.Arc.{arc_value};
 ghost use Rattle.std.specs.Prelude.{◌≡◌, ◌<◌, ℕ};
 ghost use Rattle.dr_runs.specs.Looks.{looks_counted};
-ghost use Rattle.dr_plain_senders.specs.Meaning.Words.{claim_word, halted_from};
-ghost use Rattle.dr_plain_senders.specs.Meaning.Records.{sender_looked};
-ghost use Rattle.dr_plain_senders.specs.declared.record.Step.TheVariants.{SenderHalts};
-ghost use Rattle.dr_plain_senders.specs.Calls.Ends.{HasStoredAt};
-ghost use Rattle.dr_plain_senders.specs.Calls.Sending.{SenderClaimCall};
+ghost use Rattle.dr_plain_senders.specs.Calls.Sending.{HaltCall, SenderClaimCall};
 ghost use Rattle.dr_plain_senders.specs.Inside.Fits.{SenderFits};
 ghost use Rattle.dr_plain_senders.specs.Inside.Leaving.{BelongsSender};
 ghost use Rattle.dr_plain_senders.specs.Inside.Views.{sender_end};
@@ -97,7 +93,7 @@ impl<T> Sender<T> {
     /// Halts the ring, in one step. It always succeeds, and may be repeated. What is claimed may
     /// still be written and published; a receiver that took all of it is told `Drained`.
     pub fn halt(&mut self)
-        ensures { (found : ℕ) × HasStoredAt self.old (SenderHalts self.old.knows.number) (sender_looked self.old.knows claim_word (halted_from found)) self.new }
+        ensures { HaltCall self.old self.new }
     {
         self.station.halt();
     }

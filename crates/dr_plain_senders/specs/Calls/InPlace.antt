@@ -2,20 +2,17 @@
 use Rattle.std.specs.Prelude.{◌≡◌, ℕ, suc, ◌+◌, ◌^◌, ◌≤◌, ◌++◌, Contains, ◌==◌, ◌&&◌, not, nat_le, nat_lt, max, if◌then◌else◌, Bool, true, List, [], ◌∷◌, length, Option, None, Err}
 use Rattle.std.specs.List.{filter_map}
 use Rattle.dr_runs.specs.declared.look.Look.{Look}
-use Rattle.dr_plain_senders.specs.declared.claiming.ClaimFault.TheVariants as theirs
 use Rattle.dr_plain_senders.specs.declared.record.MarkLook.{MarkLook}
 use Rattle.dr_plain_senders.specs.declared.record.Own.{Own}
 use Rattle.dr_plain_senders.specs.declared.record.ReceiverRecord.{ReceiverRecord}
 use Rattle.dr_plain_senders.specs.Meaning.Moments.{event_of}
-use Rattle.dr_plain_senders.specs.Meaning.Records.{is_published, sender_looked}
+use Rattle.dr_plain_senders.specs.Meaning.Records.{is_published}
 use Rattle.dr_plain_senders.specs.Meaning.Shape.{Shape}
-use Rattle.dr_plain_senders.specs.Meaning.Words.{claim_word, count_word, halted_from, marked_from}
-use Rattle.dr_plain_senders.specs.declared.record.Step.TheVariants.{SenderHalts}
-use Rattle.dr_plain_senders.specs.Calls.Ends.{HasStoredAt, ReceiverEnd, SenderEnd}
+use Rattle.dr_plain_senders.specs.Meaning.Words.{count_word, marked_from}
+use Rattle.dr_plain_senders.specs.Calls.Ends.{ReceiverEnd, SenderEnd}
 use Rattle.dr_plain_senders.specs.Calls.Receiving.{ups_of}
 use Rattle.dr_plain_senders.specs.Calls.Sending.{SenderClaimCall}
 use Rattle.dr_meaning.specs.declared.claim_fault.ClaimFault.{ClaimFault}
-use Rattle.dr_meaning.specs.declared.claim_fault.ClaimFault.TheVariants.{Contended, Refused}
 use Rattle.dr_meaning.specs.Calls.InPlaceInlets.{Sending}
 
 module _ {T : Type 0} where
@@ -60,12 +57,7 @@ module _ {T : Type 0} where
 
   -- a refused claim tells all that the ring's own does
   abbrev pub RefusesClaim : SenderEnd T → ℕ → ClaimFault → SenderEnd T → Type 0
-  RefusesClaim e n (Refused refusal) e' = SenderClaimCall e n e' (Err (theirs.Refused refusal))
-  RefusesClaim e n Contended e' = SenderClaimCall e n e' (Err theirs.Contended)
-
-  -- a sender halted its ring, and did nothing else
-  abbrev pub HaltCall : SenderEnd T → SenderEnd T → Type 0
-  HaltCall e e' = (found : ℕ) × HasStoredAt e (SenderHalts e.knows.number) (sender_looked e.knows claim_word (halted_from found)) e'
+  RefusesClaim e n fault e' = SenderClaimCall e n e' (Err fault)
 
   -- a look that found the marks of some sequences, each of which is one of the first n
   abbrev pub IsWithin : Shape T → ℕ → MarkLook → Type 0

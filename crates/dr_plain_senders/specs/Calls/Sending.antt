@@ -11,18 +11,18 @@ use Rattle.dr_runs.specs.declared.look.Look.{Look}
 use Rattle.dr_runs.specs.Looks.{look}
 use Rattle.dr_lent.specs.declared.lent.Lent.{Lent}
 use Rattle.dr_plain_senders.specs.Meaning.Shape.{Shape}
-use Rattle.dr_plain_senders.specs.Meaning.Words.{claim_word, is_halted, cell_of}
-use Rattle.dr_plain_senders.specs.Meaning.Records.{fresh_own, Owns}
+use Rattle.dr_plain_senders.specs.Meaning.Words.{claim_word, is_halted, halted_from, cell_of}
+use Rattle.dr_plain_senders.specs.Meaning.Records.{fresh_own, sender_looked, Owns}
 use Rattle.dr_plain_senders.specs.declared.record.Stage.{Stage}
 use Rattle.dr_plain_senders.specs.declared.record.SenderRecord.{SenderRecord}
 use Rattle.dr_plain_senders.specs.declared.record.Step.{Step}
-use Rattle.dr_plain_senders.specs.declared.record.Step.TheVariants.{SenderClaims}
+use Rattle.dr_plain_senders.specs.declared.record.Step.TheVariants.{SenderClaims, SenderHalts}
 use Rattle.dr_meaning.specs.declared.claim_fault.ClaimFault.{ClaimFault}
 use Rattle.dr_meaning.specs.declared.claim_fault.ClaimFault.TheVariants.{Refused, Contended}
 use Rattle.dr_plain_senders.specs.Meaning.Lying.{Laid}
 use Rattle.dr_plain_senders.specs.Inside.Seats.{LayIn, LayAsLent, taken_by_claim}
 use Rattle.dr_runs.specs.Runs.{IsBeginning}
-use Rattle.dr_plain_senders.specs.Calls.Ends.{SenderStand, SenderEnd, Stays, at_station, count_looks}
+use Rattle.dr_plain_senders.specs.Calls.Ends.{SenderStand, SenderEnd, HasStoredAt, Stays, at_station, count_looks}
 
 -- a claim looks at the finals' counts in rising order
 abbrev pub gate_looks : {T : Type 0} → Shape T → List ℕ → List Look
@@ -128,3 +128,7 @@ module _ {T : Type 0} where
   -- the call of a sender's end
   abbrev pub SenderClaimCall : SenderEnd T → ℕ → SenderEnd T → Result Claimed ClaimFault → Type 0
   SenderClaimCall e n e' result = ClaimCall (at_station e) n (at_station e') result × ClaimGains e n e' result
+
+-- a sender halted its ring, in one step, and did nothing else
+abbrev pub HaltCall : {T : Type 0} → SenderEnd T → SenderEnd T → Type 0
+HaltCall e e' = (found : ℕ) × HasStoredAt e (SenderHalts e.knows.number) (sender_looked e.knows claim_word (halted_from found)) e'
