@@ -3,6 +3,7 @@
 use crate::building::{tell_builder, tell_built};
 use crate::core_calls::{OfCore, tell_core, tell_opened};
 use crate::fault::Fault;
+use crate::feeds::tell_feeds;
 use crate::graphs::diamond;
 use crate::locking::tell_locked;
 use crate::parts::tell_parts;
@@ -11,7 +12,6 @@ use crate::plain_rings::{ONE_SENDER, TOGETHER, TWO_SENDERS, tell_rings};
 use crate::plain_senders_calls::tell_plain_senders_ends;
 use crate::recording::{OfHistory, tell_history};
 use crate::ring_calls::{tell_ends, tell_ring};
-use crate::scripts::tell_scripts;
 use crate::settling::tell_settled;
 use crate::telling::Lines;
 use dr_graph::Graph;
@@ -57,8 +57,8 @@ pub enum Case {
     Over(Over),
     /// A history behind a lock: its ends, and how they come together.
     Locked,
-    /// A run in one call, with a thread for each of two handlers and of two scripts.
-    Scripts,
+    /// A run in one call, with a thread for each of two handlers and of two senders.
+    Feeds,
 }
 
 /// The cases, with their names on the command line.
@@ -78,7 +78,7 @@ pub const CASES: [(&str, Case); 22] = [
     ("run", Case::Core(OfCore::Run)),
     ("call", Case::History(OfHistory::Calls)),
     ("audit", Case::History(OfHistory::Audits)),
-    ("scripts", Case::Scripts),
+    ("feeds", Case::Feeds),
     ("core", Case::Core(OfCore::EveryCall)),
     ("many", Case::Core(OfCore::Many)),
     ("ends", Case::Over(Over::Ends)),
@@ -135,7 +135,7 @@ fn tell_once<R: Print + Threads + Wait + Copy + Send + 'static>(
         Case::History(what) => tell_history(out, alloc, what),
         Case::Over(over) => tell_over_diamond(out, alloc, over),
         Case::Locked => tell_locked(out, alloc),
-        Case::Scripts => tell_scripts(out, alloc),
+        Case::Feeds => tell_feeds(out, alloc),
     }
 }
 

@@ -1,6 +1,7 @@
 //! Why a run fails, or does not begin.
 
 use dr_disruptor::RunFault;
+use dr_meaning::Refusal;
 use dr_workers::WorkFault;
 use std::alloc::{AllocError, AllocFailed};
 use std::{fmt, io};
@@ -13,6 +14,8 @@ pub enum Fault {
     Memory,
     /// A worker did not do all of its work.
     Worker { who: usize, fault: WorkFault },
+    /// A run's sender was refused a call.
+    Refused(Refusal),
     /// There is no clock, or nothing can be written.
     Outside,
     /// An event took longer than it may.
@@ -26,7 +29,7 @@ impl Fault {
     pub fn status(self) -> u8 {
         match self {
             Fault::Usage => 1,
-            Fault::Memory | Fault::Worker { .. } => 3,
+            Fault::Memory | Fault::Worker { .. } | Fault::Refused(_) => 3,
             Fault::Outside => 4,
             Fault::Late | Fault::Lost => 5,
         }
@@ -44,6 +47,7 @@ impl fmt::Display for Fault {
                 let fault = fault.name();
                 write!(f, "worker {who}: {fault}")
             }
+            Fault::Refused(refusal) => write!(f, "a sender: {refusal}"),
             Fault::Outside => f.write_str("no clock, or cannot write"),
             Fault::Late => f.write_str("an event came late"),
             Fault::Lost => f.write_str("an event was not noted"),
@@ -54,9 +58,15 @@ impl fmt::Display for Fault {
 impl From<RunFault> for Fault {
     fn from(fault: RunFault) -> Fault {
         match fault {
-            RunFault::Worker { who, fault } => Fault::Worker { who, fault },
+            RunFault::Refused(refusal) => Fault::Refused(refusal),
             _ => Fault::Memory,
         }
+    }
+}
+
+impl From<Refusal> for Fault {
+    fn from(refusal: Refusal) -> Fault {
+        Fault::Refused(refusal)
     }
 }
 

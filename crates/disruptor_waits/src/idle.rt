@@ -2,9 +2,9 @@
 
 use crate::fault::Fault;
 use crate::pair::idlers;
-use crate::runs::{Job, run};
-use dr_disruptor::{LiveSender, WaitStrategy, Waits};
-use dr_workers::WorkFault;
+use crate::runs::run;
+use dr_disruptor::{Feed, InPlaceInlet, LiveSender, WaitStrategy};
+use dr_meaning::Refusal;
 use std::alloc::Global;
 use std::sync::Wait;
 use std::thread::{Threads, sleep};
@@ -14,20 +14,25 @@ use std::time::{Clock, Duration};
 const SLOTS: u64 = 64;
 
 /// So many seconds without an event.
-#[derive(Clone, Copy)]
-struct Rest {
+#[derive(Drop)]
+struct Rest<R> {
+    clock: R,
     seconds: u64,
 }
 
-impl<R: Clock> Job<R> for Rest {
-    fn send(
-        &self,
-        rt: &R,
-        _sender: &mut LiveSender,
-        _waits: &mut Waits<'_, R>,
-    ) -> Option<WorkFault> {
-        sleep(rt, Duration::from_secs(self.seconds));
-        None
+impl<C: Clock> Feed<u64> for Rest<C> {
+    ghost use Rattle.std.specs.Prelude.{⊤};
+
+    type Answer = Result<(), Refusal>;
+
+    ghost gives = { λ rest answer old new. ⊤ };
+
+    fn feed<R: Wait + Copy, I: InPlaceInlet<Event = u64>>(
+        self,
+        _sender: &mut LiveSender<R, I>,
+    ) -> Result<(), Refusal> {
+        sleep(&self.clock, Duration::from_secs(self.seconds));
+        Ok(())
     }
 }
 
@@ -39,5 +44,6 @@ pub fn wait<R: Threads + Wait + Clock + Copy + Send + 'static>(
     seconds: u64,
 ) -> Result<(), Fault> {
     let handlers = idlers(alloc)?;
-    run(rt, alloc, SLOTS, handlers, strategy, &Rest { seconds })
+    let rest = Rest { clock: rt, seconds };
+    run(rt, alloc, SLOTS, handlers, strategy, rest)
 }

@@ -1,18 +1,14 @@
 //! Events that are sent one by one, each once the one before was taken.
 
-ghost use Rattle.std.specs.Prelude.{◌≡◌};
-
 use crate::clock::{micros_since, pause};
 use crate::fault::Fault;
-use crate::pair::takers;
-use crate::runs::{Job, run};
+use crate::pair::{Taken, takers};
+use crate::runs::run;
 use crate::times::{Notes, Times};
-use dr_disruptor::{LiveSender, WaitStrategy, Waits};
-use dr_meaning::Inlet;
-use dr_seq::Event;
-use dr_workers::{OpenGate, Patience, SENDER, WorkFault, produce_with};
+use dr_disruptor::{Feed, InPlaceInlet, LiveSender, WaitStrategy};
+use dr_meaning::Refusal;
+use dr_workers::Patience;
 use std::alloc::Global;
-use std::sync::atomic::{AtomicU64, Ordering};
 use std::sync::{Arc, Wait};
 use std::thread::Threads;
 use std::time::{Clock, Instant};
@@ -21,9 +17,9 @@ use std::time::{Clock, Instant};
 const SLOTS: u64 = 64;
 
 // Waits until an event was taken.
-fn await_taken<R: Wait, P: Patience>(rt: &R, patience: &mut P, taken: &AtomicU64, number: u64) {
+fn await_taken<R: Wait, P: Patience>(rt: &R, patience: &mut P, taken: &Taken, number: u64) {
     for _ in rt.forever() {
-        if taken.load(Ordering::SeqCst) == number {
+        if taken.is(number) {
             patience.found(1);
             return;
         }
@@ -32,62 +28,38 @@ fn await_taken<R: Wait, P: Patience>(rt: &R, patience: &mut P, taken: &AtomicU64
     unreachable!()
 }
 
-// Sends an event, waits until it was taken, and notes how long that took.
-fn send_one<R: Wait + Clock, I: Inlet<Event>, P: Patience>(
-    rt: &R,
-    inlet: &mut I,
-    patience: &mut P,
-    taken: &AtomicU64,
-    number: u64,
-    notes: &Notes,
-) -> Option<WorkFault>
-    ensures kept { I.kept inlet.new ≡ I.kept inlet.old }
-{
-    let begun = Instant::now(rt).ok();
-    let event = Event {
-        first: number,
-        second: 0,
-    };
-    let produced = produce_with(rt, inlet, &OpenGate, SENDER, &[event], 1, patience);
-    if produced.fault.is_none() {
-        await_taken(rt, patience, taken, number);
-        notes.note(micros_since(rt, begun).unwrap_or(u64::MAX));
-    }
-    produced.fault
-}
-
-// Sends so many events, up to one that is refused.
-fn send_each<R: Wait + Clock, I: Inlet<Event>, P: Patience>(
-    rt: &R,
-    inlet: &mut I,
-    patience: &mut P,
-    taken: &AtomicU64,
-    events: u64,
-    notes: &Notes,
-) -> Option<WorkFault>
-    ensures kept { I.kept inlet.new ≡ I.kept inlet.old }
-{
-    for number in 1..=events {
-        pause(rt, number);
-        let fault = send_one(rt, inlet, patience, taken, number, notes);
-        if fault.is_some() {
-            return fault;
-        }
-    }
-    None
-}
-
 /// So many events, of which the second handler shows what it took.
-#[derive(Clone, Copy)]
-struct Lone<'a> {
+#[derive(Drop)]
+struct Lone<'a, C> {
+    rt: C,
+    strategy: WaitStrategy,
     events: u64,
-    taken: &'a AtomicU64,
+    taken: &'a Taken,
     notes: &'a Notes,
 }
 
-impl<R: Wait + Clock> Job<R> for Lone<'_> {
-    fn send(&self, rt: &R, sender: &mut LiveSender, waits: &mut Waits<'_, R>) -> Option<WorkFault> {
-        send_each(rt, sender, waits, self.taken, self.events, self.notes)
+impl<C: Wait + Clock> Feed<u64> for Lone<'_, C> {
+    ghost use Rattle.std.specs.Prelude.{⊤};
+
+    type Answer = Result<(), Refusal>;
+
+    ghost gives = { λ lone answer old new. ⊤ };
+
+    // Each event is sent, awaited until it was taken, and noted.
+    fn feed<R: Wait + Copy, I: InPlaceInlet<Event = u64>>(
+        self,
+        sender: &mut LiveSender<R, I>,
+    ) -> Result<(), Refusal> {
+        let rt = &self.rt;
+        let mut waits = self.strategy.begin(rt, self.taken.bell(), 1);
+        for number in 1..=self.events {
+            pause(rt, number);
+            let begun = Instant::now(rt).ok();
+            sender.publish_with(|event| *event = number)?;
+            await_taken(rt, &mut waits, self.taken, number);
+            self.notes.note(micros_since(rt, begun).unwrap_or(u64::MAX));
+        }
+        Ok(())
     }
 }
 
@@ -98,14 +70,16 @@ pub fn send<R: Threads + Wait + Clock + Copy + Send + 'static>(
     strategy: WaitStrategy,
     events: u64,
 ) -> Result<Times, Fault> {
-    let taken = Arc::new(alloc, AtomicU64::new(0))?;
+    let taken = Arc::new(alloc, Taken::new())?;
     let handlers = takers(alloc, &taken)?;
     let notes = Notes::new();
-    let job = Lone {
+    let lone = Lone {
+        rt,
+        strategy,
         events,
         taken: &taken,
         notes: &notes,
     };
-    run(rt, alloc, SLOTS, handlers, strategy, &job)?;
+    run(rt, alloc, SLOTS, handlers, strategy, lone)?;
     Ok(notes.times())
 }

@@ -30,7 +30,7 @@ mod times;
 mod words;
 
 use clock::micros_since;
-use dr_disruptor::WaitStrategy;
+use dr_workers::WaitStrategy;
 use fault::Fault;
 use std::alloc::Global;
 use std::env;
@@ -70,7 +70,7 @@ fn send_lone<R: Runtime + Threads + Wait + Copy + Send + 'static>(
 fn send_one_slot<R: Runtime + Threads + Wait + Copy + Send + 'static>(
     rt: R,
     alloc: Global,
-    events: usize,
+    events: u64,
     micros: u64,
 ) -> Result<(), Fault> {
     let times = one_slot::send(rt, alloc, events)?;

@@ -2,27 +2,39 @@
 
 use crate::fault::Fault;
 use crate::pair::idlers;
-use crate::runs::{Job, run};
+use crate::runs::run;
 use crate::stopwatch::Stopwatch;
 use crate::times::Times;
-use dr_disruptor::{LiveSender, WaitStrategy, Waits};
-use dr_seq::Event;
-use dr_workers::{SENDER, WorkFault, produce_with};
+use dr_disruptor::{Feed, InPlaceInlet, LiveSender, WaitStrategy};
+use dr_meaning::Refusal;
 use std::alloc::Global;
 use std::sync::Wait;
 use std::thread::Threads;
 use std::time::Clock;
 
-/// A script that is sent event by event.
-#[derive(Clone, Copy)]
-struct Script<'a, R> {
-    events: &'a [Event],
-    stopwatch: &'a Stopwatch<R>,
+/// So many events, each of which is timed once it has its slot.
+#[derive(Drop)]
+struct Timed<'a, C> {
+    events: u64,
+    stopwatch: &'a Stopwatch<C>,
 }
 
-impl<R: Wait + Clock> Job<R> for Script<'_, R> {
-    fn send(&self, rt: &R, sender: &mut LiveSender, waits: &mut Waits<'_, R>) -> Option<WorkFault> {
-        produce_with(rt, sender, self.stopwatch, SENDER, self.events, 1, waits).fault
+impl<C: Clock> Feed<u64> for Timed<'_, C> {
+    ghost use Rattle.std.specs.Prelude.{⊤};
+
+    type Answer = Result<(), Refusal>;
+
+    ghost gives = { λ timed answer old new. ⊤ };
+
+    fn feed<R: Wait + Copy, I: InPlaceInlet<Event = u64>>(
+        self,
+        sender: &mut LiveSender<R, I>,
+    ) -> Result<(), Refusal> {
+        sender.publish_each(
+            self.events,
+            1,
+            |_event: &mut u64, turn| self.stopwatch.pass(turn),
+        )
     }
 }
 
@@ -30,15 +42,14 @@ impl<R: Wait + Clock> Job<R> for Script<'_, R> {
 pub fn send<R: Threads + Wait + Clock + Copy + Send + 'static>(
     rt: R,
     alloc: Global,
-    events: usize,
+    events: u64,
 ) -> Result<Times, Fault> {
-    let script = vec![in alloc; Event::NONE; events.saturating_add(1)]?;
     let stopwatch = Stopwatch::new(rt);
-    let job = Script {
-        events: script.as_slice(),
+    let timed = Timed {
+        events: events.saturating_add(1),
         stopwatch: &stopwatch,
     };
     let handlers = idlers(alloc)?;
-    run(rt, alloc, 1, handlers, WaitStrategy::Parking, &job)?;
+    run(rt, alloc, 1, handlers, WaitStrategy::Parking, timed)?;
     Ok(stopwatch.times())
 }

@@ -3,24 +3,50 @@
 use crate::fault::Fault;
 use dr_graph::{Graph, GraphBuilder, GraphFault};
 use dr_meaning::InPlaceHandler;
-use dr_seq::Event;
+use dr_workers::Bell;
 use std::alloc::Global;
 use std::sync::Arc;
 use std::sync::atomic::{AtomicU64, Ordering};
 
-/// A handler that shows the number of the event that it was shown last.
+/// The number that a handler was shown last, and a bell that it rings then.
 #[derive(Drop)]
-pub struct Taker {
-    taken: Arc<AtomicU64, Global>,
+pub struct Taken {
+    number: AtomicU64,
+    bell: Bell,
 }
 
-impl InPlaceHandler<Event> for Taker {
+impl Taken {
+    pub fn new() -> Taken {
+        Taken {
+            number: AtomicU64::new(0),
+            bell: Bell::new(),
+        }
+    }
+
+    pub fn bell(&self) -> &Bell {
+        &self.bell
+    }
+
+    /// Whether this is the number that it was shown last.
+    pub fn is(&self, number: u64) -> bool {
+        self.number.load(Ordering::SeqCst) == number
+    }
+}
+
+/// A handler that shows which number it was shown last.
+#[derive(Drop)]
+pub struct Taker {
+    taken: Arc<Taken, Global>,
+}
+
+impl InPlaceHandler<u64> for Taker {
     ghost use Rattle.std.specs.Prelude.{⊤};
 
     ghost goes = { λ old event s end new. ⊤ };
 
-    fn on_event_in_place(&mut self, event: &Event, _s: u64, _end: bool) {
-        self.taken.store(event.first, Ordering::SeqCst);
+    fn on_event_in_place(&mut self, event: &u64, _s: u64, _end: bool) {
+        self.taken.number.store(*event, Ordering::SeqCst);
+        self.taken.bell.ring();
     }
 }
 
@@ -28,12 +54,12 @@ impl InPlaceHandler<Event> for Taker {
 #[derive(Drop)]
 pub struct Idler;
 
-impl InPlaceHandler<Event> for Idler {
+impl InPlaceHandler<u64> for Idler {
     ghost use Rattle.std.specs.Prelude.{⊤};
 
     ghost goes = { λ old event s end new. ⊤ };
 
-    fn on_event_in_place(&mut self, _event: &Event, _s: u64, _end: bool) {}
+    fn on_event_in_place(&mut self, _event: &u64, _s: u64, _end: bool) {}
 }
 
 /// Declares handlers, and which comes after which.
@@ -67,8 +93,8 @@ pub fn idlers(alloc: Global) -> Result<Vec<Idler>, Fault> {
 }
 
 /// Both of them, of which the second shows there what it took.
-pub fn takers(alloc: Global, taken: &Arc<AtomicU64, Global>) -> Result<Vec<Taker>, Fault> {
-    let unseen = Arc::new(alloc, AtomicU64::new(0))?;
+pub fn takers(alloc: Global, taken: &Arc<Taken, Global>) -> Result<Vec<Taker>, Fault> {
+    let unseen = Arc::new(alloc, Taken::new())?;
     let taken = Arc::try_clone(taken)?;
     Ok(vec![in alloc; Taker { taken: unseen }, Taker { taken }]?)
 }

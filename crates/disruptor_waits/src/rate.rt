@@ -1,14 +1,10 @@
 //! Events that are sent as fast as they are taken.
 
-ghost use Rattle.std.specs.Prelude.{◌≡◌};
-
 use crate::fault::Fault;
 use crate::pair::idlers;
-use crate::runs::{Job, run};
-use dr_disruptor::{LiveSender, WaitStrategy, Waits};
-use dr_meaning::Inlet;
-use dr_seq::Event;
-use dr_workers::{OpenGate, Patience, SENDER, WorkFault, produce_with};
+use crate::runs::run;
+use dr_disruptor::{Feed, InPlaceInlet, LiveSender, WaitStrategy};
+use dr_meaning::Refusal;
 use std::alloc::Global;
 use std::num::NonZeroU64;
 use std::sync::Wait;
@@ -17,31 +13,6 @@ use std::thread::Threads;
 /// The slots of the ring.
 const SLOTS: u64 = 1024;
 
-/// The events that are sent over and over.
-const STRETCH: [Event; 1000] = [Event {
-    first: 0,
-    second: 0,
-}; 1000];
-
-// Sends so many stretches, up to an event that is refused.
-fn send_each<R: Wait, I: Inlet<Event>, P: Patience>(
-    rt: &R,
-    inlet: &mut I,
-    patience: &mut P,
-    stretches: u64,
-    cut: NonZeroU64,
-) -> Option<WorkFault>
-    ensures kept { I.kept inlet.new ≡ I.kept inlet.old }
-{
-    for _ in 0..stretches {
-        let produced = produce_with(rt, inlet, &OpenGate, SENDER, &STRETCH, cut.get(), patience);
-        if produced.fault.is_some() {
-            return produced.fault;
-        }
-    }
-    None
-}
-
 /// So many thousand events, in claims of up to `cut`.
 #[derive(Clone, Copy)]
 struct Thousands {
@@ -49,9 +20,21 @@ struct Thousands {
     cut: NonZeroU64,
 }
 
-impl<R: Wait> Job<R> for Thousands {
-    fn send(&self, rt: &R, sender: &mut LiveSender, waits: &mut Waits<'_, R>) -> Option<WorkFault> {
-        send_each(rt, sender, waits, self.count, self.cut)
+impl Feed<u64> for Thousands {
+    ghost use Rattle.std.specs.Prelude.{⊤};
+
+    type Answer = Result<(), Refusal>;
+
+    ghost gives = { λ thousands answer old new. ⊤ };
+
+    fn feed<R: Wait + Copy, I: InPlaceInlet<Event = u64>>(
+        self,
+        sender: &mut LiveSender<R, I>,
+    ) -> Result<(), Refusal> {
+        for _ in 0..self.count {
+            sender.publish_each(1000, self.cut.get(), |event: &mut u64, k| *event = k)?;
+        }
+        Ok(())
     }
 }
 
@@ -64,9 +47,9 @@ pub fn send<R: Threads + Wait + Copy + Send + 'static>(
     cut: NonZeroU64,
 ) -> Result<(), Fault> {
     let handlers = idlers(alloc)?;
-    let job = Thousands {
+    let feed = Thousands {
         count: thousands,
         cut,
     };
-    run(rt, alloc, SLOTS, handlers, strategy, &job)
+    run(rt, alloc, SLOTS, handlers, strategy, feed)
 }

@@ -2,12 +2,11 @@
 
 use crate::clock::{micros_since, pause};
 use crate::times::{Notes, Times};
-use dr_workers::{Gate, GateAnswer};
 use std::sync::atomic::{AtomicU64, Ordering};
 use std::time::{Clock, Instant};
 
-/// The gate of a sender over a ring of one slot: at each turn the event of the turn before is completed. It notes how
-/// many microseconds that took, and pauses before the next one.
+/// What times the events of a ring of one slot: where one has its slot, the one before is completed. It notes how many
+/// microseconds that took, and pauses before the next one.
 #[derive(Drop)]
 pub struct Stopwatch<R> {
     clock: R,
@@ -31,14 +30,8 @@ impl<R: Clock> Stopwatch<R> {
         micros_since(&self.clock, self.begun)
     }
 
-    /// How long the events took.
-    pub fn times(&self) -> Times {
-        self.notes.times()
-    }
-}
-
-impl<R: Clock> Gate for Stopwatch<R> {
-    fn pass(&self, _who: usize, turn: u64) -> GateAnswer {
+    /// The event of this turn has its slot, and is about to be published.
+    pub fn pass(&self, turn: u64) {
         if turn > 0 {
             let now = self.micros().unwrap_or(u64::MAX);
             let published = self.published.load(Ordering::SeqCst);
@@ -47,6 +40,10 @@ impl<R: Clock> Gate for Stopwatch<R> {
         pause(&self.clock, turn);
         self.published
             .store(self.micros().unwrap_or(0), Ordering::SeqCst);
-        GateAnswer::Go
+    }
+
+    /// How long the events took.
+    pub fn times(&self) -> Times {
+        self.notes.times()
     }
 }

@@ -1,6 +1,6 @@
 //! What the program is asked.
 
-use dr_disruptor::WaitStrategy;
+use dr_workers::WaitStrategy;
 use std::fmt;
 use std::num::NonZeroU64;
 
@@ -77,7 +77,7 @@ pub enum Task {
         seconds: u64,
     },
     OneSlot {
-        events: usize,
+        events: u64,
         micros: u64,
     },
     Rate {

@@ -9,11 +9,11 @@ use Rattle.dr_lock.specs.declared.exchange.Exchange.{Ghosts as Begun}
 use Rattle.dr_seq.specs.contracts.event.Event as Event
 use Rattle.dr_seq.specs.contracts.size.Size as Size
 use Rattle.dr_workers.specs.contracts.bell.Bell as Bell
-use Rattle.dr_threads.specs.contracts.strategy.WaitStrategy as WaitStrategy
+use Rattle.dr_workers.specs.contracts.strategy.WaitStrategy as WaitStrategy
 use Rattle.dr_lock.proofs.Sent.{end_send, shared_sync}
 use Rattle.dr_disruptor_lock.specs.contracts.around.Around as Around
+use Rattle.dr_disruptor_lock.specs.contracts.jobs.Job as Job
 use Rattle.dr_disruptor_lock.specs.contracts.jobs.Task as Task
-use Rattle.dr_lock.specs.contracts.locked.LockedOutlet as Outlet
 
 pub size_sync : IsSync Size.the_row
 size_sync = search sendable depth 30
@@ -40,17 +40,11 @@ pub ruleset sends = (sendable, std.crosses, event_send, end_send)
 pub task_send : (L : RattleType) (g : Ghosts L.Denot) → IsSend (Task.the_row L g)
 task_send L g = search sends depth 60 fits 20000
 
-pub ruleset crosses = (sendable, end_send, task_send, around_sync)
+pub job_send : (L H : RattleType) (g : Ghosts L.Denot) → IsSend H → IsSend (Job.the_row L H g)
+job_send L H g handler = search sends depth 60 fits 20000
 
-pub ruleset calls = (sendable, std.crosses, event_send, end_send, shared_sync)
-
--- an end over what all share
-pub outlet_send : (a : NamedLft) (L R : RattleType) (b : Begun L.Denot Event.the_row.Denot) (g : Ghosts L.Denot) → IsSync L → IsSync R
-    → IsSend (Outlet.the_row a Event.the_row L R b g)
-outlet_send a L R b g ledger workers = search calls depth 60 fits 20000
+-- a reference to what they share, and what they are given
+pub ruleset crosses = (sendable, end_send, task_send, job_send, around_sync)
 
 -- what they give back
 pub ruleset gives = (sendable, std.crosses, event_send, end_send)
-
--- an end over it, and a handler, whose type may be sent
-pub ruleset hands = (sendable, std.crosses, event_send, end_send, bell_sync, outlet_send)

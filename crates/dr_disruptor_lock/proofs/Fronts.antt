@@ -9,12 +9,9 @@ use Rattle.dr_workers.specs.declared.ended.Ended.{Ended}
 use Rattle.dr_workers.specs.declared.fault.WorkFault.{WorkFault}
 use Rattle.dr_workers.specs.declared.producer.Produced.{Produced}
 use Rattle.dr_runs.proofs.Elements.{at_below, value_at}
-use Rattle.dr_threads.specs.Endings.{AreFine}
 use Rattle.dr_disruptor_lock.specs.declared.sending.Sent.{Sent}
 use Rattle.dr_disruptor_lock.specs.Joining.{endings_from}
-use Rattle.dr_disruptor_lock.specs.Running.{fronts}
-use Rattle.dr_threads.specs.Serving.{endings_from as handlers_endings}
-use Rattle.dr_threads.specs.declared.served.Served.{Served}
+use Rattle.dr_disruptor_lock.specs.Running.{AreFine, fronts}
 
 -- what the workers gave back of their scripts is what they sent of them
 pub fronts_sent : {L : Type 0} (scripts : List (List Event)) (sent : List (Sent L)) → length sent ≡ length scripts
@@ -40,11 +37,6 @@ fronts_whole (x ∷ scripts) (b ∷ produced) many all =
     let here : take b.sent x ≡ x = take_all b.sent x (omega arith) in
     let rest = fronts_whole scripts produced (omega arith) (λ p script back at there. all (suc p) script back at there) in
     λ i. here i ∷ rest i
-
--- how handlers' workers ended, by their faults alone
-pub same_endings : {O A : Type 0} (who : ℕ) (served : List (Served O A)) → handlers_endings who served ≡ endings_from who (map (λ (s : Served O A). s.fault) served)
-same_endings who [] = refl
-same_endings who (s ∷ served) = ap (λ (l : List Ended). record { who = who; fault = s.fault } ∷ l) (same_endings (who + 1) served)
 
 -- how a worker ended stands at its place
 pub ending_at : (who : ℕ) (faults : List (Option WorkFault)) (last : List Ended) (h : ℕ) (f : Option WorkFault) → get_elem? faults h ≡ some f

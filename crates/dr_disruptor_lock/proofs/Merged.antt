@@ -10,10 +10,10 @@ use Rattle.dr_workers.specs.declared.producer.Produced.{Produced}
 use Rattle.dr_lock.specs.Meaning.History.{History, transcript}
 use Rattle.dr_lock.specs.Meaning.Audit.{IsAudited}
 use Rattle.dr_workers.specs.Meaning.Merge.{IsMerge}
-use Rattle.dr_threads.specs.Endings.{AreFine}
-use Rattle.dr_threads.specs.Handlers.{AllWentThrough, AllWentThroughMerge}
+use Rattle.dr_disruptor.specs.Handlers.{AllWentThrough}
+use Rattle.dr_disruptor.specs.Merging.{AllWentThroughMerge}
 use Rattle.dr_disruptor_lock.specs.declared.running.Ran.{Ran}
-use Rattle.dr_disruptor_lock.specs.Running.{IsRan, fronts}
+use Rattle.dr_disruptor_lock.specs.Running.{AreFine, IsRan, fronts}
 use Rattle.dr_disruptor_lock.proofs.Fronts.{both_ok, fine_at, fronts_whole}
 
 module _ {A : Type 0} (goes : Relation Event A) (begun : History Event) (size : ℕ) (scripts : List (List Event)) (starts : List A) (ran : Ran A)
@@ -27,9 +27,9 @@ module _ {A : Type 0} (goes : Relation Event A) (begun : History Event) (size : 
       let whole : one.sent ≡ length script = subst (λ (f : Option WorkFault). IfNone f (one.sent ≡ length script)) none sent.all in
       ap (λ (b : Produced). b.sent) (sym same) ∙ whole)
 
-  pub went_whole : IfOk ran.list (λ list. AreFine ran.endings.items → AllWentThroughMerge goes scripts starts ran.handlers.items list.items)
+  pub went_whole : IfOk ran.list (λ list. AreFine ran.endings.items → AllWentThroughMerge (AllWentThrough goes) 256 scripts list.items starts ran.handlers.items)
   went_whole =
       both_ok (λ list. IsAudited (transcript ran.recorded.history) (handlers begun.core.setup) (fronts scripts is.produced) list.items)
-      (λ list. AllWentThrough goes list.items starts ran.handlers.items)
-      (λ list. AreFine ran.endings.items → AllWentThroughMerge goes scripts starts ran.handlers.items list.items) ran.list is.audited is.went
+      (λ list. AllWentThrough goes 256 list.items starts ran.handlers.items)
+      (λ list. AreFine ran.endings.items → AllWentThroughMerge (AllWentThrough goes) 256 scripts list.items starts ran.handlers.items) ran.list is.audited is.went
       (λ list audited went fine. record { merge = subst (λ (ls : List (List Event)). IsMerge ls list.items) (all_sent fine) audited.merged; through = went })

@@ -19,18 +19,19 @@ use Rattle.dr_lock.specs.Calls.Asking.{InletAsks, OutletAsks}
 use Rattle.dr_lock.specs.Calls.Lock.{EndView, HasHalted, no_calls}
 use Rattle.dr_lock.specs.Meaning.Audit.{Faults, IsAudited}
 use Rattle.dr_lock.specs.Meaning.History.{History, transcript}
-use Rattle.dr_threads.specs.Handlers.{AllWentThrough, WentThrough}
+use Rattle.dr_disruptor.specs.Handlers.{AllWentThrough, WentThrough}
 use Rattle.dr_disruptor_lock.specs.declared.comparing.HistoryFault.{HistoryFault}
 use Rattle.dr_disruptor_lock.specs.declared.comparing.HistoryFault.TheVariants.{Audit, Shown}
 use Rattle.dr_disruptor_lock.specs.declared.jobs.Job.{Job}
 use Rattle.dr_disruptor_lock.specs.declared.jobs.Task.{Task}
 use Rattle.dr_disruptor_lock.specs.declared.running.Ran.{Ran}
 use Rattle.dr_disruptor_lock.specs.declared.sending.Sent.{Sent}
+use Rattle.dr_disruptor_lock.specs.declared.serving.Served.{Served}
 use Rattle.dr_disruptor_lock.specs.declared.workers.Joined.{Joined}
 use Rattle.dr_disruptor_lock.specs.Jobs.{AreJobs, AreTasks, IsJobOf, IsTaskOf}
 use Rattle.dr_disruptor_lock.specs.Joining.{IsJoined, IsSettled, endings_from}
 use Rattle.dr_disruptor_lock.specs.Running.{HasSent, HasServed, IsAmiss, IsHistoryOf, IsRan, fronts}
-use Rattle.dr_disruptor_lock.specs.Serving.{Returned, Sending, Serving}
+use Rattle.dr_disruptor_lock.specs.Serving.{Sending, Serving}
 use Rattle.dr_disruptor_lock.specs.Watching.{HasListed, IsNew, IsUnlike}
 use Rattle.dr_disruptor_lock.proofs.Filled.{all_full}
 use Rattle.dr_disruptor_lock.proofs.Fronts.{ending_at, endings_many, fronts_sent, where_err, where_ok}
@@ -52,21 +53,21 @@ amiss_as t c d sent other U V (Shown h) same are then_is is = (
 -- Of one worker.
 
 -- a handler's worker that was given the job of its number
-has_served : {L A : Type 0} (begun : History Event) (goes : Relation Event A) (h : ℕ) (start : A) (job : Job L A) (back : Returned A)
+has_served : {L A : Type 0} (begun : History Event) (goes : Relation Event A) (h : ℕ) (start : A) (job : Job L A) (back : Served L A)
     → Serving begun goes job back → IsJobOf h job
-    → job.watching.handler ≡ start → HasServed begun h goes start back.handler.handler back.outlet back.fault
+    → job.watching.handler ≡ start → HasServed begun h goes start back.watching.handler back.end back.fault
 has_served {A = A} begun goes h start job back serving is same =
     let s = serving.calls.holds in
     let calls = serving.calls.calls in
     record {
       calls = record {
         calls = calls;
-        lead = subst (λ (n : ℕ). CallsLead (OutletAsks begun n) no_calls calls back.outlet) is.0
-            (subst (λ (e : EndView Event). CallsLead (OutletAsks begun job.who) e calls back.outlet) is.1 serving.calls.lead);
+        lead = subst (λ (n : ℕ). CallsLead (OutletAsks begun n) no_calls calls back.end) is.0
+            (subst (λ (e : EndView Event). CallsLead (OutletAsks begun job.who) e calls back.end) is.1 serving.calls.lead);
         holds = record {
           works = record {
-            through = subst (λ (a : A). GoesThrough goes a (shown_of (batches_in calls)) back.handler.handler) same
-                (inside goes job.watching back.handler (shown_of (batches_in calls)) s.works.through);
+            through = subst (λ (a : A). GoesThrough goes a (shown_of (batches_in calls)) back.watching.handler) same
+                (inside goes job.watching back.watching (shown_of (batches_in calls)) s.works.through);
             handed = s.works.handed;
           };
           gate = s.gate;
@@ -98,13 +99,13 @@ has_sent begun size p script task back sending is same =
     subst (λ (l : List Event). HasSent begun p size l back.end back.produced) same sent
 
 -- a handler that listed just these events went through them
-went_through : {L A : Type 0} (begun : History Event) (goes : Relation Event A) (start : A) (job : Job L A) (back : Returned A) (events : List Event)
+went_through : {L A : Type 0} (begun : History Event) (goes : Relation Event A) (start : A) (job : Job L A) (back : Served L A) (events : List Event)
     → Serving begun goes job back
-    → IsNew start job.watching → HasListed events back.handler → WentThrough goes start back.handler.handler events
+    → IsNew start job.watching → HasListed events back.watching → WentThrough goes 256 start back.watching.handler events
 went_through begun goes start job back events serving new has =
     let calls = serving.calls.calls in
-    let full = all_full begun job.who 256 ToPoll job.end back.outlet calls serving.calls.lead serving.calls.holds.order in
-    went goes start job.watching back.handler events (batches_in calls) new has full serving.calls.holds.works.through
+    let full = all_full begun job.who 256 ToPoll job.end back.end calls serving.calls.lead serving.calls.holds.order in
+    went goes start job.watching back.watching events (batches_in calls) new has full serving.calls.holds.works.through
 
 -- Of all.
 
@@ -113,14 +114,14 @@ module _ {L A : Type 0} (begun : History Event) (size : ℕ) (goes : Relation Ev
     (same_starts : map (λ (j : Job L A). j.watching.handler) jobs ≡ starts) (are_jobs : AreJobs jobs)
     (same_scripts : map (λ (t : Task L). t.script.items) tasks ≡ scripts) (are_tasks : AreTasks tasks)
     (is : IsJoined begun size goes halter jobs tasks joined) (came : IsSettled begun had joined ran) where
-  abbrev served : List (Returned A)
+  abbrev served : List (Served L A)
   served = joined.served.items
 
   abbrev sent : List (Sent L)
   sent = joined.sent.items
 
   abbrev faults : List (Option WorkFault)
-  faults = map (λ (s : Returned A). s.fault) served
+  faults = map (λ (s : Served L A). s.fault) served
 
   abbrev sent_faults : List (Option WorkFault)
   sent_faults = map (λ (s : Sent L). s.produced.fault) sent
@@ -134,7 +135,7 @@ module _ {L A : Type 0} (begun : History Event) (size : ℕ) (goes : Relation Ev
   -- the worker of the handler at a place
   record OfHandler (h : ℕ) (start : A) : Type 0 where
     job : Job L A
-    back : Returned A
+    back : Served L A
     at_back : get_elem? served h ≡ some back
     serving : Serving begun goes job back
     of : IsJobOf h job
@@ -183,20 +184,20 @@ module _ {L A : Type 0} (begun : History Event) (size : ℕ) (goes : Relation Ev
             (sym (at_map (λ (t : Task L). t.script.items) tasks p task at_task) ∙ ap (λ (l : List (List Event)). get_elem? l p) same_scripts ∙ at);
       }
 
-  handler_at : (h : ℕ) (start : A) (x : OfHandler h start) → get_elem? ran.handlers.items h ≡ some x.back.handler.handler
-  handler_at h start x = ap (λ (l : List A). get_elem? l h) came.afters ∙ at_map (λ (s : Returned A). s.handler.handler) served h x.back x.at_back
+  handler_at : (h : ℕ) (start : A) (x : OfHandler h start) → get_elem? ran.handlers.items h ≡ some x.back.watching.handler
+  handler_at h start x = ap (λ (l : List A). get_elem? l h) came.afters ∙ at_map (λ (s : Served L A). s.watching.handler) served h x.back x.at_back
 
   ended_so : (h : ℕ) (start : A) (x : OfHandler h start) → get_elem? ran.endings.items h ≡ some (record { who = h; fault = x.back.fault })
   ended_so h start x =
       let who : 0 + h ≡ h = omega arith in
       ap (λ (l : List Ended). get_elem? l h) came.endings
-      ∙ ending_at 0 faults (endings_from 16 sent_faults) h x.back.fault (at_map (λ (s : Returned A). s.fault) served h x.back x.at_back)
+      ∙ ending_at 0 faults (endings_from 16 sent_faults) h x.back.fault (at_map (λ (s : Served L A). s.fault) served h x.back x.at_back)
       ∙ ap (λ (n : ℕ). some (record { who = n; fault = x.back.fault })) who
 
   sender_ended_so : (p : ℕ) (script : List Event) (x : OfSender p script)
       → get_elem? ran.endings.items (length starts + p) ≡ some (record { who = 16 + p; fault = x.back.produced.fault })
   sender_ended_so p script x =
-      let long : length (endings_from 0 faults) ≡ length starts = endings_many 0 faults ∙ length-map served (λ (s : Returned A). s.fault) ∙ many_served in
+      let long : length (endings_from 0 faults) ≡ length starts = endings_many 0 faults ∙ length-map served (λ (s : Served L A). s.fault) ∙ many_served in
       let one = ending_at 16 sent_faults [] p x.back.produced.fault (at_map (λ (s : Sent L). s.produced.fault) sent p x.back x.at_back) in
       let alone : endings_from 16 sent_faults ++ [] ≡ endings_from 16 sent_faults = append-nil (endings_from 16 sent_faults) in
       let here = sym (ap (λ (l : List Ended). get_elem? l p) alone) ∙ one in
@@ -206,24 +207,24 @@ module _ {L A : Type 0} (begun : History Event) (size : ℕ) (goes : Relation Ev
 
   many_ended : length (endings_from 0 faults) + length (endings_from 16 sent_faults) ≡ length starts + length scripts
   many_ended =
-      let first : length (endings_from 0 faults) ≡ length starts = endings_many 0 faults ∙ length-map served (λ (s : Returned A). s.fault) ∙ many_served in
+      let first : length (endings_from 0 faults) ≡ length starts = endings_many 0 faults ∙ length-map served (λ (s : Served L A). s.fault) ∙ many_served in
       let rest : length (endings_from 16 sent_faults) ≡ length scripts = endings_many 16 sent_faults ∙ length-map sent (λ (s : Sent L). s.produced.fault) ∙ many_sent in
       omega arith
 
   -- all handlers went through a list that each of them listed
-  all_went : (events : List Event) → All (HasListed events) (map (λ (s : Returned A). s.handler) served) → AllWentThrough goes events starts ran.handlers.items
+  all_went : (events : List Event) → All (HasListed events) (map (λ (s : Served L A). s.watching) served) → AllWentThrough goes 256 events starts ran.handlers.items
   all_went events listed = record {
-    many = ap length came.afters ∙ length-map served (λ (s : Returned A). s.handler.handler) ∙ many_served;
+    many = ap length came.afters ∙ length-map served (λ (s : Served L A). s.watching.handler) ∙ many_served;
     each = λ h start after at_start at_after.
         let x = of_handler h start at_start in
-        let other : x.back.handler.handler ≡ after = some-injective x.back.handler.handler after (sym (handler_at h start x) ∙ at_after) in
-        let watching = at_map (λ (s : Returned A). s.handler) served h x.back x.at_back in
-        let all = map (λ (s : Returned A). s.handler) served in
-        let has : HasListed events x.back.handler =
-        subst (HasListed events) (value_at all h x.back.handler x.back.handler watching) (listed h x.back.handler (at_below all h x.back.handler watching))
+        let other : x.back.watching.handler ≡ after = some-injective x.back.watching.handler after (sym (handler_at h start x) ∙ at_after) in
+        let watching = at_map (λ (s : Served L A). s.watching) served h x.back x.at_back in
+        let all = map (λ (s : Served L A). s.watching) served in
+        let has : HasListed events x.back.watching =
+        subst (HasListed events) (value_at all h x.back.watching x.back.watching watching) (listed h x.back.watching (at_below all h x.back.watching watching))
         in
         let new : IsNew start x.job.watching = (x.handler, x.of.2.1) in
-        subst (λ (a : A). WentThrough goes start a events) other (went_through begun goes start x.job x.back events x.serving new has);
+        subst (λ (a : A). WentThrough goes 256 start a events) other (went_through begun goes start x.job x.back events x.serving new has);
   }
 
   -- what was sent of the scripts
@@ -237,24 +238,24 @@ module _ {L A : Type 0} (begun : History Event) (size : ℕ) (goes : Relation Ev
   pub is_ran : halter ≡ no_calls → had ≡ length begun.entries → IsRan goes begun size scripts starts ran
   is_ran unused same = record {
     halter = joined.halter;
-    outlets = map (λ (s : Returned A). s.outlet) served;
+    outlets = map (λ (s : Served L A). s.end) served;
     inlets = map (λ (s : Sent L). s.end) sent;
     produced = map (λ (s : Sent L). s.produced) sent;
     halted = subst (λ (e : EndView Event). HasHalted e joined.halter) unused is.halted;
     many = (
-      length-map served (λ (s : Returned A). s.outlet) ∙ many_served,
+      length-map served (λ (s : Served L A). s.end) ∙ many_served,
       length-map sent (λ (s : Sent L). s.end) ∙ many_sent,
       length-map sent (λ (s : Sent L). s.produced) ∙ many_sent,
     );
-    history = subst (λ (n : ℕ). IsHistoryOf begun n (joined.halter ∷ map (λ (s : Returned A). s.outlet) served ++ map (λ (s : Sent L). s.end) sent) ran.recorded.history)
+    history = subst (λ (n : ℕ). IsHistoryOf begun n (joined.halter ∷ map (λ (s : Served L A). s.end) served ++ map (λ (s : Sent L). s.end) sent) ran.recorded.history)
         same came.history;
     serving = λ h start at.
         let x = of_handler h start at in (
-          x.back.handler.handler,
-          x.back.outlet,
+          x.back.watching.handler,
+          x.back.end,
           x.back.fault,
           handler_at h start x,
-          at_map (λ (s : Returned A). s.outlet) served h x.back x.at_back,
+          at_map (λ (s : Served L A). s.end) served h x.back x.at_back,
           ended_so h start x,
           has_served begun goes h start x.job x.back x.serving x.of x.handler,
         );
@@ -281,8 +282,8 @@ module _ {L A : Type 0} (begun : History Event) (size : ℕ) (goes : Relation Ev
         (λ f found.
         amiss_as (transcript ran.recorded.history) ran.recorded.history.core.setup begun.core.setup (map (λ (s : Sent L). s.script.items) sent)
         (fronts scripts (map (λ (s : Sent L). s.produced) sent))
-        (IsUnlike (map (λ (s : Returned A). s.handler) served)) (λ list h. h < length starts) f came.history.goes_on.setup were_sent
-        (λ list h unlike. let below = unlike.0 in let many = length-map served (λ (s : Returned A). s.handler) ∙ many_served in omega arith) found)
+        (IsUnlike (map (λ (s : Served L A). s.watching) served)) (λ list h. h < length starts) f came.history.goes_on.setup were_sent
+        (λ list h unlike. let below = unlike.0 in let many = length-map served (λ (s : Served L A). s.watching) ∙ many_served in omega arith) found)
         came.amiss;
-    went = where_ok _ (λ list. AllWentThrough goes list.items starts ran.handlers.items) ran.list (λ list listed. all_went list.items listed) came.shown;
+    went = where_ok _ (λ list. AllWentThrough goes 256 list.items starts ran.handlers.items) ran.list (λ list listed. all_went list.items listed) came.shown;
   }

@@ -6,7 +6,8 @@ use Rattle.std.proofs.lemmas.List.Elements.{All-cons, All-nil}
 use Rattle.dr_seq.specs.declared.event.Event.{Event}
 use Rattle.dr_meaning.specs.Calls.Handling.{GoesThrough, Relation, Showing, showings}
 use Rattle.dr_workers.specs.Meaning.Work.{Dealt, FollowFrom, dealt_events, shown_of}
-use Rattle.dr_threads.specs.Handlers.{IsPolled, WentThrough}
+use Rattle.dr_disruptor.specs.Handlers.{WentThrough}
+use Rattle.dr_disruptor.specs.Serving.{IsPolled}
 use Rattle.dr_disruptor_lock.specs.declared.watching.Watching.{Watching}
 use Rattle.dr_disruptor_lock.specs.Watching.{HasListed, IsNew, Watches}
 
@@ -99,10 +100,10 @@ last_ends room end (b ∷ c ∷ bs) full is =
     last_ends room end (c ∷ bs) full.1 (ends_behind end (showings b.events b.first b.end) (shown_of (c ∷ bs)) is)
 
 polled : (room n total : ℕ) (bs : List (Dealt Event)) → AreFull room bs → FollowFrom n bs → LastEnds true bs → n + length (dealt_events bs) ≡ total
-    → All (IsPolled room total) bs
-polled room n total [] full follow last all = All-nil (IsPolled room total)
+    → All (IsPolled room (λ n. n ≤ total)) bs
+polled room n total [] full follow last all = All-nil (IsPolled room (λ n. n ≤ total))
 polled room n total (b ∷ []) full follow last all =
-    let one : IsFull room b = full.0 in All-cons (IsPolled room total) b [] (one.1, inl last) (All-nil (IsPolled room total))
+    let one : IsFull room b = full.0 in All-cons (IsPolled room (λ n. n ≤ total)) b [] (one.1, inl last) (All-nil (IsPolled room (λ n. n ≤ total)))
 polled room n total (b ∷ c ∷ bs) full follow last all =
     let one : IsFull room b = full.0 in
     let next : IsFull room c = full.1.0 in
@@ -111,7 +112,7 @@ polled room n total (b ∷ c ∷ bs) full follow last all =
     let long : length (dealt_events (b ∷ c ∷ bs)) ≡ length b.events + length (dealt_events (c ∷ bs)) = length-append b.events (dealt_events (c ∷ bs)) in
     let more : length (dealt_events (c ∷ bs)) ≡ length c.events + length (dealt_events bs) = length-append c.events (dealt_events bs) in
     let left : n + length b.events + length (dealt_events (c ∷ bs)) ≡ total = omega arith in
-    All-cons (IsPolled room total) b (c ∷ bs) (
+    All-cons (IsPolled room (λ n. n ≤ total)) b (c ∷ bs) (
       one.1,
       elim one.2 [
         | inl ends ↦ inl ends
@@ -158,7 +159,7 @@ ends goes a b (x ∷ y ∷ xs) is = ends goes is.0 b (y ∷ xs) is.2
 -- a handler that listed just these events went through them
 pub went : {A : Type 0} (goes : Relation Event A) (start : A) (given back : Watching A) (events : List Event) (bs : List (Dealt Event)) → IsNew start given
     → HasListed events back
-    → AreFull 256 bs → GoesThrough (Watches goes) given (shown_of bs) back → WentThrough goes start back.handler events
+    → AreFull 256 bs → GoesThrough (Watches goes) given (shown_of bs) back → WentThrough goes 256 start back.handler events
 went {A} goes start given back events bs new has full through =
     let fresh : HasListed [] given = new.1 in
     let none : given.list.items ≡ [] = fresh.2 in

@@ -14,16 +14,17 @@ use Rattle.dr_disruptor_lock.specs.declared.jobs.Job.{Job}
 use Rattle.dr_disruptor_lock.specs.declared.jobs.Task.{Task}
 use Rattle.dr_disruptor_lock.specs.declared.running.Ran.{Ran}
 use Rattle.dr_disruptor_lock.specs.declared.sending.Sent.{Sent}
+use Rattle.dr_disruptor_lock.specs.declared.serving.Served.{Served}
 use Rattle.dr_disruptor_lock.specs.declared.workers.Joined.{Joined}
 use Rattle.dr_disruptor_lock.specs.Running.{IsAmiss, IsHistoryOf}
-use Rattle.dr_disruptor_lock.specs.Serving.{Returned, Sending, Serving}
+use Rattle.dr_disruptor_lock.specs.Serving.{Sending, Serving}
 use Rattle.dr_disruptor_lock.specs.Watching.{HasListed, IsUnlike}
 
 -- each job was done
 pub record AreServed {L A : Type 0} (begun : History Event) (goes : Relation Event A) (jobs : List (Job L A))
-    (served : List (Returned A)) : Type 0 where
+    (served : List (Served L A)) : Type 0 where
   pub many : length served ≡ length jobs
-  pub each : (h : ℕ) (back : Returned A) → get_elem? served h ≡ some back
+  pub each : (h : ℕ) (back : Served L A) → get_elem? served h ≡ some back
       → (job : Job L A) × (get_elem? jobs h ≡ some job) × Serving begun goes job back
 
 -- and each task
@@ -45,9 +46,9 @@ endings_from who (f ∷ faults) = record { who = who; fault = f } ∷ endings_fr
 
 -- what came of what all workers gave back
 pub record IsSettled {L A : Type 0} (begun : History Event) (had : ℕ) (joined : Joined L A) (ran : Ran A) : Type 0 where
-  pub history : IsHistoryOf begun had (joined.halter ∷ map (λ s. s.outlet) joined.served.items ++ map (λ s. s.end) joined.sent.items) ran.recorded.history
-  pub afters : ran.handlers.items ≡ map (λ s. s.handler.handler) joined.served.items
+  pub history : IsHistoryOf begun had (joined.halter ∷ map (λ s. s.end) joined.served.items ++ map (λ s. s.end) joined.sent.items) ran.recorded.history
+  pub afters : ran.handlers.items ≡ map (λ s. s.watching.handler) joined.served.items
   pub endings : ran.endings.items ≡ endings_from 0 (map (λ s. s.fault) joined.served.items) ++ endings_from 16 (map (λ s. s.produced.fault) joined.sent.items)
   pub audited : IfOk ran.list (λ list. IsAudited (transcript ran.recorded.history) (handlers ran.recorded.history.core.setup) (map (λ s. s.script.items) joined.sent.items) list.items)
-  pub amiss : IfErr ran.list (IsAmiss (transcript ran.recorded.history) (handlers ran.recorded.history.core.setup) (map (λ s. s.script.items) joined.sent.items) (IsUnlike (map (λ s. s.handler) joined.served.items)))
-  pub shown : IfOk ran.list (λ list. All (HasListed list.items) (map (λ s. s.handler) joined.served.items))
+  pub amiss : IfErr ran.list (IsAmiss (transcript ran.recorded.history) (handlers ran.recorded.history.core.setup) (map (λ s. s.script.items) joined.sent.items) (IsUnlike (map (λ s. s.watching) joined.served.items)))
+  pub shown : IfOk ran.list (λ list. All (HasListed list.items) (map (λ s. s.watching) joined.served.items))

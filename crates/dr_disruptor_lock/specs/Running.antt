@@ -1,5 +1,5 @@
 -- What came of a run behind a lock: what each handler went through, what each sender sent, how the workers ended, and what the history has of it.
-use Rattle.std.specs.Prelude.{◌≡◌, ◌≢◌, ℕ, ◌+◌, ◌^◌, ◌/◌, ◌<◌, ◌≤◌, max, sum_by, List, [], ◌∷◌, ◌++◌, length, take, Option, None, Some, IfNone, IfOk, IfErr, Err}
+use Rattle.std.specs.Prelude.{◌≡◌, ◌≢◌, ℕ, ◌+◌, ◌^◌, ◌/◌, ◌<◌, ◌≤◌, max, sum_by, List, [], ◌∷◌, ◌++◌, length, take, All, Option, None, Some, IfNone, IfOk, IfErr, Err}
 use mathlib.Core.Option.{some}
 use lib.ListN.{get_elem?}
 use Rattle.dr_seq.specs.declared.event.Event.{Event}
@@ -9,24 +9,30 @@ use Rattle.dr_meaning.specs.Calls.Handling.{Relation}
 use Rattle.dr_meaning.specs.Meaning.Machine.{handlers, setup_of}
 use Rattle.dr_meaning.specs.Meaning.Transcript.{Transcript}
 use Rattle.dr_workers.specs.Calls.Serving as worker
+use Rattle.dr_workers.specs.declared.ended.Ended.{Ended}
 use Rattle.dr_workers.specs.declared.fault.WorkFault.{WorkFault}
 use Rattle.dr_workers.specs.declared.fault.WorkFault.TheVariants.{Memory, Stopped}
 use Rattle.dr_workers.specs.declared.producer.Produced.{Produced}
+use Rattle.dr_workers.specs.Meaning.FirstFault.{first_fault}
 use Rattle.dr_lock.specs.Calls.Asking.{InletAsks, OutletAsks}
 use Rattle.dr_lock.specs.Calls.Lock.{EndView, HasHalted, no_calls}
 use Rattle.dr_lock.specs.Meaning.Audit.{Faults, IsAudited}
 use Rattle.dr_lock.specs.Meaning.History.{GoesOn, History, IsRecorded, entries_since, halts_in, transcript}
-use Rattle.dr_threads.specs.Endings.{AreFine, IsFirst}
-use Rattle.dr_threads.specs.Handlers.{AllWentThrough}
+use Rattle.dr_disruptor.specs.Handlers.{AllWentThrough}
 use Rattle.dr_disruptor_lock.specs.declared.comparing.HistoryFault.{HistoryFault}
 use Rattle.dr_disruptor_lock.specs.declared.comparing.HistoryFault.TheVariants.{Audit, Shown}
 use Rattle.dr_disruptor_lock.specs.declared.fault.LockedFault.{LockedFault}
 use Rattle.dr_disruptor_lock.specs.declared.fault.LockedFault.TheVariants as locked
 use Rattle.dr_disruptor_lock.specs.declared.running.Ran.{Ran}
 
+-- no worker ended with a fault
+abbrev pub AreFine : List Ended → Type 0
+AreFine endings = All (λ e. e.fault ≡ None) endings
+
 -- why a run has not both: the first fault of its workers or, where they have none, that of its history
 abbrev pub IsWhyNot : {A : Type 0} → Ran A → LockedFault → Type 0
-IsWhyNot ran (locked.Run why) = IsFirst ran.endings.items why
+IsWhyNot ran (locked.Run why) = ⊥
+IsWhyNot ran (locked.Worker who why) = first_fault ran.endings.items ≡ Some (record { who = who; fault = why })
 IsWhyNot ran (locked.History why) = AreFine ran.endings.items × (ran.list ≡ Err why)
 
 -- the first events of each script, as many as were sent of it
@@ -81,7 +87,7 @@ pub record IsRan {A : Type 0} (goes : Relation Event A) (begun : History Event) 
   pub ended : length ran.endings.items ≡ length starts + length scripts
   -- the list is what an audit finds in the history of what was sent of the scripts, merged; and all handlers went through it
   pub audited : IfOk ran.list (λ list. IsAudited (transcript ran.recorded.history) (handlers begun.core.setup) (fronts scripts produced) list.items)
-  pub went : IfOk ran.list (λ list. AllWentThrough goes list.items starts ran.handlers.items)
+  pub went : IfOk ran.list (λ list. AllWentThrough goes 256 list.items starts ran.handlers.items)
   pub amiss : IfErr ran.list (IsAmiss (transcript ran.recorded.history) (handlers begun.core.setup) (fronts scripts produced) (λ list h. h < length starts))
 
 -- so it is over a new exchange of a graph and so many slots, with a producer for each script

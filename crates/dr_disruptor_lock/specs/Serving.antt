@@ -7,26 +7,19 @@ use Rattle.dr_meaning.specs.Calls.Handling.{Relation}
 use Rattle.dr_workers.specs.Calls.Serving as worker
 use Rattle.dr_workers.specs.declared.fault.WorkFault.TheVariants.{Memory, Stopped}
 use Rattle.dr_lock.specs.Calls.Asking.{InletAsks, OutletAsks}
-use Rattle.dr_lock.specs.Calls.Lock.{EndView}
-use Rattle.dr_lock.specs.declared.locked.LockedOutlet.{LockedOutlet}
 use Rattle.dr_lock.specs.Meaning.History.{History}
 use Rattle.dr_disruptor_lock.specs.declared.jobs.Job.{Job}
 use Rattle.dr_disruptor_lock.specs.declared.jobs.Task.{Task}
 use Rattle.dr_disruptor_lock.specs.declared.sending.SendsPromise.{SendsPromise}
 use Rattle.dr_disruptor_lock.specs.declared.sending.Sent.{Sent}
-use Rattle.dr_disruptor_lock.specs.declared.watching.Watching.{Watching}
+use Rattle.dr_disruptor_lock.specs.declared.serving.Served.{Served}
+use Rattle.dr_disruptor_lock.specs.declared.serving.ServesPromise.{ServesPromise}
 use Rattle.dr_disruptor_lock.specs.Watching.{Watches}
-use Rattle.dr_threads.specs.declared.served.Served.{Served}
-use Rattle.dr_threads.specs.Serving as threads
-
--- what came back of a handler's worker: the end that it called through, its handler, and its fault if it had one
-abbrev pub Returned : Type 0 → Type 0
-Returned A = Served (EndView Event) (Watching A)
 
 -- a worker's calls, each poll with room for 256 events, took a handler through exactly what its end handed out, each as a call of that handler, and it gave both back with the fault that these calls came to. With an open gate nobody stops it, and it waits where memory runs out
-pub record Serving {L A : Type 0} (begun : History Event) (goes : Relation Event A) (job : Job L A) (back : Returned A) : Type 0 where
-  pub calls : SomeCalls (OutletAsks begun job.who) job.end back.outlet
-      (worker.Serves 256 (Watches goes) job.watching back.handler None None (λ passage. ⊥) (λ passage. ⊥) back.fault)
+pub record Serving {L A : Type 0} (begun : History Event) (goes : Relation Event A) (job : Job L A) (back : Served L A) : Type 0 where
+  pub calls : SomeCalls (OutletAsks begun job.who) job.end back.end
+      (worker.Serves 256 (Watches goes) job.watching back.watching None None (λ passage. ⊥) (λ passage. ⊥) back.fault)
   pub stopped : back.fault ≢ Some Stopped
   pub memory : back.fault ≢ Some Memory
 
@@ -50,12 +43,8 @@ abbrev pub given_size : {L : Type 0} → Producer L → ℕ
 given_size w = w.promise.size
 
 -- a handler's thread, and the job that it was given
-abbrev pub Worker : Type 0 → Type 0 → Type 0 → Type 0
-Worker L R A = threads.Worker (LockedOutlet Event L R) (Watching A)
+abbrev pub Worker : Type 0 → Type 0 → Type 0
+Worker L A = PromisedHandle (Served L A) (ServesPromise L A)
 
-abbrev pub given_job : {L R A : Type 0} → Worker L R A → Job L A
-given_job w = record { who = (threads.given_end w).h; end = (threads.given_end w).end; watching = threads.given_handler w }
-
--- what a worker gave back, with the end that it called through
-abbrev pub with_end : {L R A : Type 0} → Served (LockedOutlet Event L R) (Watching A) → Returned A
-with_end s = record { outlet = s.outlet.end; handler = s.handler; fault = s.fault }
+abbrev pub given_job : {L A : Type 0} → Worker L A → Job L A
+given_job w = w.promise.job.value

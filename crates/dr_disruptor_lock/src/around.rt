@@ -2,8 +2,7 @@
 
 use dr_lock::{Exchange, Shared};
 use dr_seq::{Event, Size};
-use dr_threads::WaitStrategy;
-use dr_workers::Bell;
+use dr_workers::{Bell, WaitStrategy};
 
 /// What all workers of a run share.
 #[derive(Drop)]

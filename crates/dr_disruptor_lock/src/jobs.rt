@@ -4,13 +4,11 @@ ghost use Rattle.std.specs.Prelude.{◌≡◌, ◌+◌, ◌≤◌, IfOk, length,
 ghost use Rattle.dr_lock.specs.Calls.Lock.{no_calls};
 ghost use Rattle.dr_disruptor_lock.specs.Jobs.{AreJobs, AreTasks};
 
-use crate::around::Around;
 use crate::watching::Watching;
-use dr_lock::{End, Exchange, LockedOutlet, Shared};
+use dr_lock::{End, Exchange, Shared};
 use dr_seq::Event;
 use dr_workers::SENDER;
 use std::alloc::{AllocError, Global};
-use std::sync::Wait;
 use std::sync::ledger::Ledger;
 
 /// What the worker of the handler `who` is given.
@@ -19,23 +17,6 @@ pub struct Job<L: Ledger, H> {
     pub who: usize,
     pub end: End<Event, L>,
     pub watching: Watching<H>,
-}
-
-impl<L: Exchange<Event>, H> Job<L, H> {
-    /// The handler's number, its end over the exchange, and the handler.
-    pub(crate) fn over<'a, R: Wait>(
-        self,
-        around: &Around<'a, L, R>,
-    ) -> (usize, LockedOutlet<'a, Event, L, R>, Watching<H>)
-        ensures who { result.0 ≡ self.who }
-        ensures number { result.1.h ≡ self.who }
-        ensures end { result.1.end ≡ self.end }
-        ensures watching { result.2 ≡ self.watching }
-    {
-        let Job { who, end, watching } = self;
-        let outlet = LockedOutlet::new(around.rt, around.shared, end, who);
-        (who, outlet, watching)
-    }
 }
 
 /// What the worker `who` is given, which sends a script as the producer `p`.

@@ -3,7 +3,7 @@
 //! [`run_locked`] opens the exchange of a graph behind a lock, starts a thread for each handler and one for each
 //! script, which sends it, and hands back the handlers, the history of the exchange, and the one list of events that
 //! all handlers went through ([`Ran`]). Begin with `specs/Running`: it says what each handler went through, and what
-//! the history has of it. The faults, the ways of waiting and the handlers' workers are those of `dr_threads`.
+//! the history has of it.
 #![tactic(auto)]
 
 mod around;
@@ -12,11 +12,13 @@ mod fault;
 mod jobs;
 mod running;
 mod sending;
+mod serving;
 mod settling;
 mod watching;
 mod workers;
 
 pub use comparing::HistoryFault;
-pub use dr_threads::{RunFault, WaitStrategy};
+pub use dr_disruptor::RunFault;
+pub use dr_workers::WaitStrategy;
 pub use fault::LockedFault;
 pub use running::{Ran, run_locked};

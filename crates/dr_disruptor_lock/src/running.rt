@@ -5,9 +5,9 @@ ghost use Rattle.dr_meaning.specs.declared.mode.Mode.TheVariants.{Multi};
 ghost use Rattle.dr_meaning.specs.Meaning.Machine.{setup_of};
 ghost use Rattle.dr_meaning.specs.Calls.OpenFault.{has_bad_producers};
 ghost use Rattle.dr_workers.specs.Meaning.FirstFault.{first_fault as first_of};
-ghost use Rattle.dr_threads.specs.Endings.{AreFine, refusal_of};
-ghost use Rattle.dr_threads.specs.Handlers.{AllWentThroughMerge};
-ghost use Rattle.dr_disruptor_lock.specs.Running.{IsRan, IsRun, IsWhyNot};
+ghost use Rattle.dr_disruptor.specs.Handlers.{AllWentThrough};
+ghost use Rattle.dr_disruptor.specs.Merging.{AllWentThroughMerge, refusal_of};
+ghost use Rattle.dr_disruptor_lock.specs.Running.{AreFine, IsRan, IsRun, IsWhyNot};
 
 use crate::around::Around;
 use crate::comparing::HistoryFault;
@@ -15,12 +15,12 @@ use crate::fault::LockedFault;
 use crate::jobs::{jobs_of, new_end, tasks_of};
 use crate::settling::settled;
 use crate::workers::exchange;
+use dr_disruptor::RunFault;
 use dr_graph::Graph;
 use dr_lock::{Exchange, Recorded, Shared};
 use dr_meaning::{InPlaceHandler, MAX_LIMIT, Mode};
 use dr_seq::{Event, Size};
-use dr_threads::{RunFault, WaitStrategy};
-use dr_workers::{Bell, Ended, WorkerFault, first_fault};
+use dr_workers::{Bell, Ended, WaitStrategy, WorkerFault, first_fault};
 use std::alloc::{AllocError, Global};
 use std::marker::Brand;
 use std::sync::Wait;
@@ -57,12 +57,12 @@ impl<H: Drop> Ran<H> {
         ensures fault { IfErr result (IsWhyNot self) }
     {
         if let Some(first) = self.fault() {
-            return Err(LockedFault::Run(RunFault::from(first)));
+            return Err(LockedFault::from(first));
         }
         let Ran { handlers, list, .. } = self;
         match list {
             Ok(list) => Ok((handlers, list)),
-            Err(amiss) => Err(LockedFault::History(amiss)),
+            Err(amiss) => Err(LockedFault::from(amiss)),
         }
     }
 }
@@ -195,7 +195,7 @@ pub fn run_locked<R: Threads + Wait + Sync, H: InPlaceHandler<Event> + Drop + Se
     strategy: WaitStrategy,
 ) -> Result<Ran<H>, RunFault>
     // Where no worker has a fault and the history agrees, all handlers went through the list, a merge of the scripts.
-    ensures whole { IfOk result (λ ran. IfOk ran.list (λ list. AreFine ran.endings.items → AllWentThroughMerge H.goes (map (λ s. s.items) scripts.items) handlers.items ran.handlers.items list.items)) }
+    ensures whole { IfOk result (λ ran. IfOk ran.list (λ list. AreFine ran.endings.items → AllWentThroughMerge (AllWentThrough H.goes) 256 (map (λ s. s.items) scripts.items) list.items handlers.items ran.handlers.items)) }
     // It went over a new exchange of this graph and size, and the list is of what was sent of the scripts, whatever the faults.
     ensures run { IfOk result (IsRun H.goes graph.upstreams size (map (λ s. s.items) scripts.items) handlers.items) }
     ensures many { IfOk result (λ _. length handlers.items ≡ length graph.upstreams) }

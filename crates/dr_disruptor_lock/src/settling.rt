@@ -7,14 +7,42 @@ ghost use Rattle.dr_disruptor_lock.specs.Running.{IsHistoryOf};
 use crate::comparing::compared;
 use crate::running::Ran;
 use crate::sending::Sent;
+use crate::serving::Served;
 use crate::watching::Watching;
 use crate::workers::Joined;
 use dr_lock::{End, Exchange, Recorded, Shared, finish};
 use dr_seq::Event;
-use dr_threads::{Back, apart};
 use dr_workers::{Ended, SENDER};
 use std::alloc::{AllocError, Global};
 use std::sync::ledger::Ledger;
+
+// What handlers' workers gave back: the handlers with their lists, and the ends and how they ended behind the others.
+fn handlers_apart<L: Ledger, H: Drop>(
+    alloc: Global,
+    served: Vec<Served<L, H>>,
+    ends: &mut Vec<End<Event, L>>,
+    endings: &mut Vec<Ended>,
+) -> Result<Vec<Watching<H>>, AllocError>
+    ensures watchings { IfOk result (λ watchings. watchings.items ≡ map (λ s. s.watching) served.items) }
+    ensures ends { OnOk result (ends.new.items ≡ ends.old.items ++ map (λ s. s.end) served.items) }
+    ensures endings { OnOk result (endings.new.items ≡ endings.old.items ++ endings_from 0 (map (λ s. s.fault) served.items)) }
+{
+    let mut watchings = Vec::with_capacity(alloc, served.len())?;
+    for one in served {
+        let Served {
+            end,
+            watching,
+            fault,
+        } = one;
+        endings.push(Ended {
+            who: watchings.len(),
+            fault,
+        })?;
+        ends.push(end)?;
+        watchings.push(watching)?;
+    }
+    Ok(watchings)
+}
 
 // What senders' workers gave back: what was sent of each script, and the ends and how they ended behind the handlers'.
 fn senders_apart<L: Ledger>(
@@ -90,14 +118,10 @@ pub(crate) fn settled<L: Exchange<Event>, H: Drop>(
         served,
         sent,
     } = joined;
-    let Back {
-        mut outlets,
-        handlers: watchings,
-        mut endings,
-    } = apart(alloc, served)?;
     let mut ends = Vec::new(alloc);
+    let mut endings = Vec::new(alloc);
     ends.push(halter)?;
-    ends.append(&mut outlets)?;
+    let watchings = handlers_apart(alloc, served, &mut ends, &mut endings)?;
     let scripts = senders_apart(alloc, sent, &mut ends, &mut endings)?;
     let recorded = taken_out(shared, ends);
     let list = compared(alloc, &recorded, scripts.as_slice(), watchings.as_slice());

@@ -1,29 +1,28 @@
 //! The threads of a run: how they are started, and what they give back.
 
-ghost use Rattle.std.specs.Prelude.{◌≡◌, IfOk, map};
+ghost use Rattle.std.specs.Prelude.{IfOk, map};
 ghost use denote.Param.Send.{IsSend, IsSync};
 ghost use Rattle.dr_lock.specs.Calls.Lock.{HasHalted};
 ghost use Rattle.dr_disruptor_lock.specs.Joining.{AreSent, AreServed, IsJoined};
-ghost use Rattle.dr_disruptor_lock.specs.Serving.{given_job, with_end};
+ghost use Rattle.dr_disruptor_lock.specs.Serving.{given_job};
 
 use crate::around::Around;
 use crate::jobs::{Job, Task};
 use crate::sending::{SendsPromise, Sent, send};
-use crate::watching::Watching;
-use dr_lock::{End, Exchange, LockedOutlet, halt};
+use crate::serving::{Served, ServesPromise, serve};
+use dr_lock::{End, Exchange, halt};
 use dr_meaning::InPlaceHandler;
 use dr_seq::Event;
-use dr_threads::{Served, ServesPromise, Worker, join, serve};
 use std::alloc::{AllocError, Global};
 use std::sync::Wait;
 use std::sync::ledger::Ledger;
-use std::thread::{self, Threads};
+use std::thread::{self, PromisedHandle, Threads};
 
 /// What came back of the workers, with the end that halted the exchange.
 #[derive(Drop)]
 pub struct Joined<L: Ledger, H> {
     pub halter: End<Event, L>,
-    pub served: Vec<Served<End<Event, L>, Watching<H>>>,
+    pub served: Vec<Served<L, H>>,
     pub sent: Vec<Sent<L>>,
 }
 
@@ -72,29 +71,6 @@ fn abandoned<L: Exchange<Event>, R: Wait>(
     AllocError
 }
 
-// What handlers' workers gave back, with the ends that they called through.
-fn with_ends<L: Exchange<Event>, R: Wait, H: Drop>(
-    alloc: Global,
-    served: Vec<Served<LockedOutlet<'_, Event, L, R>, Watching<H>>>,
-) -> Result<Vec<Served<End<Event, L>, Watching<H>>>, AllocError>
-    ensures { IfOk result (λ ends. ends.items ≡ map with_end served.entry.items) }
-{
-    let mut ends = Vec::with_capacity(alloc, served.len())?;
-    for one in served {
-        let Served {
-            outlet,
-            handler,
-            fault,
-        } = one;
-        ends.push(Served {
-            outlet: outlet.into_end(),
-            handler,
-            fault,
-        })?;
-    }
-    Ok(ends)
-}
-
 // Sends all scripts, halts the exchange, and joins the handlers' threads. It halts and joins also where memory ran
 // out or a sender's thread could not be started.
 fn served<
@@ -106,7 +82,7 @@ fn served<
     around: &Around<'_, L, R>,
     mut halter: End<Event, L>,
     tasks: Vec<Task<L>>,
-    workers: Vec<Worker<LockedOutlet<'_, Event, L, R>, Watching<H>>>,
+    workers: Vec<PromisedHandle<Served<L, H>, ServesPromise<L, H>>>,
 ) -> Result<Joined<L, H>, AllocError>
     ensures halted { IfOk result (λ joined. HasHalted halter joined.halter) }
     ensures sent { IfOk result (λ joined. AreSent L.begun around.now.size tasks.items joined.sent.items) }
@@ -114,7 +90,7 @@ fn served<
 {
     let sent = send_all(alloc, around, tasks);
     halted(around, &mut halter);
-    let served = with_ends(alloc, join(around.rt, workers)?)?;
+    let served = thread::join_promised(around.rt, workers)?;
     let sent = sent?;
     Ok(Joined {
         halter,
@@ -148,13 +124,10 @@ pub(crate) fn exchange<
             requires handlers { IsSend H.row }
             ensures { IfOk result (λ joined. IsJoined L.begun around.entry.now.size H.goes halter jobs.items tasks.items joined) }
         {
-            let (rt, bell, strategy) = (around.rt, around.bell, around.strategy);
             let mut started = Vec::with_capacity(alloc, jobs.len())?;
             for job in jobs {
-                let (who, outlet, watching) = job.over(around);
-                let promise = ServesPromise::of(&outlet, &watching);
-                let work = move || serve(rt, who, outlet, watching, bell, strategy);
-                let Ok(worker) = scope.spawn_with(promise, work) else {
+                let promise = ServesPromise::of(&job);
+                let Ok(worker) = scope.spawn_with(promise, move || serve(around, job)) else {
                     return Err(abandoned(around, halter));
                 };
                 if started.push(worker).is_err() {

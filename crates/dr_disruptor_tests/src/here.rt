@@ -12,7 +12,7 @@ use std::sync::Wait;
 
 /// Sends ten events, one at a time.
 #[derive(Clone, Copy)]
-struct Ten;
+pub struct Ten;
 
 impl Feed<u64> for Ten {
     ghost use Rattle.std.specs.Prelude.{⊤};

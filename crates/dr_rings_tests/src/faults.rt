@@ -1,14 +1,7 @@
-//! The printed text of each fault of making a ring, of a claim of one of several senders, and of a run in one call.
+//! The printed text of each fault of making a ring, and of a claim of one of several senders.
 
 use crate::checks::check;
-use dr_disruptor::RunFault;
-use dr_disruptor_lock::{HistoryFault, LockedFault};
-use dr_graph::GraphFault;
-use dr_lock::AuditFault;
-use dr_meaning::Refusal;
-use dr_plain_senders::ClaimFault;
-use dr_seq::Size;
-use dr_workers::WorkFault;
+use dr_meaning::{ClaimFault, Refusal};
 use std::alloc::Global;
 use std::fmt::Display;
 use std::process::Abort;
@@ -39,33 +32,4 @@ fn a_claim_that_another_sender_came_before(rt: HostRuntime) {
         ClaimFault::Refused(Refusal::NoRoom),
         "no-room",
     );
-}
-
-#[test]
-fn why_there_was_no_run(rt: HostRuntime) {
-    let graph = RunFault::Graph(GraphFault::NoHandlers);
-    check_text(&rt, rt.alloc(), graph, "the graph: no-handlers");
-    let size = RunFault::Size(Size::new(3).err().expect(&rt, "a fault"));
-    check_text(&rt, rt.alloc(), size, "the size: bad-size");
-    let ring = RunFault::Ring(dr_ring::RingFault::BadLimit);
-    check_text(&rt, rt.alloc(), ring, "the ring: bad-limit");
-    let senders = RunFault::Senders { given: 17 };
-    let text = "a run has 1 to 16 senders, and 17 were asked for";
-    check_text(&rt, rt.alloc(), senders, text);
-    let memory = RunFault::Memory;
-    check_text(&rt, rt.alloc(), memory, "no memory, or no thread");
-}
-
-#[test]
-fn why_a_run_did_not_do_all(rt: HostRuntime) {
-    let fault = WorkFault::Refused(Refusal::Halted);
-    let worker = RunFault::Worker { who: 16, fault };
-    check_text(&rt, rt.alloc(), worker, "worker 16: worker-refused");
-    let memory = LockedFault::Run(RunFault::Memory);
-    check_text(&rt, rt.alloc(), memory, "no memory, or no thread");
-    let audit = HistoryFault::Audit(AuditFault::NotDrained(1));
-    let history = LockedFault::History(audit);
-    check_text(&rt, rt.alloc(), history, "the history: not-drained");
-    let shown = HistoryFault::Shown(1);
-    check_text(&rt, rt.alloc(), shown, "handler 1 was shown other events");
 }

@@ -1,13 +1,10 @@
-//! Tests of `dr_ring`, `dr_plain`, `dr_plain_senders`, `dr_disruptor` and `dr_disruptor_senders` by their public calls, of what no clause says: that the calls succeed with ample memory and threads, worked runs by their answers,
-//! printed texts, which events lie where, and that threads hand all events over.
+//! Tests of `dr_ring`, `dr_plain` and `dr_plain_senders` by their public calls, of what no clause says: that the calls
+//! succeed with ample memory and threads, worked runs by their answers, printed texts, which events lie where, and that
+//! threads hand all events over.
 #![tactic(auto)]
 
 #[cfg(test)]
 mod answering;
-#[cfg(test)]
-mod by_closures;
-#[cfg(test)]
-mod by_scripts;
 #[cfg(test)]
 mod calls;
 #[cfg(test)]
@@ -24,8 +21,6 @@ mod events;
 mod faults;
 #[cfg(test)]
 mod graphs;
-#[cfg(test)]
-mod in_one_call;
 #[cfg(test)]
 mod leaving;
 #[cfg(test)]

@@ -1,6 +1,11 @@
+use Rattle.std.proofs.Common.{rules, ◌≡◌, length, arith}
 use Rattle.dr_disruptor_lock.proofs.Kept.{are_served}
 use Rattle.dr_disruptor_lock.proofs.workers.served.Goals as goal
 
 pub returns-clause-served : goal.returns-clause-served
 returns-clause-served g c =
-    are_served g.L.Exchange.begun g.H.InPlaceHandler.goes c.args.workers.items c.in_ok-join.field-0.items c.in_ok-served.served.items c.in_ok-join.ensures c.in_ok-served.ensures
+    let workers = c.args.workers.items in
+    let served = c.in_ok-served.served.items in
+    let many : length served ≡ length workers = search rules in
+    are_served g.L.Exchange.begun g.H.InPlaceHandler.goes workers served many
+    (λ h back below. let k = (c.in_ok-served.ensures.each h back (omega arith)).1 in (k.handle, k.handle_is, k.kept))

@@ -1,40 +1,31 @@
 use Rattle.std.proofs.Common.{rules, ◌≡◌, ◌∙◌, ◌++◌, ◌∷◌, [], length, map, ap, arith}
 use denote.Param.Send.{IsSync}
 use Rattle.dr_lock.proofs.Sent.{of_param}
-use Rattle.dr_lock.specs.declared.locked.LockedOutlet.{LockedOutlet}
-use Rattle.dr_threads.specs.Serving as threads
 use Rattle.dr_disruptor_lock.specs.Serving.{given_job}
-use Rattle.dr_disruptor_lock.proofs.Crossing.{hands}
+use Rattle.dr_disruptor_lock.proofs.Crossing.{crosses, gives}
 use Rattle.dr_disruptor_lock.proofs.Kept.{are_joined}
 use Rattle.dr_disruptor_lock.proofs.Listing.{all_moved, moved}
 use Rattle.dr_disruptor_lock.proofs.workers.fn.exchange.scope.Goals as goal
 
--- a worker's closure may go to another thread: it has references to what all share, its end and its handler
+-- a worker's closure may go to another thread: it has a reference to what all share, and its job
 pub spawn_with-requires-send-F : goal.spawn_with-requires-send-F
 spawn_with-requires-send-F g c κs within =
     let ledger : IsSync g.row.L = of_param _ g.row.L c.requires.shared in
     let workers : IsSync g.row.R = of_param _ g.row.R c.requires.workers in
     let handlers = c.requires.handlers in
-    search hands depth 60 fits 20000
+    search crosses depth 60 fits 20000
 
 -- what it gives back may be sent: its end, the handler, and what came of its work
 pub spawn_with-requires-send-T : goal.spawn_with-requires-send-T
 spawn_with-requires-send-T g c κs within =
-    let ledger : IsSync g.row.L = of_param _ g.row.L c.requires.shared in
-    let workers : IsSync g.row.R = of_param _ g.row.R c.requires.workers in
     let handlers = c.requires.handlers in
-    search hands depth 60 fits 20000
+    search gives depth 60 fits 20000
 
 pub loop-job-preserved : goal.loop-job-preserved
 loop-job-preserved g c =
     let worker = c.in-Ok.worker in
     let promise = c.in-Ok.ensures.ok in
-    let over = c.over-who.ensures in
-    let outlet : threads.given_end worker ≡ c.over-who.result.1 = ap (λ p. p.end.value) promise ∙ c.of-promise.ensures.end in
-    let number = ap (λ (o : LockedOutlet _ _ _). o.h) outlet ∙ over.number in
-    let end = ap (λ (o : LockedOutlet _ _ _). o.end) outlet ∙ over.end in
-    let watching : threads.given_handler worker ≡ c.in-Some.job.watching = ap (λ p. p.start.value) promise ∙ c.of-promise.ensures.start ∙ over.watching in
-    let job : given_job worker ≡ c.in-Some.job = λ i. record { who = number i; end = end i; watching = watching i } in
+    let job : given_job worker ≡ c.in-Some.job = ap (λ p. p.job.value) promise ∙ c.of-promise.ensures in
     let pushed : c.push.new.self.items ≡ c.loop-job.started.items ++ worker ∷ [] = search rules in
     moved given_job _ _ worker c.in-Some.job _ _ _ c.loop-job.invariant pushed job c.in-Some.ensures.steps.0
 
