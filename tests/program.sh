@@ -165,7 +165,7 @@ run 1 '' $'error: unexpected argument \'y\' found\n*' drive x y
 run 1 '' $'error: invalid value \'post\' for \'--by <WAY>\'\n*' replay --by post accounts.csv
 run 1 '' $'error: invalid value \'x\' for \'--size <N>\'*' replay --size x accounts.csv
 run 1 '' $'error: unexpected argument \'-1\' found\n*' replay --size -1 accounts.csv
-for size in 3 1000 131072; do
+for size in 3 1000 131072 +4; do
     run 1 '' $'bad-size\n' replay --size $size accounts.csv
 done
 run 1 '' $'bad-size\n' replay --size 0 no-such-file.csv

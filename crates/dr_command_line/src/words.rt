@@ -11,6 +11,10 @@ const ABOUT: &str = "A verified LMAX Disruptor: producers and handlers over one 
 /// The program's version, and the kit that it was proved with, as `rt version` prints it.
 const VERSION: &str = "0.1.0, proved with rattle-kit-13f logic dac8208d650f15bf";
 
+const EXAMPLES: &str = "\
+`disruptor drive --help` and `disruptor replay --help` show a file, and what it prints.
+`disruptor check --help` shows what is said of a file at fault.";
+
 const DRIVE: &str = "Run a file of commands, and print one line a command";
 
 const FILE: &str = "The file of commands, one record a line; - is standard input";
@@ -217,9 +221,7 @@ fn command<'a>(alloc: Global) -> Result<Command<'a>, AllocError> {
     Command::new(alloc, "disruptor")
         .about(ABOUT)
         .version(VERSION)
-        .after_help(
-            "`disruptor drive --help` and `disruptor replay --help` show a file, and what it prints.",
-        )
+        .after_help(EXAMPLES)
         .subcommand_required(true)
         .subcommand(drive)?
         .subcommand(replay_command(alloc)?)?
@@ -258,11 +260,24 @@ fn output_of(alloc: Global, matches: &ArgMatches<'_>) -> Result<Option<String>, 
     }
 }
 
-fn replay_plan(alloc: Global, matches: &ArgMatches<'_>) -> Result<Plan, LineFault> {
-    let slots: Option<u64> = matches.get_one("size");
-    let Ok(size) = Size::new(slots.unwrap_or(USUAL_SIZE)) else {
+// The number of slots, written by digits alone.
+fn size_of(matches: &ArgMatches<'_>) -> Result<Size, LineFault> {
+    // (the reader of command lines takes a `+` before a number)
+    if matches
+        .get_str("size")
+        .is_some_and(|text| text.starts_with('+'))
+    {
         return Err(LineFault::BadSize);
-    };
+    }
+    let slots: Option<u64> = matches.get_one("size");
+    match Size::new(slots.unwrap_or(USUAL_SIZE)) {
+        Ok(size) => Ok(size),
+        Err(_) => Err(LineFault::BadSize),
+    }
+}
+
+fn replay_plan(alloc: Global, matches: &ArgMatches<'_>) -> Result<Plan, LineFault> {
+    let size = size_of(matches)?;
     let file = file_of(alloc, matches)?;
     let by = match matches.get_str("by") {
         Some("lock") => By::Lock,
