@@ -5,6 +5,7 @@
 
 #include "disruptor.h"
 #include <atomic>
+#include <chrono>
 #include <cstddef>
 #include <cstdint>
 #include <memory>
@@ -46,6 +47,12 @@ public:
     void found(std::uint64_t count) noexcept { disruptor_found(&state_, count); }
     // The same after a claim of so many events.
     void found_room(std::uint64_t count) noexcept { disruptor_found_room(&state_, count); }
+    // Waits, if the time is not up, and answers whether it is.
+    [[nodiscard]] bool is_over(std::chrono::steady_clock::time_point end) noexcept {
+        if (std::chrono::steady_clock::now() >= end) return true;
+        wait();
+        return false;
+    }
 
 private:
     disruptor::bell bell_;
@@ -152,6 +159,15 @@ public:
                 return *lo;
             }
             how.wait();
+        }
+    }
+    // The same, or nothing where the time is up. It may take ten milliseconds more, where it sleeps.
+    [[nodiscard]] std::optional<std::uint64_t> try_claim_for(std::chrono::nanoseconds time, std::uint64_t n, waiting &how) {
+        const auto end = std::chrono::steady_clock::now() + time;
+        for (;;) {
+            const std::optional<std::uint64_t> lo = try_claim(n);
+            if (lo) how.found_room(n);
+            if (lo || how.is_over(end)) return lo;
         }
     }
     void write(std::uint64_t sequence, const event &what) { check(disruptor_write(get(), sequence, &what)); }

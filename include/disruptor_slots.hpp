@@ -10,6 +10,9 @@
 #include <initializer_list>
 #include <string>
 #include <thread>
+#ifdef __linux__
+#include <sys/prctl.h>
+#endif
 
 namespace disruptor {
 
@@ -49,6 +52,13 @@ public:
         if (lo) fill_and_publish(*lo, n, fill);
         return lo.has_value();
     }
+    // The same, or answers false where that is so when the time is up. It may take ten milliseconds more, where it sleeps.
+    template <typename Fill>
+    [[nodiscard]] bool try_publish_batch_for(std::chrono::nanoseconds time, std::uint64_t n, Fill &&fill) {
+        const std::optional<std::uint64_t> lo = try_claim_for(time, n, waiting_);
+        if (lo) fill_and_publish(*lo, n, fill);
+        return lo.has_value();
+    }
     void write(std::uint64_t, const event &) = delete;
     // Once the ring is open.
     void begin() { waiting_ = waits((*slots_)->size()); }
@@ -84,6 +94,18 @@ public:
         };
         slots<T> &events = **slots_;
         return show(take, [&](std::uint64_t s) -> T & { return events.at(s); }, handle);
+    }
+    // The same, once there are events: what it finds when the time is up, or when a handler that it follows went away, may be none. It
+    // may take ten milliseconds more, where it sleeps.
+    template <typename Handler>
+    offer receive_for(std::chrono::nanoseconds time, std::uint64_t room, Handler &&handle) {
+        const auto end = std::chrono::steady_clock::now() + time;
+        waiting how = waits((*slots_)->size());
+        for (;;) {
+            const offer found = receive(room, handle);
+            const bool has_come = found.kind == DISRUPTOR_BATCH || found.kind == DISRUPTOR_DRAINED;
+            if (has_come || shared_->is_broken() || how.is_over(end)) return found;
+        }
     }
     // The same until the ring is drained; it sleeps while none comes.
     template <typename Handler>
@@ -168,6 +190,7 @@ public:
     template <typename T, typename Work>
     void start(const std::string &name, receiver_in_place<T> receiver, Work work) {
         threads_.emplace_back([name, receiver = std::move(receiver), work = std::move(work), &failed = *failed_]() mutable {
+            name_thread(name.c_str());
             try {
                 // (where it throws, the receiver goes away, which halts the ring)
                 receiver_in_place<T> own = std::move(receiver);
@@ -190,6 +213,14 @@ public:
     }
 
 private:
+    // The thread has the first fifteen bytes of its handler's name, for who watches it (on Linux).
+    static void name_thread(const char *name) noexcept {
+#ifdef __linux__
+        prctl(PR_SET_NAME, name);
+#else
+        (void)name;
+#endif
+    }
     struct failure {
         std::mutex mutex;
         std::string name;

@@ -14,6 +14,9 @@
 #include "disruptor.h"
 #include <pthread.h>
 #include <string.h>
+#ifdef __linux__
+#include <sys/prctl.h>
+#endif
 
 enum { DISRUPTOR_MOST_HANDLERS = 16 };
 
@@ -142,12 +145,22 @@ static inline int disruptor_show(disruptor_work *work, disruptor_receiver *recei
     return failure;
 }
 
-/* The thread of a handler. */
+/* Gives the thread the first fifteen bytes of a name, for who watches it (on Linux). */
+static inline void disruptor_name_thread(const char *name) {
+#ifdef __linux__
+    prctl(PR_SET_NAME, name);
+#else
+    (void)name;
+#endif
+}
+
+/* The thread of a handler, which has its name. */
 static inline void *disruptor_work_on(void *given) {
     disruptor_work *work = (disruptor_work *)given;
     disruptor_graph *graph = work->graph;
     disruptor_receiver *receiver = &graph->receivers[work - graph->works];
     disruptor_waiting waiting = disruptor_waits_by(graph->size, &graph->bell);
+    disruptor_name_thread(work->name);
     for (;;) {
         disruptor_offer offer;
         if (disruptor_poll_slots(receiver, graph->size, &offer) || offer.kind == DISRUPTOR_DRAINED) return NULL;
@@ -202,10 +215,12 @@ static inline uint32_t disruptor_start(disruptor_graph *graph) {
 /* Claims n events for the sender to fill, from the sequence *lo on, once there is room. Refusals: those of disruptor_claim but
  * NO_ROOM; HALTED also where a handler failed. */
 static inline uint32_t disruptor_next(disruptor_graph *graph, uint64_t n, uint64_t *lo) {
-    uint32_t refused;
-    while ((refused = disruptor_claim(&graph->sender, n, lo)) == DISRUPTOR_NO_ROOM) disruptor_wait(&graph->waiting);
-    if (!refused) disruptor_found_room(&graph->waiting, n);
-    return refused;
+    return disruptor_claim_within(&graph->sender, n, lo, &graph->waiting, DISRUPTOR_FOREVER);
+}
+
+/* The same, or NO_ROOM where there is none when so many nanoseconds are over; it may take ten milliseconds more. */
+static inline uint32_t disruptor_next_within(disruptor_graph *graph, uint64_t n, uint64_t *lo, uint64_t nanoseconds) {
+    return disruptor_claim_within(&graph->sender, n, lo, &graph->waiting, nanoseconds);
 }
 
 /* Publishes them. Refusals: those of disruptor_publish_slots. */

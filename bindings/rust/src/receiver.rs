@@ -6,6 +6,7 @@ use crate::ring::Ring;
 use crate::waiting::{Bell, Wait, Waiting};
 use std::fmt;
 use std::sync::Arc;
+use std::time::{Duration, Instant};
 
 /// What a receiver found.
 #[derive(Clone, Copy, Debug, PartialEq, Eq)]
@@ -128,6 +129,26 @@ impl<T> Receiver<T> {
         // SAFETY: the handler has them in hand until it completes them, and whoever may change them comes before it or after it.
         let (front, back) = unsafe { ring.slots.read(at, upto - at) };
         Ok(Showing { handle: end, bell: &ring.bell, completed, shown, at, upto }.show(front.iter().chain(back), handle))
+    }
+
+    /// The same, once there are events: what it finds when the time is up, or when a handler that it follows went away, may be none.
+    /// It may take ten milliseconds more, where it sleeps.
+    pub fn receive_timeout(
+        &mut self,
+        room: u64,
+        timeout: Duration,
+        mut handle: impl FnMut(&T, u64, bool),
+    ) -> Result<Polled, Refusal> {
+        let deadline = Instant::now() + timeout;
+        loop {
+            match self.receive(room, &mut handle)? {
+                Polled::Gating | Polled::Idle if Instant::now() < deadline && !self.ring.is_broken() => self.waiting.wait(),
+                found => {
+                    self.waiting.found(if let Polled::Handled(count) = found { count } else { 0 });
+                    return Ok(found);
+                }
+            }
+        }
     }
 
     /// The same for a handler that has its events alone, and may change them.

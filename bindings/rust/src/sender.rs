@@ -9,6 +9,7 @@ use crate::waiting::{Bell, Wait, Waiting};
 use std::iter::Chain;
 use std::slice::IterMut;
 use std::sync::Arc;
+use std::time::{Duration, Instant};
 
 /// The events of a claim, in order, each to be filled in place. One that is not filled has what an earlier event left there.
 pub struct Batch<'a, T>(Chain<IterMut<'a, T>, IterMut<'a, T>>);
@@ -67,14 +68,18 @@ impl<T> Sender<T> {
         Ok(lo)
     }
 
-    fn claim_waiting(&mut self, n: u64) -> Result<u64, Refusal> {
+    /// Waits for room, for ever where there is no deadline.
+    fn claim_until(&mut self, n: u64, deadline: Option<Instant>) -> Result<u64, Refusal> {
         loop {
             match self.claim(n) {
-                Err(Refusal::NoRoom | Refusal::Contended) => self.waiting.wait(),
-                claimed => {
+                Ok(lo) => {
                     self.waiting.found_room(n);
-                    return claimed;
+                    return Ok(lo);
                 }
+                Err(Refusal::NoRoom | Refusal::Contended) if deadline.map_or(true, |it| Instant::now() < it) => {
+                    self.waiting.wait();
+                }
+                refused => return refused,
             }
         }
     }
@@ -100,7 +105,19 @@ impl<T> Sender<T> {
 
     /// Publishes `n` events together, once there is room for all and `fill` has filled them.
     pub fn publish_batch<R>(&mut self, n: u64, fill: impl FnOnce(Batch<'_, T>) -> R) -> Result<R, Refusal> {
-        let lo = self.claim_waiting(n)?;
+        let lo = self.claim_until(n, None)?;
+        Ok(self.fill(lo, n, fill))
+    }
+
+    /// The same, or refused with `NoRoom` or `Contended` where that is so when the time is up. It may take ten milliseconds more,
+    /// where it sleeps.
+    pub fn publish_batch_timeout<R>(
+        &mut self,
+        n: u64,
+        timeout: Duration,
+        fill: impl FnOnce(Batch<'_, T>) -> R,
+    ) -> Result<R, Refusal> {
+        let lo = self.claim_until(n, Some(Instant::now() + timeout))?;
         Ok(self.fill(lo, n, fill))
     }
 

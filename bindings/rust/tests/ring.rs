@@ -213,3 +213,17 @@ fn a_thread_that_sleeps_is_woken() {
     }
     disruptor.finish().unwrap();
 }
+
+#[test]
+fn a_deadline_ends_a_wait() {
+    let short = Duration::from_millis(20);
+    let (mut sender, mut receivers, halter) = open(&plan(4, &[0]), || 0u64).unwrap();
+    assert_eq!(receivers[0].receive_timeout(4, short, |_, _, _| ()), Ok(Polled::Idle));
+    sender.publish_batch_timeout(4, short, |batch| batch.for_each(|event| *event = 7)).unwrap();
+    assert_eq!(sender.publish_batch_timeout(1, short, |_| ()), Err(Refusal::NoRoom));
+    assert_eq!(receivers[0].receive_timeout(4, short, |event, _, _| assert_eq!(*event, 7)), Ok(Polled::Handled(4)));
+    halter.halt();
+    assert_eq!(sender.publish_batch_timeout(1, short, |_| ()), Err(Refusal::Halted));
+    drop(sender);
+    assert_eq!(receivers[0].receive_timeout(4, short, |_, _, _| ()), Ok(Polled::Drained));
+}

@@ -1,5 +1,7 @@
 -- What a run's sender has filled and published.
 use Rattle.std.specs.Prelude.{◌≡◌, ◌≢◌, ℕ, ◌+◌, ◌-◌, ◌<◌, min, List, [], ◌∷◌, ◌++◌, Some, None, length, map, replicate}
+use mathlib.Core.Option.{some}
+use lib.ListN.{get_elem?}
 use Rattle.dr_meaning.specs.declared.refusal.Refusal.{Refusal}
 use Rattle.dr_meaning.specs.declared.refusal.Refusal.TheVariants.{NoRoom}
 use Rattle.dr_meaning.specs.declared.claim_fault.ClaimFault.{ClaimFault}
@@ -29,6 +31,10 @@ module _ {E : Type 0} where
   abbrev pub FillsOn : {S : Type 0} → (S → ℕ → E → S → E → Type 0) → S → ℕ → List E → S → Type 0
   FillsOn by state k [] last = state ≡ last
   FillsOn {S} by state k (event ∷ events) last = (was : E) × (next : S) × by state k was next event × FillsOn by next (k + 1) events last
+
+  -- the event of a number is that of a list
+  abbrev pub IsNth : List E → ℕ → E → E → Type 0
+  IsNth events k was now = get_elem? events k ≡ some now
 
   -- k of n sequences that were claimed from lo on are filled, of which this is so, and the others have no event yet
   pub record FillsPart (Are : List E → Type 0) (k n lo : ℕ) (old new : Sending E) : Type 0 where

@@ -1,11 +1,11 @@
 //! The sender of a run: each of its calls claims, fills and publishes.
 
-ghost use Rattle.std.specs.Prelude.{◌≡◌, ◌+◌, ◌-◌, ◌<◌, ◌^◌, [], IfErr, IfOk, OnOk, length, min};
+ghost use Rattle.std.specs.Prelude.{◌≡◌, ◌+◌, ◌++◌, ◌-◌, ◌<◌, ◌^◌, [], IfErr, IfOk, OnOk, length, min};
 ghost use Rattle.std.specs.Fn.{FnOnceReturnsAtMut};
 ghost use Rattle.dr_meaning.specs.Calls.Filling.{FillsFrom, FillsOne};
 ghost use Rattle.dr_meaning.specs.Calls.Ends.{IsStretch};
 ghost use Rattle.dr_meaning.specs.Calls.InPlaceInlets.{Opens};
-ghost use Rattle.dr_disruptor.specs.Sending.{Fills, FillsOn, FillsPart, IsRefused, SendsAll, SendsOne, StopsAfter};
+ghost use Rattle.dr_disruptor.specs.Sending.{Fills, FillsOn, FillsPart, IsNth, IsRefused, SendsAll, SendsOne, StopsAfter};
 ghost use Rattle.dr_plain_senders.specs.Calls.InPlace.{sending_of};
 ghost use Rattle.dr_plain_senders.specs.Calls.Sending.{HaltCall};
 ghost use Rattle.dr_plain_senders.specs.Calls.Ends.{sender_place};
@@ -262,6 +262,32 @@ impl<R: Wait + Copy, I: InPlaceInlet> LiveSender<R, I> {
             sent: _,
         } = self;
         (end, bell)
+    }
+}
+
+impl<R: Wait + Copy, E: Copy, I: InPlaceInlet<Event = E>> LiveSender<R, I> {
+    /// Sends these events, in claims of at most `cut` of them, each copied to where it lies. It is refused as
+    /// [`LiveSender::publish_each`] is.
+    pub fn publish_all(&mut self, events: &[E], cut: u64) -> Result<(), Refusal>
+        requires cut { 0 < cut }
+        // It is still the same ring's sender.
+        ensures kept { I.kept self.new ≡ I.kept self.old }
+        // Just these events are published, behind all that was before.
+        ensures sent { OnOk result ((I.sending self.new).published ≡ (I.sending self.old).published ++ events.now) }
+        // The first claims were sent whole, and the next one was refused.
+        ensures refused { IfErr result (λ r. StopsAfter (IsNth events.now) I.kept I.sending I.refuses (length events.now) cut r self.old self.new) }
+    {
+        self.publish_each(
+            events.len() as u64,
+            cut,
+            |event: &mut E, k|
+                ensures { k < length events.entry.now → IsNth events.entry.now k event.old event.new }
+            {
+                if let Some(next) = events.get(k as usize) {
+                    *event = *next;
+                }
+            },
+        )
     }
 }
 

@@ -61,11 +61,7 @@ fn together<R: Threads + Wait + Abort + Copy + Send + 'static>(
             },
         );
         check(&rt, batch, Ok(()));
-        let script = sender.publish_each(3, 2, |event: &mut u64, k| {
-            if let Some(number) = LAST.get(k as usize) {
-                *event = *number;
-            }
-        });
+        let script = sender.publish_all(&LAST, 2);
         check(&rt, script, Ok(()));
         sender.published()
     });

@@ -1,121 +1,83 @@
-//! Orders that own memory, sent by a loop of the caller's own to handlers of two types: each on a thread of its own, and
-//! then all on this thread.
+//! Messages that own their bytes. Each slot has a buffer of its own, which is allocated once, before the run, and filled
+//! again and again: nothing is allocated, copied to a handler or let go while messages are sent.
 #![tactic(auto)]
 
 ghost use Rattle.std.specs.Prelude.{◌≡◌, IfOk, length};
 
-use dr_disruptor::{
-    Feed, InPlaceHandler, InPlaceInlet, LiveSender, RunFault, WaitStrategy, Way, run, run_here,
-};
+use dr_disruptor::{InPlaceHandler, RunFault, WaitStrategy, Way, run};
 use dr_graph::GraphBuilder;
-use dr_meaning::Refusal;
 use dr_seq::Size;
-use std::alloc::Global;
-use std::sync::Wait;
+use std::alloc::{AllocError, Global};
+
+/// How many bytes a message has at most.
+const ROOM: usize = 16;
+
+const TEXTS: [&[u8]; 3] = [b"buy 10", b"sell 7", b"cancel"];
 
 #[derive(Drop)]
-struct Order {
-    account: u64,
-    quantity: u64,
+struct Message {
     text: Vec<u8>,
 }
 
-#[derive(Drop)]
-struct Sum {
-    total: u64,
-}
-
-impl InPlaceHandler<Order> for Sum {
-    ghost use Rattle.std.specs.Prelude.{◌≡◌, ◌+◌, ◌%◌, ◌^◌};
-
-    ghost goes = { λ old order s end new. new.total ≡ (old.total + order.quantity) % 2 ^ 64 };
-
-    fn on_event_in_place(&mut self, order: &Order, _s: u64, _end: bool) {
-        self.total = self.total.wrapping_add(order.quantity);
-    }
-}
-
-#[derive(Drop)]
-struct Count(u64);
-
-impl InPlaceHandler<Order> for Count {
-    ghost goes = { λ old order s end new. Unit {0} };
-
-    fn on_event_in_place(&mut self, order: &Order, _s: u64, _end: bool) {
-        if order.text.is_empty() {
-            self.0 = self.0.wrapping_add(1);
+impl Message {
+    /// Puts a text in the place of what was there. It fits where it has at most [`ROOM`] bytes, and is cut else.
+    fn write(&mut self, text: &[u8]) {
+        self.text.clear();
+        for byte in text.iter().take(ROOM) {
+            let _pushed = self.text.push(*byte);
         }
     }
 }
 
-/// Sends so many orders, whichever way the run goes.
-#[derive(Clone, Copy)]
-struct Orders(u64);
+/// Counts the bytes of the messages, and those that begin with an `s`.
+#[derive(Clone, Copy, Default)]
+struct Reader {
+    bytes: u64,
+    sales: u64,
+}
 
-impl Feed<Order> for Orders {
-    ghost use Rattle.std.specs.Prelude.{List};
+impl InPlaceHandler<Message> for Reader {
+    ghost use Rattle.std.specs.Prelude.{⊤};
 
-    type Answer = Result<(), Refusal>;
+    ghost goes = { λ old message s end new. ⊤ };
 
-    ghost gives = { λ orders answer old new. Unit {0} };
-
-    fn feed<R: Wait + Copy, I: InPlaceInlet<Event = Order>>(
-        self,
-        sender: &mut LiveSender<R, I>,
-    ) -> Result<(), Refusal> {
-        for number in 0..self.0 {
-            sender.publish_with(|order| {
-                order.account = number % 7;
-                order.quantity = 1 + number % 3;
-            })?;
+    fn on_event_in_place(&mut self, message: &Message, _s: u64, _end: bool) {
+        self.bytes = self.bytes.wrapping_add(message.text.len() as u64);
+        if message.text.first() == Some(&b's') {
+            self.sales = self.sales.wrapping_add(1);
         }
-        Ok(())
     }
 }
 
-fn blank(alloc: Global, many: u64) -> Result<Vec<Order>, RunFault>
-    ensures { IfOk result (λ orders. length orders.items ≡ many) }
+/// A message for each slot, with room for its text.
+fn blank(alloc: Global, size: Size) -> Result<Vec<Message>, AllocError>
+    ensures { IfOk result (λ messages. length messages.items ≡ size) }
 {
-    let mut orders = Vec::new(alloc);
-    for number in 0..many {
-        orders.push(Order {
-            account: number,
-            quantity: 0,
-            text: Vec::new(alloc),
-        })?;
+    let mut messages = Vec::new(alloc);
+    for _ in 0..size.get() {
+        let text = Vec::with_capacity(alloc, ROOM)?;
+        messages.push(Message { text })?;
     }
-    Ok(orders)
+    Ok(messages)
 }
 
 fn main(rt: HostRuntime) -> Result<(), RunFault> {
     let (alloc, size) = (rt.alloc(), Size::new(8)?);
     let mut builder = GraphBuilder::new(alloc);
-    let first = builder.handle_with(&["journal"])?;
-    builder.then(&first, &["count"])?;
+    builder.handle_with(&["first", "second"])?;
     let graph = builder.build()?;
-    let way = Way::by(WaitStrategy::Parking).in_batches(4);
-    let orders = blank(alloc, size.get())?;
-    let both = (Sum { total: 0 }, Count(0));
-    let ran = run(
-        rt,
-        alloc,
-        &graph,
-        size,
-        orders,
-        both,
-        way,
-        |sender| Orders(1000).feed(sender),
-    )?;
+    let messages = blank(alloc, size)?;
+    let readers = vec![in alloc; Reader::default(); 2]?;
+    let way = Way::by(WaitStrategy::Parking);
+    let ran = run(rt, alloc, &graph, size, messages, readers, way, |sender| {
+        sender.publish_each(900, 4, |message: &mut Message, k| {
+            message.write(TEXTS[(k % 3) as usize]);
+        })
+    })?;
     ran.sent?;
-    let (sum, count) = ran.handlers;
-    let _printed = rt.println(&sum.total);
-    let _printed = rt.println(&count.0);
-    let orders = blank(alloc, size.get())?;
-    let both = (sum, count);
-    let ran = run_here(rt, alloc, &graph, size, orders, both, way, Orders(1000))?;
-    ran.sent?;
-    let (sum, count) = ran.handlers;
-    let _printed = rt.println(&sum.total);
-    let _printed = rt.println(&count.0);
+    for reader in ran.handlers.iter() {
+        let _printed = rt.println(&reader.bytes);
+        let _printed = rt.println(&reader.sales);
+    }
     Ok(())
 }

@@ -161,8 +161,21 @@ public final class Disruptor<T> implements AutoCloseable {
             Receiver<T> receiver = ring.receivers().get(k);
             threads.add(new Thread(() -> work(handler, receiver, ring), handler.name));
         }
-        threads.forEach(Thread::start);
+        startAll();
         return ring;
+    }
+
+    /** Where one cannot be started, nobody waits for its handler. */
+    private void startAll() {
+        boolean allStarted = false;
+        try {
+            threads.forEach(Thread::start);
+            allStarted = true;
+        } finally {
+            if (!allStarted) {
+                ring.giveUp();
+            }
+        }
     }
 
     /** Opens the ring, and starts a thread for each handler. */

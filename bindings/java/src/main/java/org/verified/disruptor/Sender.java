@@ -2,6 +2,7 @@ package org.verified.disruptor;
 
 import java.lang.invoke.VarHandle;
 import java.lang.ref.Reference;
+import java.util.concurrent.TimeUnit;
 
 /**
  * An end that fills events where they lie and publishes them, for one thread.
@@ -75,6 +76,22 @@ public final class Sender<T> {
             return false;
         }
         fillAndPublish(first, n, translator);
+        return true;
+    }
+
+    /**
+     * The same, or answers false where that is so when the time is up. It may take ten milliseconds more, where it sleeps.
+     *
+     * @param timeout how long it waits at most
+     */
+    public boolean tryPublishEvents(int n, long timeout, TimeUnit unit, EventTranslator<? super T> translator) {
+        long begun = System.nanoTime();
+        while (!tryPublishEvents(n, translator)) {
+            if (System.nanoTime() - begun >= unit.toNanos(timeout)) {
+                return false;
+            }
+            waiting.await();
+        }
         return true;
     }
 

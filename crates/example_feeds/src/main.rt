@@ -1,0 +1,85 @@
+//! Two feeds, each on a thread of its own, send orders to a risk check, and then to a journal: handlers of two types.
+#![tactic(auto)]
+
+use dr_disruptor::{InPlaceHandler, LiveSender, RunFault, WaitStrategy, Way, run_senders};
+use dr_graph::GraphBuilder;
+use dr_plain_senders::Sender;
+use dr_seq::Size;
+
+#[derive(Clone, Copy, Default)]
+struct Order {
+    account: u64,
+    quantity: u64,
+}
+
+/// Keeps the greatest quantity that was ordered at once.
+#[derive(Drop)]
+struct Risk {
+    greatest: u64,
+}
+
+impl InPlaceHandler<Order> for Risk {
+    ghost use Rattle.std.specs.Prelude.{◌≡◌, max};
+
+    ghost goes = { λ old order s end new. new.greatest ≡ max old.greatest order.quantity };
+
+    fn on_event_in_place(&mut self, order: &Order, _s: u64, _end: bool) {
+        self.greatest = self.greatest.max(order.quantity);
+    }
+}
+
+/// Counts the orders of each of two accounts.
+#[derive(Drop)]
+struct Journal {
+    first: u64,
+    second: u64,
+}
+
+impl InPlaceHandler<Order> for Journal {
+    ghost use Rattle.std.specs.Prelude.{⊤};
+
+    ghost goes = { λ old order s end new. ⊤ };
+
+    fn on_event_in_place(&mut self, order: &Order, _s: u64, _end: bool) {
+        if order.account == 1 {
+            self.first = self.first.wrapping_add(1);
+        } else {
+            self.second = self.second.wrapping_add(1);
+        }
+    }
+}
+
+fn main(rt: HostRuntime) -> Result<(), RunFault> {
+    let (alloc, size) = (rt.alloc(), Size::new(64)?);
+    let mut builder = GraphBuilder::new(alloc);
+    let risk = builder.handle_with(&["risk"])?;
+    builder.then(&risk, &["journal"])?;
+    let graph = builder.build()?;
+    let orders = vec![in alloc; Order::default(); size.get() as usize]?;
+    let handlers = (
+        Risk { greatest: 0 },
+        Journal {
+            first: 0,
+            second: 0,
+        },
+    );
+    let mut feeds = Vec::new(alloc);
+    for account in [1u64, 2] {
+        feeds.push(move |sender: &mut LiveSender<HostRuntime, Sender<Order>>| {
+            sender.publish_each(500, 8, |order: &mut Order, k| {
+                order.account = account;
+                order.quantity = 1 + k % 9;
+            })
+        })?;
+    }
+    let way = Way::by(WaitStrategy::Parking);
+    let ran = run_senders(rt, alloc, &graph, size, orders, handlers, way, feeds)?;
+    for sent in ran.sent {
+        sent?;
+    }
+    let (risk, journal) = ran.handlers;
+    let _printed = rt.println(&risk.greatest);
+    let _printed = rt.println(&journal.first);
+    let _printed = rt.println(&journal.second);
+    Ok(())
+}
