@@ -9,6 +9,7 @@ use dr_meaning::{InPlaceHandler, Refusal};
 use dr_plain_senders::{Sender, Settled};
 use dr_seq::Size;
 use std::alloc::Global;
+use std::fmt::Debug;
 use std::sync::Wait;
 use std::thread::Threads;
 
@@ -67,14 +68,16 @@ fn ran<R: Threads + Wait + Copy + Send + 'static>(
     }
 }
 
+fn tell_each<R: Print, T: Copy + Debug>(out: &Lines<R>, values: &[T]) {
+    for value in values {
+        out.value(*value);
+    }
+}
+
 fn tell_ran<R: Print>(out: &Lines<R>, ran: Merging) {
     out.about("claimed", ran.settled.claimed());
-    for sent in ran.sent.iter() {
-        out.value(*sent);
-    }
-    for handler in ran.handlers.iter() {
-        out.value(*handler);
-    }
+    tell_each(out, ran.sent.as_slice());
+    tell_each(out, ran.handlers.as_slice());
 }
 
 fn tell_ran_over<R: Print + Threads + Wait + Copy + Send + 'static>(

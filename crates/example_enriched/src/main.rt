@@ -68,7 +68,12 @@ fn main(rt: HostRuntime) -> Result<(), RunFault> {
     let graph = builder.build()?;
     let trades = Vec::from_array(
         alloc,
-        [Trade::blank(), Trade::blank(), Trade::blank(), Trade::blank()],
+        [
+            Trade::blank(),
+            Trade::blank(),
+            Trade::blank(),
+            Trade::blank(),
+        ],
     )?;
     let pricing = Pricing {
         prices: [10, 20, 30],

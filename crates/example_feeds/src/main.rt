@@ -3,6 +3,7 @@
 
 use dr_disruptor::{InPlaceHandler, LiveSender, RunFault, WaitStrategy, Way, run_senders};
 use dr_graph::GraphBuilder;
+use dr_meaning::Refusal;
 use dr_plain_senders::Sender;
 use dr_seq::Size;
 
@@ -49,6 +50,14 @@ impl InPlaceHandler<Order> for Journal {
     }
 }
 
+/// The first refusal of a feed, if one was refused.
+fn all_sent(feeds: &[Result<(), Refusal>]) -> Result<(), Refusal> {
+    for sent in feeds {
+        (*sent)?;
+    }
+    Ok(())
+}
+
 fn main(rt: HostRuntime) -> Result<(), RunFault> {
     let (alloc, size) = (rt.alloc(), Size::new(64)?);
     let mut builder = GraphBuilder::new(alloc);
@@ -74,9 +83,7 @@ fn main(rt: HostRuntime) -> Result<(), RunFault> {
     }
     let way = Way::by(WaitStrategy::Parking);
     let ran = run_senders(rt, alloc, &graph, size, orders, handlers, way, feeds)?;
-    for sent in ran.sent {
-        sent?;
-    }
+    all_sent(ran.sent.as_slice())?;
     let (risk, journal) = ran.handlers;
     let _printed = rt.println(&risk.greatest);
     let _printed = rt.println(&journal.first);
