@@ -53,6 +53,7 @@ install: disruptor lib
 	install -m 644 include/* $(into)/include
 	install -m 644 bindings/cpp/*.cmake $(into)/lib/cmake/disruptor
 	find share -type f -exec install -D -m 644 '{}' '$(into)/{}' ';'
+	tools/man_pages.py '$(into)/share/man/man3'
 
 # For those who have no kit.
 dist: lib
@@ -83,7 +84,7 @@ help:
 	@echo '                            changed, from 3 minutes on'
 	@echo '  make lib                  proves and builds in out/ the library for other languages, a wheel and a jar: some minutes'
 	@echo '  make dist                 packs library, headers and packages in a tarball in out/, for those who have no kit'
-	@echo '  make install PREFIX=/opt  installs program, libraries, headers and man page there, or else in /usr/local'
+	@echo '  make install PREFIX=/opt  installs program, libraries, headers and man pages there, or else in /usr/local'
 	@echo '  make bench                events a second of core and ring: some minutes, and many where other work runs'
 	@echo '  make bench-plots          draws what bench/measured holds, as docs/pictures, and writes its tables: seconds'
 	@echo '  make hello DIR=../hello   starts a repository of your own in that folder, with a program over the'

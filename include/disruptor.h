@@ -1,7 +1,7 @@
 /* The proved rings for C, and for every language that calls C: one sender or several hand events to a graph of handlers, each end on
  * a thread of its own. The events are of your own type and lie in an array of yours (a ring of slots), or the ring has them: two
- * words each, or as many bytes as you say. No call waits but disruptor_wait and disruptor_sleep, and none but the openings and
- * disruptor_free takes memory or gives it back.
+ * words each, or as many bytes as you say. No call waits but disruptor_wait, disruptor_sleep and those that end in _within, and none
+ * but the openings and disruptor_free takes memory or gives it back.
  *
  * Each call that lists refusals answers DISRUPTOR_OK or the number of one (DISRUPTOR_REFUSALS): the first for which there is
  * cause. A refused call changes nothing; at most it has looked at what other ends stored.
@@ -27,12 +27,12 @@
 #include <stddef.h>
 #include <stdint.h>
 #include <sched.h>
+#include <time.h>
 #ifdef __linux__
 #include <sys/syscall.h>
-#include <time.h>
 #include <unistd.h>
-/* FUTEX_WAIT_PRIVATE and FUTEX_WAKE_PRIVATE of the kernel's header, which need not be here. */
-enum { DISRUPTOR_FUTEX_WAIT = 128, DISRUPTOR_FUTEX_WAKE = 129 };
+/* FUTEX_WAIT_PRIVATE and FUTEX_WAKE_PRIVATE of the kernel's header, which need not be here, and CLOCK_MONOTONIC. */
+enum { DISRUPTOR_FUTEX_WAIT = 128, DISRUPTOR_FUTEX_WAKE = 129, DISRUPTOR_MONOTONIC = 1 };
 #ifndef __cplusplus
 long syscall(long number, ...); /* (strict C hides it in unistd.h) */
 #endif
@@ -200,8 +200,9 @@ static inline uint32_t disruptor_open_bytes(uint64_t size, uint64_t limit, size_
  * as many things as there are slots, of any type, that of a sequence at slots[DISRUPTOR_SLOT(sequence, size)]. Nothing is copied,
  * and a batch takes two calls on each side, however long it is. Who may touch a slot:
  *   - the sender that claimed its sequence, until it publishes it by disruptor_publish_slots;
- *   - each handler whose batch has it, from the poll by disruptor_poll_slots until it completes it. All may read it. One may also
- *     change it, if each other handler comes before it or after it in the graph: those after it see all that it wrote.
+ *   - each handler whose batch has it, from the poll by disruptor_poll_slots until it completes it. All may read it. A handler may
+ *     also change it, if each other one comes before it or after it in the graph: those after it see all that it wrote;
+ *   - before its first claim, and once all ends are freed, who opened the ring.
  * Nobody else touches it meanwhile: that is proved of cell k of the ring, for each k. That cell k is element k of your array is an
  * argument, since no contract speaks of memory that the library never sees; that you keep to this is up to you. In memory each
  * hand-over is ordered by sequentially consistent words of the library.
@@ -465,6 +466,57 @@ static inline void disruptor_wait(disruptor_waiting *waiting) {
     }
     for (uint32_t k = 0; k < waiting->pauses; k++) disruptor_pause();
     waiting->paused++;
+}
+
+/* Nanoseconds of a clock that nobody sets, on Linux. */
+static inline uint64_t disruptor_now(void) {
+    struct timespec now = {0, 0};
+#ifdef __linux__
+    syscall(SYS_clock_gettime, DISRUPTOR_MONOTONIC, &now);
+#else
+    timespec_get(&now, TIME_UTC);
+#endif
+    return (uint64_t)now.tv_sec * 1000000000 + (uint64_t)now.tv_nsec;
+}
+
+/* So many nanoseconds are for ever. */
+#define DISRUPTOR_FOREVER UINT64_MAX
+
+/* Waits, if so many nanoseconds since *begun are not over, and answers whether they are. *begun is 0 at first. */
+static inline bool disruptor_is_over(disruptor_waiting *waiting, uint64_t nanoseconds, uint64_t *begun) {
+    if (nanoseconds != DISRUPTOR_FOREVER) {
+        const uint64_t now = disruptor_now();
+        if (!*begun) *begun = now;
+        if (now - *begun >= nanoseconds) return true;
+    }
+    disruptor_wait(waiting);
+    return false;
+}
+
+/* disruptor_claim, made again while it is refused with NO_ROOM or CONTENDED, until so many nanoseconds are over, and ten
+ * milliseconds more at most where it sleeps. */
+static inline uint32_t disruptor_claim_within(disruptor_sender *sender, uint64_t n, uint64_t *lo, disruptor_waiting *waiting,
+                                              uint64_t nanoseconds) {
+    uint64_t begun = 0;
+    for (;;) {
+        const uint32_t refused = disruptor_claim(sender, n, lo);
+        if (!refused) disruptor_found_room(waiting, n);
+        if (refused != DISRUPTOR_NO_ROOM && refused != DISRUPTOR_CONTENDED) return refused;
+        if (disruptor_is_over(waiting, nanoseconds, &begun)) return refused;
+    }
+}
+
+/* disruptor_poll_slots, made again while it is told GATING or IDLE, as long as that. */
+static inline uint32_t disruptor_poll_slots_within(disruptor_receiver *receiver, uint64_t room, disruptor_offer *offer,
+                                                   disruptor_waiting *waiting, uint64_t nanoseconds) {
+    uint64_t begun = 0;
+    for (;;) {
+        const uint32_t refused = disruptor_poll_slots(receiver, room, offer);
+        if (refused) return refused;
+        if (offer->kind == DISRUPTOR_BATCH) disruptor_found(waiting, offer->count);
+        if (offer->kind == DISRUPTOR_BATCH || offer->kind == DISRUPTOR_DRAINED) return refused;
+        if (disruptor_is_over(waiting, nanoseconds, &begun)) return refused;
+    }
 }
 
 #ifdef __cplusplus

@@ -5,6 +5,7 @@
 
 #include "disruptor.h"
 #include <atomic>
+#include <chrono>
 #include <cstddef>
 #include <cstdint>
 #include <memory>
@@ -46,6 +47,12 @@ public:
     void found(std::uint64_t count) noexcept { disruptor_found(&state_, count); }
     // The same after a claim of so many events.
     void found_room(std::uint64_t count) noexcept { disruptor_found_room(&state_, count); }
+    // Waits, if the time is not up, and answers whether it is.
+    [[nodiscard]] bool is_over(std::chrono::steady_clock::time_point end) noexcept {
+        if (std::chrono::steady_clock::now() >= end) return true;
+        wait();
+        return false;
+    }
 
 private:
     disruptor::bell bell_;
@@ -89,6 +96,20 @@ private:
     std::atomic<bool> is_broken_{false};
 };
 using shared = std::shared_ptr<common>;
+
+// How many events an end published or completed, which any thread may ask at any time. It is never ahead of the end.
+class watch {
+public:
+    std::uint64_t count() const noexcept { return line_->count.load(std::memory_order_acquire); }
+    // Only its end calls this.
+    void set(std::uint64_t count) const noexcept { line_->count.store(count, std::memory_order_release); }
+
+private:
+    struct line {
+        alignas(128) std::atomic<std::uint64_t> count{0};
+    };
+    std::shared_ptr<line> line_ = std::make_shared<line>();
+};
 
 // A handle that frees what it has, and rings the bell of its ring where it changed what others look at. It may be moved, and one
 // that was moved from answers not-open.
@@ -154,6 +175,15 @@ public:
             how.wait();
         }
     }
+    // The same, or nothing where the time is up. It may take ten milliseconds more, where it sleeps.
+    [[nodiscard]] std::optional<std::uint64_t> try_claim_for(std::chrono::nanoseconds time, std::uint64_t n, waiting &how) {
+        const auto end = std::chrono::steady_clock::now() + time;
+        for (;;) {
+            const std::optional<std::uint64_t> lo = try_claim(n);
+            if (lo) how.found_room(n);
+            if (lo || how.is_over(end)) return lo;
+        }
+    }
     void write(std::uint64_t sequence, const event &what) { check(disruptor_write(get(), sequence, &what)); }
     void publish(std::uint64_t lo, std::uint64_t hi) { check_and_ring(disruptor_publish(get(), lo, hi)); }
     void close() { check_and_ring(disruptor_close(get())); }
@@ -169,11 +199,18 @@ public:
     receiving &operator=(receiving &&other) noexcept {
         if (this != &other) leave();
         end::operator=(std::move(other));
+        completed_ = other.completed_;
         next_ = other.next_, taken_ = other.taken_, has_thrown_ = other.has_thrown_, is_drained_ = other.is_drained_;
         return *this;
     }
     ~receiving() { leave(); }
-    void complete(std::uint64_t upto) { check_and_ring(disruptor_complete(get(), upto)); }
+    void complete(std::uint64_t upto) {
+        check(disruptor_complete(get(), upto));
+        completed_.set(upto);
+        if (shared_) shared_->ring();
+    }
+    // How many events it completed, for who watches it.
+    watch watched() const noexcept { return completed_; }
 
 protected:
     // Notes what a poll found.
@@ -222,6 +259,7 @@ private:
     void leave() noexcept {
         if (shared_ && !is_drained_) shared_->give_up();
     }
+    watch completed_;
     // Of the events that are taken the next one to show, and up to where they go.
     std::uint64_t next_ = 0, taken_ = 0;
     bool has_thrown_ = false, is_drained_ = false;

@@ -1,8 +1,8 @@
 #!/usr/bin/env bash
-# Builds and runs a program of each language over libdisruptor, in a new folder, and compares what it prints: C by the static
-# library, and under the sanitizers of addresses and of undefined behaviour where the compiler has them; C++, Rust and Java by the
-# static library; Python by the shared one. Then it builds and tests each package of `bindings`, without a network. A language whose
-# compiler is not here is skipped, and named. It prints a line for each failure, and then a count; its status is 0 where none failed.
+# Builds and runs programs in C and C++ over libdisruptor, in a new folder, and compares what they print: C also under the sanitizers
+# of addresses and of undefined behaviour, where the compiler has them. Then it builds and tests each package of `bindings`, without a
+# network, and runs the programs of `examples` over it. A language whose compiler is not here is skipped, and named. It prints a line
+# for each failure, and then a count; its status is 0 where none failed.
 #
 #   tests/other_languages.sh FOLDER      that of `make lib`, with libdisruptor.a and libdisruptor.so
 set -u
@@ -99,22 +99,6 @@ if has c++ cpp; then
 else
     skip C++
 fi
-if command -v rustc > "$room/null" 2>&1; then
-    try Rust "$size"$'\n''a claim after the halt: halted'$'\n'"$all" \
-        rustc --edition 2024 -O -L "$library" -l static=disruptor -o "$room/rust" "$top/examples/rust/ring.rs" -- "$room/rust"
-    try 'Rust, bytes' 'a write after the end: not-claimed'$'\n'"$orders" \
-        rustc --edition 2024 -O -L "$library" -l static=disruptor -o "$room/bytes_rust" "$top/examples/rust/bytes.rs" -- "$room/bytes_rust"
-else
-    skip Rust
-fi
-if command -v python3 > "$room/null" 2>&1 && python3 -c 'import ctypes' 2> "$room/null"; then
-    try Python "$size"$'\n''a claim after the halt: halted'$'\n'"$all" \
-        -- env PYTHONDONTWRITEBYTECODE=1 python3 "$top/examples/python/ring.py" "$library/libdisruptor.so"
-    try 'Python, bytes' 'an event of five bytes: bad-length'$'\n'"$orders" \
-        -- env PYTHONDONTWRITEBYTECODE=1 python3 "$top/examples/python/bytes.py" "$library/libdisruptor.so"
-else
-    skip Python
-fi
 # The home of a Java compiler that has the header of Java's native interface too.
 java_home() {
     local javac=${JAVA_HOME:+$JAVA_HOME/bin/javac} home
@@ -123,23 +107,6 @@ java_home() {
     [ -x "$javac" ] && [ -f "$home/include/jni.h" ] && printf '%s' "$home"
 }
 
-# Builds the native side and the classes.
-build_java() {
-    cc "${c[@]}" -I"$java/include" -I"$(dirname "$java"/include/*/jni_md.h)" -shared -fPIC -o "$room/libdisruptor_jni.so" \
-        "$top/examples/java/disruptor_jni.c" "$library/libdisruptor.a" -lpthread &&
-        "$java/bin/javac" --release 11 -d "$room/java" "$top"/examples/java/*.java
-}
-
-if has cc c && java=$(java_home); then
-    run=("$java/bin/java" -Xmx64m -Djava.library.path="$room" -cp "$room/java")
-    ring="$size"$'\n''a claim after the halt: halted'$'\n''a poll of a closed end: not-open'$'\n'"$all"
-    try Java "$ring" build_java -- "${run[@]}" Ring
-    try 'Java whose native calls are checked' "$ring" -- "${run[@]}" -Xcheck:jni Ring 100000
-    try 'Java, senders' "$all" -- "${run[@]}" Senders
-    try 'Java, bytes' 'an event of five bytes: bad-length'$'\n'"$orders" -- "${run[@]}" Bytes
-else
-    skip Java
-fi
 # Builds and tests a package, which says by its status whether it passed.
 package() { # NAME COMMAND..
     local name=$1
@@ -162,35 +129,69 @@ test_cpp() {
         cmake --build "$room/installed" && ctest --test-dir "$room/installed" --output-on-failure --timeout 120
 }
 
+# Whether a program prints just this.
+prints() { # EXPECTED COMMAND..
+    local expected=$1
+    shift
+    [ "$(timeout 120 "$@" | tee /dev/stderr)" = "$expected" ]
+}
+ends="$size"$'\n''a claim after the halt: halted'$'\n'"$all"
+
+# The packages' tests, and the programs of `examples` over them.
 test_rust() {
-    cp -r "$top/bindings/rust" "$room/crate" && cd "$room/crate" &&
-        CARGO_TARGET_DIR=$room/cargo timeout 600 cargo test --offline --quiet
+    mkdir "$room/crates" && cp -r "$top/bindings" "$top/examples" "$room/crates" && export CARGO_TARGET_DIR=$room/cargo &&
+        (cd "$room/crates/bindings/rust" && timeout 600 cargo test --offline --quiet) && cd "$room/crates/examples/rust" &&
+        prints "$ends" cargo run --offline --quiet --bin ends && prints "$all" cargo run --offline --quiet --bin senders
 }
 
 # The wheel and the jar are built as `make lib` does, and tested as they are unpacked.
 test_python() {
-    "$1" -m zipfile -e "$room"/packages/*.whl "$room/unpacked" &&
-        cd "$top/bindings/python" &&
-        env -u DISRUPTOR_LIB PYTHONPATH="$room/unpacked" PYTHONDONTWRITEBYTECODE=1 \
-            timeout 120 "$1" -W error -m unittest discover -s tests
+    "$1" -m zipfile -e "$room"/packages/*.whl "$room/unpacked" && unset DISRUPTOR_LIB &&
+        export PYTHONPATH=$room/unpacked PYTHONDONTWRITEBYTECODE=1 &&
+        (cd "$top/bindings/python" && timeout 120 "$1" -W error -m unittest discover -s tests) &&
+        prints "$ends" "$1" "$top/examples/python/ends.py" &&
+        prints 'each handler had every record' "$1" "$top/examples/python/records.py"
 }
 
 # (JAVA22_HOME may name a Java whose own calls of foreign functions are tried too)
 test_java() {
-    local classes=$room/tests_of_java jar=$room/packages/disruptor.jar home
+    local classes=$room/tests_of_java jar=$room/packages/disruptor.jar home run
     mkdir -p "$classes" && sed -n '/^```java$/,/^```$/p' "$top/bindings/java/README.md" | sed '1d;$d' > "$classes/Orders.java" &&
-        "$java/bin/javac" -cp "$jar" -d "$classes" "$classes/Orders.java" "$top"/bindings/java/src/test/java/*.java || return 1
+        "$java/bin/javac" --release 11 -cp "$jar" -d "$classes" "$classes/Orders.java" "$top"/bindings/java/src/test/java/*.java \
+            "$top"/examples/java/*.java || return 1
     for home in "$java" ${JAVA22_HOME:+"$JAVA22_HOME"}; do
-        timeout 120 "$home/bin/java" -Xcheck:jni -cp "$jar:$classes" RingTest &&
-            timeout 120 "$home/bin/java" -cp "$jar:$classes" Orders | grep -x 'each handler had every order' || return 1
+        run=("$home/bin/java" -Xmx64m -cp "$jar:$classes")
+        prints 'each test passed' "${run[@]}" -Xcheck:jni RingTest && prints 'each handler had every order' "${run[@]}" Orders &&
+            prints "$ends" "${run[@]}" Ends && prints "$all" "${run[@]}" Senders || return 1
     done
+}
+
+# A page for each call that the header names, in which groff finds nothing to warn of.
+test_man_pages() {
+    "$top/tools/man_pages.py" "$room/man/man3" && cd "$room/man" && [ -z "$(groff -man -ww -z man3/*.3 2>&1)" ] &&
+        [ -f man3/disruptor_publish_slots.3 ] && [ -f man3/disruptor_finish.3 ] && grep -q '^uint32_t disruptor_claim(' man3/disruptor_claim.3
+}
+
+# Where Maven finds its plugins without a network, as Debian has them.
+debian=/usr/share/maven-repo
+has_maven() {
+    command -v mvn > "$room/null" 2>&1 && [ -d $debian/org/codehaus/mojo/exec-maven-plugin/3.1.0 ] &&
+        [ -d $debian/org/apache/maven/plugins/maven-compiler-plugin/3.10.1 ] && [ -d $debian/org/apache/maven/plugins/maven-jar-plugin/3.3.0 ]
+}
+
+test_maven() {
+    mkdir "$room/maven" && cp -r "$top/bindings" "$top/include" "$room/maven" && cd "$room/maven/bindings/java" &&
+        printf '<settings><localRepository>%s</localRepository><mirrors><mirror><id>debian</id><url>file://%s</url>%s' \
+            "$room/m2" $debian '<mirrorOf>*</mirrorOf></mirror></mirrors></settings>' > settings.xml &&
+        JAVA_HOME=$java timeout 300 mvn -q -B -s settings.xml package && [ -f target/disruptor-*.jar ]
 }
 
 # Each package has the version of the header.
 test_versions() {
     local version
     version=$(sed -n 's/^#define DISRUPTOR_VERSION "\(.*\)"/\1/p' "$top/include/disruptor.h")
-    grep -x "version = \"$version\"" "$top/bindings/rust/Cargo.toml" && grep -x "version = \"$version\"" "$top/bindings/python/pyproject.toml"
+    grep -x "version = \"$version\"" "$top/bindings/rust/Cargo.toml" && grep -x "version = \"$version\"" "$top/bindings/python/pyproject.toml" &&
+        grep -x "  <version>$version</version>" "$top/bindings/java/pom.xml"
 }
 
 # A copy of the library, beside which the wheel and the jar come.
@@ -201,10 +202,16 @@ build_packages() {
 package 'each language: the versions' test_versions
 package 'Python and Java: the build' build_packages
 if has cc c; then package C "$top/bindings/c/test.sh" "$library"; fi
+if command -v groff > "$room/null" 2>&1; then package 'C: the man pages' test_man_pages; else skip 'the man pages'; fi
 if has c++ cpp && command -v cmake > "$room/null" 2>&1; then package C++ test_cpp; else skip 'the package for C++'; fi
 if command -v cargo > "$room/null" 2>&1; then package Rust test_rust; else skip 'the crate for Rust'; fi
 if ls "$room"/packages/*.whl > "$room/null" 2>&1; then package Python test_python python3; else skip 'the package for Python'; fi
-if [ -f "$room/packages/disruptor.jar" ] && java=$(java_home); then package Java test_java; else skip 'the package for Java'; fi
+if [ -f "$room/packages/disruptor.jar" ] && java=$(java_home); then
+    package Java test_java
+    if has_maven; then package 'Java by Maven' test_maven; else skip 'the package for Java by Maven'; fi
+else
+    skip 'the package for Java'
+fi
 [ -z "$skipped" ] || printf 'not here, and skipped:%s\n' "$skipped"
 printf 'other languages: %s programs, %s failed\n' $cases $failed
 [ $failed -eq 0 ] && [ $cases -gt 0 ]

@@ -11,8 +11,6 @@ In a ring of slots the events lie in a list of this program's, where they are wr
 commands that write what lies there of the sender's own, and then the one that publishes.
 """
 
-import ctypes
-import functools
 import os
 import random
 import struct
@@ -22,8 +20,8 @@ import tempfile
 
 sys.dont_write_bytecode = True
 TOP = os.path.dirname(os.path.dirname(os.path.abspath(__file__)))
-sys.path.insert(0, f"{TOP}/examples/python")
-import disruptor  # noqa: E402
+sys.path.insert(0, f"{TOP}/tests")
+import library_calls  # noqa: E402
 
 CALLS = 200
 WORDS = struct.Struct("<QQ")
@@ -35,22 +33,22 @@ class Exchange:
     def __init__(self, library, chance):
         self.chance, self.library = chance, library
         self.size = 1 << chance.randrange(6)
-        self.limit = chance.choice([1, 40, disruptor.MAX_LIMIT])
+        self.limit = chance.choice([1, 40, library_calls.MAX_LIMIT])
         handlers = chance.randrange(1, 6)
         masks = [sum(1 << up for up in range(k) if chance.random() < 0.4) for k in range(handlers)]
         kind = chance.choice(["words", "bytes", "slots", "several", "slots of several"])
         self.is_single, self.is_of_bytes, self.is_of_slots = "several" not in kind, kind == "bytes", "slots" in kind
         self.slots = [(0, 0)] * self.size
         if self.is_single and kind != "words":
-            opened = disruptor.open_bytes(library, self.size, WORDS.size if self.is_of_bytes else 0, masks, self.limit)
+            opened = library_calls.open_bytes(library, self.size, WORDS.size if self.is_of_bytes else 0, masks, self.limit)
             sender, self.receivers, self.halter = opened
             self.senders, mode = [sender], "single"
         elif self.is_single:
-            sender, self.receivers, self.halter = disruptor.open(library, self.size, masks, self.limit)
+            sender, self.receivers, self.halter = library_calls.open(library, self.size, masks, self.limit)
             self.senders, mode = [sender], "single"
         else:
             several = chance.randrange(1, 5)
-            self.senders, self.receivers, self.halter = disruptor.open_several(library, self.size, masks, several, self.limit)
+            self.senders, self.receivers, self.halter = library_calls.open_several(library, self.size, masks, several, self.limit)
             mode = f"multi,{several}"
         self.claimed = 0
         # (the sender of each sequence that is claimed and not published)
@@ -66,7 +64,7 @@ class Exchange:
         self.records.append(record)
         try:
             answer = call(*arguments)
-        except disruptor.Refusal as refusal:
+        except library_calls.Refusal as refusal:
             self.replies.append(f"refused {refusal.number} {refusal}")
             return None
         self.replies.append(line(answer))
@@ -93,15 +91,12 @@ class Exchange:
         event = (WORDS.pack(first, second),) if self.is_of_bytes else (first, second)
         self.call(f"write,{p},{sequence},{first},{second}", lambda _: "written", self.senders[p].write, sequence, *event)
 
-    def publish_slots(self, p, lo, hi):
-        self.senders[p].call("publish_slots", lo, hi)
-
     def publish(self, p, lo, hi):
         if self.is_of_slots:
             for sequence in sorted(it for it, owner in self.owner.items() if owner == p and lo <= it <= hi):
                 first, second = self.slots[sequence % self.size]
                 self.call(f"write,{p},{sequence},{first},{second}", lambda _: "written", lambda: None)
-        publish = functools.partial(self.publish_slots, p) if self.is_of_slots else self.senders[p].publish
+        publish = self.senders[p].publish_slots if self.is_of_slots else self.senders[p].publish
         self.call(f"publish,{p},{lo},{hi}", lambda _: "published", publish, lo, hi)
         if self.replies[-1] == "published":
             for sequence in range(lo, hi + 1):
@@ -111,13 +106,8 @@ class Exchange:
         """The first sequence that a sender claimed and did not publish, or the next to be claimed."""
         return min((it for it, owner in self.owner.items() if owner == p), default=self.claimed)
 
-    def poll_slots(self, k, room):
-        offer = disruptor.Offer()
-        self.receivers[k].call("poll_slots", room, ctypes.byref(offer), 1)
-        return offer
-
     def poll(self, k, room):
-        events = (disruptor.Event * (0 if self.is_of_bytes or self.is_of_slots else room))()
+        events = (library_calls.Event * (0 if self.is_of_bytes or self.is_of_slots else room))()
 
         def pairs(offer):
             if self.is_of_slots:
@@ -127,14 +117,14 @@ class Exchange:
             return [(it.first, it.second) for it in events[: offer.count]]
 
         def line(offer):
-            if offer.kind != disruptor.BATCH:
-                return {disruptor.GATING: "gating", disruptor.IDLE: "idle", disruptor.DRAINED: "drained"}[offer.kind]
+            if offer.kind != library_calls.BATCH:
+                return {library_calls.GATING: "gating", library_calls.IDLE: "idle", library_calls.DRAINED: "drained"}[offer.kind]
             shown = [f"{first}:{second}" if second else f"{first}" for first, second in pairs(offer)]
             return " ".join([f"batch {offer.first}", "end" if offer.end else "more", *shown])
 
-        poll = functools.partial(self.poll_slots, k) if self.is_of_slots else self.receivers[k].poll
+        poll = self.receivers[k].poll_slots if self.is_of_slots else self.receivers[k].poll
         offer = self.call(f"poll,h{k},{room}", line, poll, room if self.is_of_bytes or self.is_of_slots else events)
-        if offer is not None and offer.kind == disruptor.BATCH:
+        if offer is not None and offer.kind == library_calls.BATCH:
             self.taken[k] = offer.first + offer.count
 
     def complete(self, k, upto):

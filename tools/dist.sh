@@ -18,6 +18,7 @@ cp -P "$out"/libdisruptor.* "$to/lib"
 sed 's|^prefix=.*|prefix=${pcfiledir}/../..|' "$out/disruptor.pc" > "$to/lib/pkgconfig/disruptor.pc"
 cp "$top"/include/* "$to/include"
 cp "$top"/bindings/cpp/*.cmake "$to/lib/cmake/disruptor"
+"$top/tools/man_pages.py" "$to/share/man/man3"
 cp -r "$top/bindings/rust" "$to/rust"
 rm -rf "$to/rust/target" "$to/rust/Cargo.lock"
 for it in "$out"/*.whl "$out/disruptor.jar"; do
@@ -26,7 +27,7 @@ done
 cat > "$to/README" <<END
 disruptor $said
 
-C, C++   include and lib: pkg-config by lib/pkgconfig, CMake by lib/cmake
+C, C++   include and lib: pkg-config by lib/pkgconfig, CMake by lib/cmake; man -M share/man disruptor
 Rust     rust is the crate: DISRUPTOR_LIB names the folder lib
 Python   the wheel, by pip
 Java     disruptor.jar

@@ -65,13 +65,7 @@ static uint32_t feed(disruptor_sender *sender, uint64_t orders, uint64_t claim) 
     uint32_t refused;
     for (uint64_t sent = 0; sent < orders;) {
         uint64_t n = orders - sent < claim ? orders - sent : claim, lo;
-        refused = disruptor_claim(sender, n, &lo);
-        if (refused == DISRUPTOR_NO_ROOM) {
-            disruptor_wait(&waiting);
-            continue;
-        }
-        if (refused) return refused;
-        disruptor_found_room(&waiting, n);
+        if ((refused = disruptor_claim_within(sender, n, &lo, &waiting, DISRUPTOR_FOREVER))) return refused;
         for (uint64_t k = 0; k < n; k++) {
             struct order order = order_of(sent + k);
             if ((refused = disruptor_write_bytes(sender, lo + k, &order, sizeof order))) return refused;

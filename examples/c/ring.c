@@ -43,13 +43,7 @@ static uint32_t send_all(disruptor_sender *sender, uint64_t events, uint64_t cla
     uint32_t refused;
     for (uint64_t sent = 0; sent < events;) {
         uint64_t n = events - sent < claim ? events - sent : claim, lo;
-        refused = disruptor_claim(sender, n, &lo);
-        if (refused == DISRUPTOR_NO_ROOM) {
-            disruptor_wait(&waiting);
-            continue;
-        }
-        if (refused) return refused;
-        disruptor_found_room(&waiting, n);
+        if ((refused = disruptor_claim_within(sender, n, &lo, &waiting, DISRUPTOR_FOREVER))) return refused;
         for (uint64_t k = 0; k < n; k++) {
             disruptor_event event = {sent + k, 0};
             if ((refused = disruptor_write(sender, lo + k, &event))) return refused;

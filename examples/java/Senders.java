@@ -1,66 +1,47 @@
 import java.util.ArrayList;
 import java.util.List;
-import java.util.concurrent.Callable;
-import java.util.concurrent.FutureTask;
+import org.verified.disruptor.Disruptor;
+import org.verified.disruptor.Sender;
 
-/**
- * Three senders and two handlers, a thread each: the second handler follows the first. Once every sender is done the
- * ring is halted; the last line says whether each handler had all that was sent: Senders [EVENTS], of each sender.
- */
+/** Three senders, a thread each, and two handlers: the second one sees what the first one wrote into each event: Senders [EVENTS]. */
 final class Senders {
     private static final int SENDERS = 3;
-    private static final long CLAIM = 10;
+    private static final int CLAIM = 10;
+
+    private static final class Event {
+        long number;
+        long square;
+    }
 
     public static void main(String[] arguments) throws Exception {
         long events = arguments.length > 0 ? Long.parseLong(arguments[0]) : 300_000;
-        boolean right = true;
-        try (var ring = Disruptor.openSeveral(1024, Disruptor.MAX_LIMIT, SENDERS, 0, 0b1)) {
-            List<FutureTask<Long>> sums = new ArrayList<>();
-            for (var receiver : ring.receivers()) {
-                sums.add(start(() -> sumOf(receiver)));
+        long[] sum = new long[1];
+        try (Disruptor<Event> disruptor = new Disruptor<>(Event::new, 1024)) {
+            disruptor
+                    .handleEventsWith((event, sequence, endOfBatch) -> event.square = event.number * event.number)
+                    .then((event, sequence, endOfBatch) -> sum[0] += event.square);
+            List<Thread> threads = new ArrayList<>();
+            for (Sender<Event> sender : disruptor.startSeveral(SENDERS)) {
+                Thread thread = new Thread(() -> send(sender, events));
+                threads.add(thread);
+                thread.start();
             }
-            List<FutureTask<Long>> sent = new ArrayList<>();
-            for (var sender : ring.senders()) {
-                sent.add(start(() -> send(sender, events)));
-            }
-            for (var one : sent) {
-                right &= one.get() == events;
-            }
-            ring.halter().halt();
-            for (var sum : sums) {
-                right &= sum.get() == SENDERS * (events * (events - 1) / 2);
+            for (Thread thread : threads) {
+                thread.join();
             }
         }
-        System.out.println(right ? "each handler had every event" : "WRONG");
-        System.exit(right ? 0 : 1);
-    }
-
-    private static FutureTask<Long> start(Callable<Long> work) {
-        var task = new FutureTask<>(work);
-        var thread = new Thread(task);
-        thread.setDaemon(true);
-        thread.start();
-        return task;
-    }
-
-    private static long sumOf(Disruptor.WordReceiver receiver) {
-        var sum = new long[1];
-        receiver.run((first, second, sequence, isLast) -> sum[0] += first);
-        return sum[0];
-    }
-
-    /** Sends the numbers from 0 on, and says how many. */
-    private static long send(Disruptor.WordSender sender, long events) {
-        long sent = 0;
-        while (sent < events) {
-            long n = Math.min(CLAIM, events - sent);
-            long lo = sender.claim(n);
-            for (long k = 0; k < n; k++) {
-                sender.write(lo + k, sent + k, 0);
-            }
-            sender.publish(lo, lo + n - 1);
-            sent += n;
+        long ofOne = 0;
+        for (long number = 0; number < events; number++) {
+            ofOne += number * number;
         }
-        return sent;
+        System.out.println(sum[0] == SENDERS * ofOne ? "each handler had every event" : "WRONG");
+        System.exit(sum[0] == SENDERS * ofOne ? 0 : 1);
+    }
+
+    private static void send(Sender<Event> sender, long events) {
+        long[] next = new long[1];
+        while (next[0] < events) {
+            sender.publishEvents(CLAIM, (event, sequence) -> event.number = next[0]++);
+        }
     }
 }

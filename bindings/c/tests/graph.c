@@ -75,6 +75,7 @@ static void each_follows_its_own(void) {
     }
     EXPECT(disruptor_finish(&graph) == 0 && !graph.failed);
     EXPECT(sum == 999 * 1000);
+    EXPECT(disruptor_completed(&graph, "adds") == 1000 && disruptor_completed(&graph, "none") == 0);
 }
 
 static void a_handler_that_fails_halts_the_ring(void) {
@@ -95,7 +96,33 @@ static void a_handler_that_fails_halts_the_ring(void) {
     EXPECT(most < 10);
 }
 
+static void a_deadline_ends_a_wait(void) {
+    const uint64_t upstreams[1] = {0}, short_time = 20000000;
+    uint64_t lo;
+    disruptor_sender sender = DISRUPTOR_NEW;
+    disruptor_receiver receiver = DISRUPTOR_NEW;
+    disruptor_halter halter = DISRUPTOR_NEW;
+    disruptor_offer offer;
+    disruptor_waiting sends = disruptor_waits(4), receives = disruptor_waits(4);
+    EXPECT(disruptor_open_slots(4, DISRUPTOR_MAX_LIMIT, upstreams, 1, &sender, &receiver, 1, &halter) == DISRUPTOR_OK);
+    const uint64_t begun = disruptor_now();
+    EXPECT(disruptor_poll_slots_within(&receiver, 4, &offer, &receives, short_time) == DISRUPTOR_OK);
+    EXPECT(offer.kind == DISRUPTOR_IDLE && disruptor_now() - begun >= short_time);
+    EXPECT(disruptor_claim_within(&sender, 4, &lo, &sends, short_time) == DISRUPTOR_OK);
+    EXPECT(disruptor_claim_within(&sender, 1, &lo, &sends, short_time) == DISRUPTOR_NO_ROOM);
+    EXPECT(disruptor_claim_within(&sender, 5, &lo, &sends, DISRUPTOR_FOREVER) == DISRUPTOR_BAD_COUNT);
+    EXPECT(disruptor_publish_slots(&sender, 0, 3) == DISRUPTOR_OK);
+    EXPECT(disruptor_poll_slots_within(&receiver, 4, &offer, &receives, 0) == DISRUPTOR_OK && offer.count == 4);
+    EXPECT(disruptor_close(&sender) == DISRUPTOR_OK);
+    EXPECT(disruptor_poll_slots_within(&receiver, 4, &offer, &receives, DISRUPTOR_FOREVER) == DISRUPTOR_OK);
+    EXPECT(offer.kind == DISRUPTOR_DRAINED);
+    disruptor_free(&sender);
+    disruptor_free(&receiver);
+    disruptor_free(&halter);
+}
+
 int main(void) {
+    a_deadline_ends_a_wait();
     graphs_are_refused();
     each_follows_its_own();
     a_handler_that_fails_halts_the_ring();

@@ -8,6 +8,7 @@ import sys
 import threading
 import time
 import unittest
+import unittest.mock
 
 from verified_disruptor import Broken, Disruptor, Ends, Events, HandlerFailed, Reason, Records, Refusal
 
@@ -38,7 +39,7 @@ class Ring(unittest.TestCase):
         ends, seen = ends_of(4, [0]), []
         sender, receiver = ends.senders[0], ends.receivers[0]
         send(sender, [0, 1, 2])
-        self.refused(Reason.BAD_COUNT, sender.events, 5)
+        self.refused(Reason.BAD_COUNT, sender.events(5).__enter__)
         sender_thread = threading.Thread(target=send, args=(sender, [3, 4, 5]))
         sender_thread.start()  # (it waits for room)
 
@@ -52,7 +53,7 @@ class Ring(unittest.TestCase):
         sender_thread.join()
         self.assertEqual(seen, [0, 1, 2, 3, 4, 5])
         self.assertEqual((sender.progress(), receiver.progress()), ((6, 6), (6, 6)))
-        self.refused(Reason.HALTED, sender.event)
+        self.refused(Reason.HALTED, sender.event().__enter__)
 
     def test_a_batch_goes_on_after_the_event_at_which_a_handler_raised(self):
         ends, seen = ends_of(16, [0, 1]), []
@@ -85,7 +86,7 @@ class Ring(unittest.TestCase):
         ends = ends_of(4, [0, 1])
         send(ends.senders[0], [1])
         ends.give_up()
-        self.refused(Reason.HALTED, ends.senders[0].event)
+        self.refused(Reason.HALTED, ends.senders[0].event().__enter__)
         with self.assertRaises(Broken):
             ends.receivers[1].run(print)
 
@@ -123,6 +124,45 @@ class Ring(unittest.TestCase):
         self.assertEqual(raised.exception.name, "first")
         self.assertEqual(str(raised.exception.__cause__), "too large")
         self.assertTrue(all(number < 10 for number in seen))
+
+    def test_an_event_outside_a_with_is_not_claimed(self):
+        seen = []
+        disruptor = Disruptor(4, Event).handle("sees", lambda event, sequence, is_last: seen.append(sequence))
+        with disruptor.senders(1) as senders:
+            senders[0].event()
+        self.assertEqual(seen, [])
+
+    def test_a_thread_that_does_not_start_ends_the_others(self):
+        started, start = [], threading.Thread.start
+
+        def start_one(thread):
+            if started:
+                raise RuntimeError("can't start new thread")
+            started.append(thread)
+            start(thread)
+
+        disruptor = Disruptor(4, Event).handle("one", print).handle("two", print)
+        with unittest.mock.patch.object(threading.Thread, "start", start_one), self.assertRaises(RuntimeError):
+            disruptor.sender().__enter__()
+        self.assertFalse(started[0].is_alive())
+
+    def test_a_deadline_ends_a_wait(self):
+        ends, seen = ends_of(4, [0]), []
+        sender, receiver = ends.senders[0], ends.receivers[0]
+
+        def see(event, sequence, is_last):
+            seen.append(event.number)
+
+        self.assertEqual(receiver.receive(see, 0.02), 0)
+        send(sender, [1, 2, 3])
+        with sender.event(timeout=0.02) as event:
+            event.number = 4
+        self.refused(Reason.NO_ROOM, sender.events(1, timeout=0.02).__enter__)
+        self.assertEqual(receiver.receive(see, 0.02), 4)
+        self.assertFalse(receiver.is_drained)
+        sender.close()
+        self.assertEqual((receiver.receive(see, 0.02), receiver.is_drained), (0, True))
+        self.assertEqual((seen, sender.published, receiver.completed), ([1, 2, 3, 4], 4, 4))
 
     def test_several_senders_share_a_ring(self):
         total = []

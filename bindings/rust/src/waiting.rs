@@ -120,6 +120,7 @@ impl Waiting {
     #[inline]
     pub(crate) fn found_room(&mut self, count: u64) {
         self.found += count;
+        self.stop_listening();
     }
 
     fn stop_listening(&mut self) {

@@ -3,6 +3,7 @@
 from __future__ import annotations
 
 import ctypes
+import time
 from collections.abc import Callable, Sequence
 from typing import Any
 
@@ -73,13 +74,15 @@ class _End:
 
 
 class _Claim:
-    """The events of a claim, which are published at the end of its `with`, filled or not."""
+    """Events that its `with` claims, once there is room, and publishes at its end, filled or not: the next one, or a batch."""
 
-    def __init__(self, sender: Sender, lo: int, n: int, events: Any):
-        self._sender, self._lo, self._n, self._events = sender, lo, n, events
+    def __init__(self, sender: Sender, n: int, is_batch: bool, timeout: float | None):
+        self._sender, self._n, self._is_batch, self._timeout, self._lo = sender, n, is_batch, timeout, 0
 
     def __enter__(self) -> Any:
-        return self._events
+        self._lo = self._sender._claim(self._n, self._timeout)
+        slots = self._sender._ends.slots
+        return slots.stretch(self._lo, self._n) if self._is_batch else slots.items[self._lo & (slots.size - 1)]
 
     def __exit__(self, *raised: object) -> None:
         self._sender._publish(self._lo, self._n)
@@ -92,30 +95,35 @@ class Sender(_End):
         super().__init__(ends, handle)
         self._lo, self._waiting = ctypes.c_uint64(), Waiting(ends.bell)
         self._lo_at = ctypes.addressof(self._lo)
+        # (how many events it published, which any thread may read)
+        self.published = 0
 
-    def _claim(self, n: int) -> int:
+    def _claim(self, n: int, timeout: float | None) -> int:
+        deadline = None if timeout is None else time.monotonic() + timeout
         while True:
             number = LIBRARY.disruptor_claim_at(self._handle, 1, n, self._lo_at, 1)
             if not number:
                 self._waiting.found()
                 return self._lo.value
-            if number not in _WAITED_OUT:
+            if number not in _WAITED_OUT or (deadline is not None and time.monotonic() >= deadline):
+                self._waiting.found()
                 raise Refusal(number)
             self._waiting.wait()
 
     def _publish(self, lo: int, n: int) -> None:
         check(LIBRARY.disruptor_publish_slots_at(self._handle, 1, lo, lo + n - 1))
+        self.published += n
         self._ends.bell.ring()
 
-    def event(self) -> _Claim:
-        """The next event, once there is room, for a `with` that fills it: `with sender.event() as order: order.price = 3`."""
-        lo = self._claim(1)
-        return _Claim(self, lo, 1, self._ends.slots.items[lo & (self._ends.slots.size - 1)])
+    def event(self, timeout: float | None = None) -> _Claim:
+        """The next event, once there is room, for a `with` that fills it: `with sender.event() as order: order.price = 3`.
 
-    def events(self, n: int) -> _Claim:
+        Where there is none after `timeout` seconds, that raises a Refusal, NO_ROOM or CONTENDED; it may take ten milliseconds more."""
+        return _Claim(self, 1, False, timeout)
+
+    def events(self, n: int, timeout: float | None = None) -> _Claim:
         """The next `n` events, once there is room for all, for a `with` that fills each: a list, or views of records."""
-        lo = self._claim(n)
-        return _Claim(self, lo, n, self._ends.slots.stretch(lo, n))
+        return _Claim(self, n, True, timeout)
 
     def send(self, records: Any) -> None:
         """Copies records into their slots and publishes them, once there is room: what has a buffer, as an array of numpy."""
@@ -147,50 +155,63 @@ class Receiver(_End):
         super().__init__(ends, handle)
         self._offer, self._waiting = Offer(), Waiting(ends.bell)
         self._offer_at = ctypes.addressof(self._offer)
-        self._completed = self._shown = self._taken = 0
+        # (how many events it completed, which any thread may read)
+        self.completed = self._shown = self._taken = 0
+        self.is_drained = False
 
     def _complete(self, upto: int) -> None:
-        if upto != self._completed:
+        if upto != self.completed:
             check(LIBRARY.disruptor_complete_at(self._handle, 1, upto))
-            self._completed = upto
+            self.completed = upto
             self._ends.bell.ring()
 
-    def _take(self, room: int) -> bool:
-        """Has the next events in hand, once there are any, or answers False where none come any more."""
+    def _take(self, room: int | None, deadline: float | None = None) -> bool:
+        """Has the next events in hand, once there are any, or answers False where none come any more, or none came in time."""
         self._complete(self._shown)
         if self._shown < self._taken:
             return True
         while True:
-            check(LIBRARY.disruptor_poll_slots_at(self._handle, 1, room, self._offer_at, 1))
+            check(LIBRARY.disruptor_poll_slots_at(self._handle, 1, room or self._ends.slots.size, self._offer_at, 1))
             if self._offer.kind == BATCH:
                 self._waiting.found()
                 self._taken = self._offer.first + self._offer.count
                 return True
-            if self._offer.kind == DRAINED:
+            self.is_drained = self._offer.kind == DRAINED
+            if self.is_drained or (deadline is not None and time.monotonic() >= deadline):
+                self._waiting.found()
                 return False
             if self._ends.is_broken:
                 raise Broken
             self._waiting.wait()
 
+    def _show(self, handle: Callable[[Any, int, bool], object]) -> int:
+        first, last = self._shown, self._taken - 1
+        try:
+            for event in self._ends.slots.stretch(first, self._taken - first):
+                handle(event, self._shown, self._shown == last)
+                self._shown += 1
+        except BaseException:
+            self._complete(self._shown)
+            self._shown += 1
+            raise
+        self._complete(self._shown)
+        return self._shown - first
+
     def run(self, handle: Callable[[Any, int, bool], object], room: int | None = None) -> None:
         """Shows `handle(event, sequence, is_last_of_batch)` every event until the ring is drained."""
-        while self._take(room or self._ends.slots.size):
-            first, last = self._shown, self._taken - 1
-            try:
-                for event in self._ends.slots.stretch(first, self._taken - first):
-                    handle(event, self._shown, self._shown == last)
-                    self._shown += 1
-            except BaseException:
-                self._complete(self._shown)
-                self._shown += 1
-                raise
-            self._complete(self._shown)
+        while self._take(room):
+            self._show(handle)
+
+    def receive(self, handle: Callable[[Any, int, bool], object], timeout: float, room: int | None = None) -> int:
+        """Shows the next events, once there are any, and completes them. It answers how many: none where none came within `timeout`
+        seconds, and ten milliseconds more at most, or where the ring is drained (`is_drained`)."""
+        return self._show(handle) if self._take(room, time.monotonic() + timeout) else 0
 
     def run_batches(self, handle: Callable[[Any, int], object], room: int | None = None) -> None:
         """Shows `handle(events, first_sequence)` every batch until the ring is drained: a list, or views of records.
 
         Where it raises, nothing of the batch is completed; it counts as handled if it is run again."""
-        while self._take(room or self._ends.slots.size):
+        while self._take(room):
             first, self._shown = self._shown, self._taken
             handle(self._ends.slots.stretch(first, self._taken - first), first)
             self._complete(self._shown)

@@ -78,6 +78,19 @@ class Disruptor:
             if self._changes[k] and any(k != it and it not in before[k] and k not in before[it] for it in range(len(before))):
                 raise ValueError(f"{name} would change events that another handler reads at the same time")
 
+    @staticmethod
+    def _end(ends: Ends, senders: int | None, threads: list[threading.Thread]) -> None:
+        """Closes or halts the ring, and waits for the threads. Where one could not be started, nobody waits for its handler."""
+        started = [thread for thread in threads if thread.ident is not None]
+        if len(started) < len(threads):
+            ends.give_up()
+        elif senders is None:
+            ends.senders[0].close()
+        else:
+            ends.halt()
+        for thread in started:
+            thread.join()
+
     @contextmanager
     def _running(self, senders: int | None) -> Iterator[Ends]:
         self._check_changes()
@@ -97,20 +110,15 @@ class Disruptor:
         threads = [
             threading.Thread(target=work, args=each, name=each[0]) for each in zip(self._names, self._runs, ends.receivers)
         ]
-        for thread in threads:
-            thread.start()
         try:
+            for thread in threads:
+                thread.start()
             yield ends
         except Refusal as refusal:
             if not failed or refusal.reason != Reason.HALTED:
                 raise
         finally:
-            if senders is None:
-                ends.senders[0].close()
-            else:
-                ends.halt()
-            for thread in threads:
-                thread.join()
+            self._end(ends, senders, threads)
         if failed:
             raise HandlerFailed(failed[0][0]) from failed[0][1]
 

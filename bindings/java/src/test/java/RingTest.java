@@ -1,6 +1,7 @@
 import java.util.ArrayList;
 import java.util.List;
 import java.util.concurrent.Callable;
+import java.util.concurrent.TimeUnit;
 import java.util.concurrent.atomic.AtomicLong;
 import org.verified.disruptor.Broken;
 import org.verified.disruptor.Disruptor;
@@ -210,6 +211,25 @@ public final class RingTest {
         }
         disruptor.close();
         expect(seen[2], 20L);
+        expect(disruptor.completed("handler-2"), 20L);
+    }
+
+    private static void aDeadlineEndsAWait() throws Exception {
+        Ring<Event> ring = ring(4, 0);
+        Sender<Event> sender = ring.senders().get(0);
+        Receiver<Event> receiver = ring.receivers().get(0);
+        EventHandler<Event> right = (event, sequence, endOfBatch) -> expect(event.number, sequence);
+        expect(receiver.receive(20, TimeUnit.MILLISECONDS, right), 0);
+        expect(sender.tryPublishEvents(4, 20, TimeUnit.MILLISECONDS, RingTest::fill), true);
+        expect(sender.tryPublishEvents(1, 20, TimeUnit.MILLISECONDS, RingTest::fill), false);
+        expect(receiver.receive(20, TimeUnit.MILLISECONDS, right), 4);
+        expect(sender.tryPublishEvents(1, RingTest::fill), true);
+        sender.close();
+        expect(receiver.receive(20, TimeUnit.MILLISECONDS, right), 1);
+        expect(receiver.isDrained(), false);
+        expect(receiver.receive(20, TimeUnit.MILLISECONDS, right), 0);
+        expect(receiver.isDrained(), true);
+        expect(receiver.completed(), 5L);
     }
 
     public static void main(String[] arguments) throws Exception {
@@ -221,6 +241,7 @@ public final class RingTest {
         aHandlerThatThrowsHaltsTheRingAndIsNamed();
         severalSendersShareARing();
         handlersFollowOneAnotherAsInLmaxsDsl();
+        aDeadlineEndsAWait();
         System.out.println("each test passed");
     }
 }

@@ -161,8 +161,21 @@ public final class Disruptor<T> implements AutoCloseable {
             Receiver<T> receiver = ring.receivers().get(k);
             threads.add(new Thread(() -> work(handler, receiver, ring), handler.name));
         }
-        threads.forEach(Thread::start);
+        startAll();
         return ring;
+    }
+
+    /** Where one cannot be started, nobody waits for its handler. */
+    private void startAll() {
+        boolean allStarted = false;
+        try {
+            threads.forEach(Thread::start);
+            allStarted = true;
+        } finally {
+            if (!allStarted) {
+                ring.giveUp();
+            }
+        }
     }
 
     /** Opens the ring, and starts a thread for each handler. */
@@ -187,6 +200,11 @@ public final class Disruptor<T> implements AutoCloseable {
     /** Publishes n events together. */
     public void publishEvents(int n, EventTranslator<? super T> translator) {
         sender.publishEvents(n, translator);
+    }
+
+    /** How many events the handler with this name completed. Any thread may ask that once it has started. */
+    public long completed(String name) {
+        return ring.receivers().get(place(name)).completed();
     }
 
     /** Halts the ring: from now on a publication is refused. */

@@ -1,6 +1,8 @@
 package org.verified.disruptor;
 
 import java.lang.invoke.VarHandle;
+import java.util.concurrent.TimeUnit;
+import java.util.concurrent.atomic.AtomicLong;
 
 /**
  * The end of one handler, for one thread, which is shown every event after those that it follows had it.
@@ -15,9 +17,10 @@ public final class Receiver<T> {
     private final long handle;
     private final long answer;
     private final Waiting waiting;
-    private long completed;
+    private final AtomicLong completed = new AtomicLong();
     private long shown;
     private long taken;
+    private boolean isDrained;
 
     Receiver(Ring<T> ring, long handle, long answer) {
         this.ring = ring;
@@ -27,54 +30,89 @@ public final class Receiver<T> {
     }
 
     private void complete(long upto) {
-        if (completed < upto) {
+        if (completed.getPlain() < upto) {
             VarHandle.releaseFence();
             Answers.check(Native.complete(handle, upto));
-            completed = upto;
+            completed.setRelease(upto);
             ring.bell.ring();
         }
     }
 
-    /** Has the next events in hand, once there are any, or answers false where none come any more. */
-    private boolean take() throws Broken {
+    /** Looks for events where none are in hand, and answers whether it still has none and more may come. */
+    private boolean lacks() throws Broken {
         complete(shown);
-        while (shown == taken) {
-            long count = Answers.checkedPoll(Native.poll(handle, answer, ring.size()));
-            if (count > 0) {
-                VarHandle.acquireFence();
-                waiting.found(count);
-                taken += count;
-            } else if (count == Answers.DRAINED) {
-                return false;
-            } else if (ring.isBroken()) {
-                throw new Broken();
-            } else {
-                waiting.await();
-            }
+        if (shown < taken || isDrained) {
+            return false;
         }
-        return true;
+        long count = Answers.checkedPoll(Native.poll(handle, answer, ring.size()));
+        if (count > 0) {
+            VarHandle.acquireFence();
+            waiting.found(count);
+            taken += count;
+            return false;
+        }
+        isDrained = count == Answers.DRAINED;
+        if (!isDrained && ring.isBroken()) {
+            throw new Broken();
+        }
+        return !isDrained;
+    }
+
+    /** Shows the events that are in hand, and answers how many. */
+    private int show(EventHandler<? super T> handler) throws Exception {
+        long first = shown;
+        long sequence = shown;
+        long end = taken;
+        try {
+            for (; sequence < end; sequence++) {
+                handler.onEvent(ring.get(sequence), sequence, sequence + 1 == end);
+            }
+        } catch (Throwable thrown) {
+            complete(sequence);
+            shown = sequence + 1;
+            throw thrown;
+        }
+        shown = end;
+        return (int) (end - first);
     }
 
     /** Shows the handler every event until the ring is drained. What it throws passes. */
     public void run(EventHandler<? super T> handler) throws Exception {
-        while (take()) {
-            long sequence = shown;
-            long end = taken;
-            try {
-                for (; sequence < end; sequence++) {
-                    handler.onEvent(ring.get(sequence), sequence, sequence + 1 == end);
-                }
-            } catch (Throwable thrown) {
-                complete(sequence);
-                shown = sequence + 1;
-                throw thrown;
+        while (!isDrained) {
+            while (lacks()) {
+                waiting.await();
             }
-            shown = end;
+            show(handler);
         }
     }
 
-    /** How many events it completed. */
+    /**
+     * Shows the handler the next events, once there are any, and completes them. It answers how many: none where the time is up, or
+     * where the ring is drained ({@link #isDrained}). It may take ten milliseconds more, where it sleeps.
+     *
+     * @param timeout how long it waits at most
+     */
+    public int receive(long timeout, TimeUnit unit, EventHandler<? super T> handler) throws Exception {
+        long begun = System.nanoTime();
+        while (lacks()) {
+            if (System.nanoTime() - begun >= unit.toNanos(timeout)) {
+                waiting.found(0);
+                return 0;
+            }
+            waiting.await();
+        }
+        int count = show(handler);
+        complete(shown);
+        return count;
+    }
+
+    /** Whether it had every event, and none comes any more. */
+    public boolean isDrained() {
+        return isDrained;
+    }
+
+    /** How many events it completed. Any thread may ask that at any time; it is never ahead of the end. */
     public long completed() {
-        return completed;
+        return completed.get();
     }
 }

@@ -1,7 +1,8 @@
 package org.verified.disruptor;
 
 import java.lang.invoke.VarHandle;
-import java.lang.ref.Reference;
+import java.util.concurrent.TimeUnit;
+import java.util.concurrent.atomic.AtomicLong;
 
 /**
  * An end that fills events where they lie and publishes them, for one thread.
@@ -13,6 +14,7 @@ public final class Sender<T> {
     private final long handle;
     private final long answer;
     private final Waiting waiting;
+    private final AtomicLong published = new AtomicLong();
 
     Sender(Ring<T> ring, long handle, long answer) {
         this.ring = ring;
@@ -54,6 +56,7 @@ public final class Sender<T> {
         } finally {
             VarHandle.releaseFence();
             Answers.check(Native.publish(handle, first, first + n - 1));
+            published.setRelease(published.getPlain() + n);
             ring.bell.ring();
         }
     }
@@ -78,13 +81,25 @@ public final class Sender<T> {
         return true;
     }
 
-    /** How many events it published. One of several senders does not count them, and refuses this. */
-    public long published() {
-        try {
-            return Answers.checked(Native.progress(handle, answer, false));
-        } finally {
-            Reference.reachabilityFence(ring);
+    /**
+     * The same, or answers false where that is so when the time is up. It may take ten milliseconds more, where it sleeps.
+     *
+     * @param timeout how long it waits at most
+     */
+    public boolean tryPublishEvents(int n, long timeout, TimeUnit unit, EventTranslator<? super T> translator) {
+        long begun = System.nanoTime();
+        while (!tryPublishEvents(n, translator)) {
+            if (System.nanoTime() - begun >= unit.toNanos(timeout)) {
+                return false;
+            }
+            waiting.await();
         }
+        return true;
+    }
+
+    /** How many events it published. Any thread may ask that at any time; it is never ahead of the end. */
+    public long published() {
+        return published.get();
     }
 
     /** Closes the ring of one sender: no event comes any more. */

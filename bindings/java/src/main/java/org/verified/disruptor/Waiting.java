@@ -61,6 +61,7 @@ final class Waiting {
     /** The same after a claim: a sender claims again at once, so what counts is how many found room until it waits again. */
     void foundRoom(long count) {
         found += count;
+        stopListening();
     }
 
     private void stopListening() {

@@ -1,14 +1,8 @@
-"""The proved ring for Python, by ctypes over libdisruptor.so.
-
-    sender, receivers, halter = disruptor.open("libdisruptor.so", size=1024, upstreams=[0, 0b1, 0b1])
-    sender, receivers, halter = disruptor.open_bytes("libdisruptor.so", size=1024, length=32, upstreams=[0, 0b1])
-"""
+"""The calls of libdisruptor.so by ctypes, for `over_c.py`: each kind of ring, one call of the library for one call here."""
 
 import ctypes
-import time
+import functools
 
-NO_ROOM = 1
-CONTENDED = 16
 BATCH, GATING, IDLE, DRAINED = range(4)
 MAX_LIMIT = 1 << 62
 
@@ -39,6 +33,7 @@ class Refusal(Exception):
         self.number = number
 
 
+@functools.lru_cache(None)
 def load(path):
     """Returns the library, with the types of its calls."""
     library = ctypes.CDLL(path)
@@ -107,22 +102,11 @@ class Sender(End):
     def publish(self, lo, hi):
         self.call("publish", lo, hi)
 
+    def publish_slots(self, lo, hi):
+        self.call("publish_slots", lo, hi)
+
     def close(self):
         self.call("close")
-
-    def send(self, events):
-        """Sends pairs of words, a claim for all of them, as soon as there is room."""
-        while True:
-            try:
-                lo = self.claim(len(events))
-                break
-            except Refusal as refusal:
-                if refusal.number not in (NO_ROOM, CONTENDED):
-                    raise
-                time.sleep(0)
-        for k, event in enumerate(events):
-            self.write(lo + k, *event)
-        self.publish(lo, lo + len(events) - 1)
 
 
 class SenderOfBytes(Sender):
@@ -130,9 +114,6 @@ class SenderOfBytes(Sender):
 
     def write(self, sequence, event):
         self.call("write_bytes", sequence, event, len(event), len(event))
-
-    def send(self, events):
-        super().send([(event,) for event in events])
 
 
 class Receiver(End):
@@ -142,24 +123,17 @@ class Receiver(End):
         self.call("poll", events, len(events), len(events), ctypes.byref(offer), 1)
         return offer
 
+    def poll_slots(self, room):
+        """Takes the next events of a ring of slots, and returns the offer."""
+        offer = Offer()
+        self.call("poll_slots", room, ctypes.byref(offer), 1)
+        return offer
+
     def complete(self, upto):
         self.call("complete", upto)
 
-    def batches(self, room):
-        """Yields lists of pairs of words until the ring is drained; each is completed when the next is asked for."""
-        events = (Event * room)()
-        while True:
-            offer = self.poll(events)
-            if offer.kind == DRAINED:
-                return
-            if offer.kind != BATCH:
-                time.sleep(0)
-                continue
-            yield [(event.first, event.second) for event in events[: offer.count]]
-            self.complete(offer.first + offer.count)
 
-
-class ReceiverOfBytes(End):
+class ReceiverOfBytes(Receiver):
     """The events that it took and did not complete can be read."""
 
     def __init__(self, library, handle, owner, length):
@@ -176,21 +150,6 @@ class ReceiverOfBytes(End):
         event = ctypes.create_string_buffer(self.length)
         self.call("read_bytes", sequence, event, self.length, self.length)
         return event.raw
-
-    def complete(self, upto):
-        self.call("complete", upto)
-
-    def batches(self, room):
-        """Yields lists of `bytes` until the ring is drained; each is completed when the next is asked for."""
-        while True:
-            offer = self.poll(room)
-            if offer.kind == DRAINED:
-                return
-            if offer.kind != BATCH:
-                time.sleep(0)
-                continue
-            yield [self.read(offer.first + k) for k in range(offer.count)]
-            self.complete(offer.first + offer.count)
 
 
 class Halter(End):
