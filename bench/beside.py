@@ -15,10 +15,10 @@
 The others are the rings of bench/plain/exchanges, which `rustc` builds, and LMAX's own, where `javac` and
 the library are there (Debian's package libdisruptor-java; `--lmax JAR` names another place): `lmax` claims
 by `next`, which parks where there is no room, and `lmax-try` by `tryNext`, again and again. On threads
-`ours` is the ring over words, which has one sender, `memory` those over plain memory, and `c` the rings of
-words and of several senders from C, where `--library FOLDER` names what `make lib` left. All run in turns,
-`--turns N` times (three without it), each for `--rounds N` rounds of `--seconds S`, of which the one in the
-middle counts; the best of a program's turns is taken. `--under WORDS` starts each run by these words, as
+`ours` is the ring over words, which has one sender, `memory` those over plain memory, `c` the rings of words
+and of several senders from C, and `c-slots` those of slots, where `--library FOLDER` names what `make lib`
+left. All run in turns, `--turns N` times (three without it), each for `--rounds N` rounds of `--seconds S`,
+of which the one in the middle counts; the best of a program's turns is taken. `--under WORDS` starts each run by these words, as
 'chrt -r 10' (other work on the machine then counts for less) or 'taskset -c 0,1'. `--record FILE` also
 writes the rates to a file, as those of bench/measured, which bench/plots.py draws.
 """
@@ -39,7 +39,7 @@ RATES_OF_C = os.path.join(TOP, "bench", "c", "rates.c")
 SHAPES = ("unicast", "pipeline", "multicast", "diamond")
 SIZES = (64, 1024, 65536)
 ONE_THREAD = ("ours", "ring", "deque", "lmax")
-THREADS = ("ours", "memory", "c", "words", "slots", "channel", "mutex", "lmax", "lmax-try")
+THREADS = ("ours", "memory", "c", "c-slots", "words", "slots", "channel", "mutex", "lmax", "lmax-try")
 
 
 class Programs:
@@ -60,7 +60,7 @@ class Programs:
             library = os.path.join(given.library, "libdisruptor.a")
             flags = ["-std=c11", "-O2", "-I", os.path.join(TOP, "include")]
             subprocess.run(["cc", *flags, "-o", over_c, RATES_OF_C, library, "-lpthread"], check=True)
-            self.words["c"] = [over_c]
+            self.words |= {"c": [over_c], "c-slots": [over_c, "slots"]}
         if shutil.which("javac") and os.path.exists(given.lmax):
             subprocess.run(["javac", "-cp", given.lmax, "-d", folder, LMAX], check=True)
             java = ["java", "-cp", f"{given.lmax}{os.pathsep}{folder}", "Lmax"]
@@ -129,7 +129,7 @@ def memory(programs):
 def grow(programs, word, steps):
     """A row a step, which is what it is called, a topology and a size."""
     for prefix, kinds in (("core-", ONE_THREAD), ("", THREADS)):
-        kinds = [kind for kind in programs.of(kinds) if kind != "c" and not kind.startswith("lmax")]
+        kinds = [kind for kind in programs.of(kinds) if kind not in ("c", "c-slots") and not kind.startswith("lmax")]
         print_head([word] + kinds)
         for name, topology, size in steps:
             print_row(name, programs, kinds, prefix + topology, size)
@@ -155,7 +155,7 @@ def producers(programs):
 
 def senders(programs):
     """The ring with several senders beside plain words, and LMAX's with several producers."""
-    kinds = programs.of(("memory", "c", "words", "channel", "lmax", "lmax-try"))
+    kinds = programs.of(("memory", "c", "c-slots", "words", "channel", "lmax", "lmax-try"))
     print_head(["senders", "events a claim"] + kinds)
     for count in (1, 2, 3, 4, 8, 16):
         for claim in (1, 10, 100):
@@ -164,7 +164,7 @@ def senders(programs):
 
 def languages(programs):
     """What a call from C costs, beside what other programs have."""
-    kinds = ("memory", "c", "channel", "lmax", "lmax-try")
+    kinds = ("memory", "c", "c-slots", "channel", "lmax", "lmax-try")
     of_one = ("unicast", "unicast-b10", "diamond", "diamond-b10")
     for kinds, topologies in ((("ours", *kinds), of_one), (kinds, ("senders3-unicast", "senders3-unicast-b10"))):
         kinds = programs.of(kinds)

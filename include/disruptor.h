@@ -200,8 +200,9 @@ static inline uint32_t disruptor_open_bytes(uint64_t size, uint64_t limit, size_
  * as many things as there are slots, of any type, that of a sequence at slots[DISRUPTOR_SLOT(sequence, size)]. Nothing is copied,
  * and a batch takes two calls on each side, however long it is. Who may touch a slot:
  *   - the sender that claimed its sequence, until it publishes it by disruptor_publish_slots;
- *   - each handler whose batch has it, from the poll by disruptor_poll_slots until it completes it. All may read it. One may also
- *     change it, if each other handler comes before it or after it in the graph: those after it see all that it wrote.
+ *   - each handler whose batch has it, from the poll by disruptor_poll_slots until it completes it. All may read it. A handler may
+ *     also change it, if each other one comes before it or after it in the graph: those after it see all that it wrote;
+ *   - before its first claim, and once all ends are freed, who opened the ring.
  * Nobody else touches it meanwhile: that is proved of cell k of the ring, for each k. That cell k is element k of your array is an
  * argument, since no contract speaks of memory that the library never sees; that you keep to this is up to you. In memory each
  * hand-over is ordered by sequentially consistent words of the library.

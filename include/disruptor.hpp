@@ -97,6 +97,20 @@ private:
 };
 using shared = std::shared_ptr<common>;
 
+// How many events an end published or completed, which any thread may ask at any time. It is never ahead of the end.
+class watch {
+public:
+    std::uint64_t count() const noexcept { return line_->count.load(std::memory_order_acquire); }
+    // Only its end calls this.
+    void set(std::uint64_t count) const noexcept { line_->count.store(count, std::memory_order_release); }
+
+private:
+    struct line {
+        alignas(128) std::atomic<std::uint64_t> count{0};
+    };
+    std::shared_ptr<line> line_ = std::make_shared<line>();
+};
+
 // A handle that frees what it has, and rings the bell of its ring where it changed what others look at. It may be moved, and one
 // that was moved from answers not-open.
 template <typename Handle>
@@ -185,11 +199,18 @@ public:
     receiving &operator=(receiving &&other) noexcept {
         if (this != &other) leave();
         end::operator=(std::move(other));
+        completed_ = other.completed_;
         next_ = other.next_, taken_ = other.taken_, has_thrown_ = other.has_thrown_, is_drained_ = other.is_drained_;
         return *this;
     }
     ~receiving() { leave(); }
-    void complete(std::uint64_t upto) { check_and_ring(disruptor_complete(get(), upto)); }
+    void complete(std::uint64_t upto) {
+        check(disruptor_complete(get(), upto));
+        completed_.set(upto);
+        if (shared_) shared_->ring();
+    }
+    // How many events it completed, for who watches it.
+    watch watched() const noexcept { return completed_; }
 
 protected:
     // Notes what a poll found.
@@ -238,6 +259,7 @@ private:
     void leave() noexcept {
         if (shared_ && !is_drained_) shared_->give_up();
     }
+    watch completed_;
     // Of the events that are taken the next one to show, and up to where they go.
     std::uint64_t next_ = 0, taken_ = 0;
     bool has_thrown_ = false, is_drained_ = false;

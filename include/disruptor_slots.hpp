@@ -59,6 +59,8 @@ public:
         if (lo) fill_and_publish(*lo, n, fill);
         return lo.has_value();
     }
+    // How many events it published, for who watches it.
+    watch watched() const noexcept { return published_; }
     void write(std::uint64_t, const event &) = delete;
     // Once the ring is open.
     void begin() { waiting_ = waits((*slots_)->size()); }
@@ -70,13 +72,19 @@ private:
         try {
             for (std::uint64_t s = lo; s < lo + n; s++) fill(events.at(s), s);
         } catch (...) {
-            check_and_ring(disruptor_publish_slots(get(), lo, lo + n - 1));
+            publish_slots(lo, n);
             throw;
         }
-        check_and_ring(disruptor_publish_slots(get(), lo, lo + n - 1));
+        publish_slots(lo, n);
+    }
+    void publish_slots(std::uint64_t lo, std::uint64_t n) {
+        check(disruptor_publish_slots(get(), lo, lo + n - 1));
+        published_.set(published_.count() + n);
+        shared_->ring();
     }
     shared_slots<T> slots_;
     waiting waiting_;
+    watch published_;
 };
 
 // The end of a handler. It may change an event where each other handler comes before it or after it.
@@ -189,6 +197,7 @@ public:
     ~handlers() { join(); }
     template <typename T, typename Work>
     void start(const std::string &name, receiver_in_place<T> receiver, Work work) {
+        watched_.emplace_back(name, receiver.watched());
         threads_.emplace_back([name, receiver = std::move(receiver), work = std::move(work), &failed = *failed_]() mutable {
             name_thread(name.c_str());
             try {
@@ -201,6 +210,12 @@ public:
                 if (!failed.what) failed.name = name, failed.what = std::current_exception();
             }
         });
+    }
+    // How many events the handler with this name completed, or nothing where none has it.
+    std::optional<std::uint64_t> completed(const std::string &name) const {
+        for (const auto &[named, completed] : watched_)
+            if (named == name) return completed.count();
+        return std::nullopt;
     }
     void join() noexcept {
         for (std::thread &thread : threads_)
@@ -227,6 +242,7 @@ private:
         std::exception_ptr what;
     };
     std::unique_ptr<failure> failed_ = std::make_unique<failure>();
+    std::vector<std::pair<std::string, watch>> watched_;
     std::vector<std::thread> threads_;
 };
 
@@ -243,6 +259,8 @@ public:
         if (this->shared_) disruptor_close(this->get()), this->shared_->ring();
     }
     void halt() { halter_.halt(); }
+    // How many events the handler with this name completed, or nothing where none has it. Any thread may ask that at any time.
+    [[nodiscard]] std::optional<std::uint64_t> completed(const std::string &name) const { return threads_.completed(name); }
     // Closes the ring and joins all threads; throws handler_failed where a handler threw.
     void finish() {
         this->close();
@@ -267,6 +285,7 @@ public:
         if (halter_) halter_->halt();
     }
     void halt() { halter_->halt(); }
+    [[nodiscard]] std::optional<std::uint64_t> completed(const std::string &name) const { return threads_.completed(name); }
     void finish() {
         halt();
         threads_.finish();

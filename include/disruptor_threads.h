@@ -36,6 +36,8 @@ typedef struct disruptor_work {
     uint64_t upstreams, before;
     struct disruptor_graph *graph;
     pthread_t thread;
+    /* How many events it completed. */
+    DISRUPTOR_ALIGNED uint64_t completed;
 } disruptor_work;
 
 typedef struct disruptor_graph {
@@ -74,7 +76,8 @@ static inline size_t disruptor_place_of(const disruptor_graph *graph, const char
 
 /* Adds a handler, which follows those that `after` names, with a space between two. The name stays where it is. Refusals: BAD_ORDER
  * (one of the names of `after` is none before, or another handler has this name) and TOO_MANY; disruptor_start answers them too. */
-static inline uint32_t disruptor_add(disruptor_graph *graph, disruptor_work work, const char *after) {
+static inline uint32_t disruptor_add(disruptor_graph *graph, const disruptor_work *added, const char *after) {
+    disruptor_work work = *added;
     uint32_t refused = DISRUPTOR_OK;
     if (graph->handlers == DISRUPTOR_MOST_HANDLERS) refused = DISRUPTOR_TOO_MANY;
     else if (disruptor_place_of(graph, work.name, strlen(work.name)) < graph->handlers) refused = DISRUPTOR_BAD_ORDER;
@@ -90,15 +93,15 @@ static inline uint32_t disruptor_add(disruptor_graph *graph, disruptor_work work
 }
 static inline uint32_t disruptor_handle(disruptor_graph *graph, const char *name, disruptor_handler *handle, void *own,
                                         const char *after) {
-    disruptor_work work = {.name = name, .handle = handle, .own = own};
-    return disruptor_add(graph, work, after);
+    const disruptor_work work = {.name = name, .handle = handle, .own = own};
+    return disruptor_add(graph, &work, after);
 }
 
 /* Adds one that changes events. Each other handler comes before it or after it, or disruptor_start is refused with BAD_ORDER. */
 static inline uint32_t disruptor_handle_changing(disruptor_graph *graph, const char *name, disruptor_handler *handle, void *own,
                                                  const char *after) {
-    disruptor_work work = {.name = name, .handle = handle, .own = own, .is_changing = true};
-    return disruptor_add(graph, work, after);
+    const disruptor_work work = {.name = name, .handle = handle, .own = own, .is_changing = true};
+    return disruptor_add(graph, &work, after);
 }
 
 /* Whether each handler that changes events has them alone. */
@@ -112,6 +115,12 @@ static inline bool disruptor_are_alone(const disruptor_graph *graph) {
 /* The event of a sequence. */
 static inline void *disruptor_slot(disruptor_graph *graph, uint64_t sequence) {
     return graph->events + DISRUPTOR_SLOT(sequence, graph->size) * graph->width;
+}
+
+/* How many events the handler with this name completed, or 0 where none has it. Any thread may ask that from the start to the end. */
+static inline uint64_t disruptor_completed(const disruptor_graph *graph, const char *name) {
+    const size_t k = disruptor_place_of(graph, name, strlen(name));
+    return k < graph->handlers ? __atomic_load_n(&graph->works[k].completed, __ATOMIC_ACQUIRE) : 0;
 }
 
 /* Halts the ring from any thread. */
@@ -141,6 +150,7 @@ static inline int disruptor_show(disruptor_work *work, disruptor_receiver *recei
         if (!failure) k++;
     }
     disruptor_complete(receiver, offer->first + k);
+    __atomic_store_n(&work->completed, offer->first + k, __ATOMIC_RELEASE);
     disruptor_ring(&graph->bell);
     return failure;
 }

@@ -1,8 +1,9 @@
 /* Events a second from C over the proved rings, a thread for each end: as the programs of bench/plain/exchanges it prints one
  * line, with the round in the middle.
  *
- *   rates TOPOLOGY SIZE SECONDS ROUNDS
+ *   rates [slots] TOPOLOGY SIZE SECONDS ROUNDS
  *
+ * With `slots` the events lie in an array of this program, and else in the ring.
  * TOPOLOGY is unicast, pipeline, multicast or diamond, after sendersP- for P senders of one ring, and before -bN for claims
  * of N events. A handler adds up what it receives; a wrong sum ends the program. */
 #define _POSIX_C_SOURCE 200809L
@@ -13,14 +14,17 @@
 #include <string.h>
 #include <time.h>
 
-enum { MOST_HANDLERS = 3, MOST_SENDERS = 16, MOST_AT_ONCE = 1024, STRETCH = 65536 };
+enum { MOST_HANDLERS = 3, MOST_SENDERS = 16, MOST_AT_ONCE = 1024, STRETCH = 65536, MOST_SLOTS = 65536 };
 
 static struct order {
     uint64_t size, claim;
     double seconds;
     size_t senders, handlers;
     uint64_t upstreams[MOST_HANDLERS];
+    bool in_slots;
 } order;
+
+static disruptor_event slots[MOST_SLOTS];
 
 static struct ring {
     disruptor_sender senders[MOST_SENDERS];
@@ -28,12 +32,11 @@ static struct ring {
     disruptor_halter halter;
 } ring;
 
+/* Those of different threads lie in cache lines of their own. */
 struct worker {
-    pthread_t thread;
+    DISRUPTOR_ALIGNED pthread_t thread;
     void *end;
     uint64_t count, sum;
-    /* How many events found room since a sender last waited. */
-    uint64_t found;
 };
 
 static void must(uint32_t refused, const char *call) {
@@ -48,26 +51,17 @@ static double now(void) {
     return (double)time.tv_sec + (double)time.tv_nsec * 1e-9;
 }
 
-/* Waits for room, or for another sender, after it told how many events found room since it last waited. */
-static void wait_for_room(struct worker *sender, disruptor_waiting *waiting) {
-    if (sender->found) disruptor_found(waiting, sender->found);
-    sender->found = 0;
-    disruptor_wait(waiting);
-}
-
 /* Claims, writes and publishes the next events of a sender. */
 static void send_next(struct worker *sender, disruptor_waiting *waiting) {
     uint64_t lo, n = order.claim;
-    uint32_t refused;
-    while ((refused = disruptor_claim(sender->end, n, &lo)) == DISRUPTOR_NO_ROOM || refused == DISRUPTOR_CONTENDED)
-        wait_for_room(sender, waiting);
-    must(refused, "claim");
-    sender->found += n;
+    must(disruptor_claim_within(sender->end, n, &lo, waiting, DISRUPTOR_FOREVER), "claim");
     for (uint64_t k = 0; k < n; k++) {
         disruptor_event event = {sender->count + k, 0};
-        must(disruptor_write(sender->end, lo + k, &event), "write");
+        if (order.in_slots) slots[DISRUPTOR_SLOT(lo + k, order.size)] = event;
+        else must(disruptor_write(sender->end, lo + k, &event), "write");
     }
-    must(disruptor_publish(sender->end, lo, lo + n - 1), "publish");
+    if (order.in_slots) must(disruptor_publish_slots(sender->end, lo, lo + n - 1), "publish");
+    else must(disruptor_publish(sender->end, lo, lo + n - 1), "publish");
     sender->count += n;
 }
 
@@ -82,6 +76,16 @@ static void *send_all(void *given) {
     return NULL;
 }
 
+/* What a handler took: in slots it lies where it was written. */
+static uint64_t sum_of(const disruptor_event *taken, const disruptor_offer *offer) {
+    uint64_t sum = 0;
+    for (uint64_t k = 0; k < offer->count; k++) {
+        const disruptor_event *event = order.in_slots ? &slots[DISRUPTOR_SLOT(offer->first + k, order.size)] : &taken[k];
+        sum += event->first + event->second;
+    }
+    return sum;
+}
+
 /* Adds up what a handler receives, until its ring drained. */
 static void *receive_all(void *given) {
     struct worker *handler = given;
@@ -89,13 +93,14 @@ static void *receive_all(void *given) {
     disruptor_waiting waiting = disruptor_waits(order.size < MOST_AT_ONCE ? order.size : MOST_AT_ONCE);
     for (;;) {
         disruptor_offer offer;
-        must(disruptor_poll(handler->end, taken, MOST_AT_ONCE, &offer), "poll");
+        if (order.in_slots) must(disruptor_poll_slots(handler->end, MOST_AT_ONCE, &offer), "poll");
+        else must(disruptor_poll(handler->end, taken, MOST_AT_ONCE, &offer), "poll");
         if (offer.kind == DISRUPTOR_DRAINED) return NULL;
         if (offer.kind != DISRUPTOR_BATCH) {
             disruptor_wait(&waiting);
             continue;
         }
-        for (uint64_t k = 0; k < offer.count; k++) handler->sum += taken[k].first + taken[k].second;
+        handler->sum += sum_of(taken, &offer);
         handler->count += offer.count;
         must(disruptor_complete(handler->end, offer.first + offer.count), "complete");
         disruptor_found(&waiting, offer.count);
@@ -107,6 +112,9 @@ static void open_ring(void) {
     if (order.senders)
         must(disruptor_open_several(order.size, DISRUPTOR_MAX_LIMIT, order.upstreams, order.handlers, ring.senders, order.senders,
                                     ring.receivers, order.handlers, &ring.halter), "open");
+    else if (order.in_slots)
+        must(disruptor_open_slots(order.size, DISRUPTOR_MAX_LIMIT, order.upstreams, order.handlers, ring.senders, ring.receivers,
+                                  order.handlers, &ring.halter), "open");
     else
         must(disruptor_open(order.size, DISRUPTOR_MAX_LIMIT, order.upstreams, order.handlers, ring.senders, ring.receivers,
                             order.handlers, &ring.halter), "open");
@@ -172,10 +180,11 @@ static int by_rate(const void *one, const void *other) {
 
 int main(int argc, char **argv) {
     char name[64] = "";
+    if (argc == 6 && strcmp(argv[1], "slots") == 0) order.in_slots = true, argc--, argv++;
     if (argc == 5) strncpy(name, argv[1], sizeof name - 1);
     int rounds = argc == 5 ? atoi(argv[4]) : 0;
     if (rounds < 1 || rounds > 1000 || !read_topology(name)) {
-        fprintf(stderr, "usage: rates TOPOLOGY SIZE SECONDS ROUNDS\n");
+        fprintf(stderr, "usage: rates [slots] TOPOLOGY SIZE SECONDS ROUNDS\n");
         return 1;
     }
     order.size = strtoull(argv[2], NULL, 10);
@@ -188,6 +197,6 @@ int main(int argc, char **argv) {
         rates[k] = (double)events / took;
     }
     qsort(rates, (size_t)rounds, sizeof *rates, by_rate);
-    printf("c %s %s %.0f\n", argv[1], argv[2], rates[rounds / 2]);
+    printf("%s %s %s %.0f\n", order.in_slots ? "c-slots" : "c", argv[1], argv[2], rates[rounds / 2]);
     return 0;
 }

@@ -75,6 +75,7 @@ static void each_follows_its_own(void) {
     }
     EXPECT(disruptor_finish(&graph) == 0 && !graph.failed);
     EXPECT(sum == 999 * 1000);
+    EXPECT(disruptor_completed(&graph, "adds") == 1000 && disruptor_completed(&graph, "none") == 0);
 }
 
 static void a_handler_that_fails_halts_the_ring(void) {

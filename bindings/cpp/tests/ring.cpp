@@ -177,6 +177,25 @@ void a_thread_that_sleeps_is_woken_and_one_that_goes_away_drains() {
         }
     }
     EXPECT(seen == 20);
+    disruptor::builder<int> graph(4);
+    graph.handle("one", [](const int &, std::uint64_t, bool) {});
+    auto ring = graph.start();
+    ring.publish([](int &event) { event = 1; });
+    ring.finish();
+    EXPECT(ring.completed("one") == std::optional<std::uint64_t>(1) && !ring.completed("two"));
+}
+
+void a_deadline_ends_a_wait() {
+    const auto time = std::chrono::milliseconds(20);
+    auto ring = disruptor::open_in_place<std::uint64_t>(4, {0});
+    const auto see = [](const std::uint64_t &event, std::uint64_t sequence, bool) { EXPECT(event == sequence); };
+    EXPECT(ring.receivers[0].receive_for(time, 4, see).kind == DISRUPTOR_IDLE);
+    EXPECT(ring.sender.try_publish_batch_for(time, 4, fill));
+    EXPECT(!ring.sender.try_publish_batch_for(time, 1, fill));
+    EXPECT(ring.receivers[0].receive_for(time, 4, see).count == 4);
+    EXPECT(ring.sender.watched().count() == 4 && ring.receivers[0].watched().count() == 4);
+    ring.sender.close();
+    EXPECT(ring.receivers[0].receive_for(time, 4, see).kind == DISRUPTOR_DRAINED);
 }
 
 void a_deadline_ends_a_wait() {

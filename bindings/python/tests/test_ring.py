@@ -162,7 +162,7 @@ class Ring(unittest.TestCase):
         self.assertFalse(receiver.is_drained)
         sender.close()
         self.assertEqual((receiver.receive(see, 0.02), receiver.is_drained), (0, True))
-        self.assertEqual(seen, [1, 2, 3, 4])
+        self.assertEqual((seen, sender.published, receiver.completed), ([1, 2, 3, 4], 4, 4))
 
     def test_several_senders_share_a_ring(self):
         total = []

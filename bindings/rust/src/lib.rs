@@ -11,6 +11,7 @@ mod running;
 mod sender;
 mod slots;
 mod waiting;
+mod watch;
 
 pub use builder::{Builder, Fault};
 pub use ffi::Counts;
@@ -20,6 +21,7 @@ pub use refusal::Refusal;
 pub use running::{Disruptor, Panicked, Senders};
 pub use sender::{Batch, Sender};
 pub use waiting::Wait;
+pub use watch::Watch;
 
 /// How many sequences there may be in a ring at most.
 pub const MAX_LIMIT: u64 = 1 << 62;

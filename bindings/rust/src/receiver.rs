@@ -4,6 +4,7 @@ use crate::ffi::{disruptor_complete_at, disruptor_poll_slots_at, disruptor_progr
 use crate::refusal::{answer, Refusal};
 use crate::ring::Ring;
 use crate::waiting::{Bell, Wait, Waiting};
+use crate::watch::Watch;
 use std::fmt;
 use std::sync::Arc;
 use std::time::{Duration, Instant};
@@ -45,7 +46,7 @@ pub struct Receiver<T> {
     is_alone: bool,
     is_drained: bool,
     // Up to where events are completed, shown, and taken.
-    completed: u64,
+    completed: Watch,
     shown: u64,
     taken: u64,
 }
@@ -54,7 +55,7 @@ pub struct Receiver<T> {
 struct Showing<'a> {
     handle: &'a mut Handle,
     bell: &'a Bell,
-    completed: &'a mut u64,
+    completed: &'a Watch,
     shown: &'a mut u64,
     at: u64,
     upto: u64,
@@ -79,12 +80,12 @@ impl Drop for Showing<'_> {
 }
 
 /// Completes up to a sequence, where that is more than is completed.
-fn complete(handle: &mut Handle, completed: &mut u64, upto: u64, bell: &Bell) {
-    if *completed < upto {
+fn complete(handle: &mut Handle, completed: &Watch, upto: u64, bell: &Bell) {
+    if completed.count() < upto {
         // SAFETY: the handle is open, and nobody else has it.
         let refused = unsafe { disruptor_complete_at(handle, 1, upto) };
         debug_assert_eq!(refused, 0, "what was taken is completed");
-        *completed = upto;
+        completed.set(upto);
         bell.ring();
     }
 }
@@ -93,12 +94,12 @@ impl<T> Receiver<T> {
     pub(crate) fn new(handle: Handle, ring: &Arc<Ring<T>>, wait: Wait, is_alone: bool) -> Receiver<T> {
         let waiting = Waiting::new(wait, ring.slots.len(), &ring.bell);
         let ring = Arc::clone(ring);
-        Receiver { handle, ring, waiting, is_alone, is_drained: false, completed: 0, shown: 0, taken: 0 }
+        Receiver { handle, ring, waiting, is_alone, is_drained: false, completed: Watch::default(), shown: 0, taken: 0 }
     }
 
     /// Takes more events, `room` at most, where a handler that panicked left none to show.
     fn take(&mut self, room: u64) -> Result<Option<Polled>, Refusal> {
-        complete(&mut self.handle, &mut self.completed, self.shown, &self.ring.bell);
+        complete(&mut self.handle, &self.completed, self.shown, &self.ring.bell);
         if self.shown < self.taken {
             return Ok(None);
         }
@@ -192,6 +193,11 @@ impl<T> Receiver<T> {
     /// Whether each other handler comes before it or after it, so that it has its events alone.
     pub fn is_alone(&self) -> bool {
         self.is_alone
+    }
+
+    /// How many events it completed, for who watches it.
+    pub fn watch(&self) -> Watch {
+        self.completed.clone()
     }
 
     /// How many slots the ring has.

@@ -4,6 +4,7 @@ use crate::builder::{Fault, Handler};
 use crate::open::Halter;
 use crate::receiver::{Broken, Receiver};
 use crate::sender::Sender;
+use crate::watch::Watch;
 use std::any::Any;
 use std::fmt;
 use std::ops::{Deref, DerefMut};
@@ -39,17 +40,27 @@ impl fmt::Debug for Panicked {
 
 impl std::error::Error for Panicked {}
 
-pub(crate) struct Threads(Vec<(String, JoinHandle<Result<(), Broken>>)>);
+struct Started {
+    name: String,
+    completed: Watch,
+    thread: JoinHandle<Result<(), Broken>>,
+}
+
+pub(crate) struct Threads(Vec<Started>);
 
 impl Threads {
     fn join(&mut self) -> Result<(), Panicked> {
-        let joined = self.0.drain(..).map(|(name, thread)| (name, thread.join()));
+        let joined = self.0.drain(..).map(|it| (it.name, it.thread.join()));
         let panicked: Vec<_> = joined.filter_map(|(name, back)| Some((name, back.err()?))).collect();
         if panicked.is_empty() {
             Ok(())
         } else {
             Err(Panicked(panicked))
         }
+    }
+
+    fn completed(&self, name: &str) -> Option<u64> {
+        self.0.iter().find(|it| it.name == name).map(|it| it.completed.count())
     }
 }
 
@@ -64,8 +75,9 @@ pub(crate) fn start<T: Send + Sync + 'static>(
     }
     let mut threads = Threads(Vec::new());
     for (Handler { name, work, .. }, mut receiver) in handlers.into_iter().zip(receivers) {
+        let completed = receiver.watch();
         match thread::Builder::new().name(name.clone()).spawn(move || work(&mut receiver)) {
-            Ok(thread) => threads.0.push((name, thread)),
+            Ok(thread) => threads.0.push(Started { name, completed, thread }),
             // (its receiver and those of the handlers after it are dropped, so those before it end too)
             Err(why) => return Err(Fault::Thread(why.to_string())),
         }
@@ -99,6 +111,11 @@ impl<T: Send + Sync> Disruptor<T> {
     /// Halts the ring: from now on a publication is refused.
     pub fn halt(&self) {
         self.halter.halt();
+    }
+
+    /// How many events the handler with this name completed.
+    pub fn completed(&self, name: &str) -> Option<u64> {
+        self.threads.completed(name)
     }
 }
 
@@ -152,6 +169,11 @@ impl<T: Send + Sync> Senders<T> {
     /// Halts the ring: from now on a publication is refused.
     pub fn halt(&self) {
         self.halter.halt();
+    }
+
+    /// How many events the handler with this name completed.
+    pub fn completed(&self, name: &str) -> Option<u64> {
+        self.threads.completed(name)
     }
 }
 

@@ -6,6 +6,7 @@ use crate::ffi::{
 use crate::refusal::{answer, Refusal};
 use crate::ring::Ring;
 use crate::waiting::{Bell, Wait, Waiting};
+use crate::watch::Watch;
 use std::iter::Chain;
 use std::slice::IterMut;
 use std::sync::Arc;
@@ -35,6 +36,7 @@ pub struct Sender<T> {
     handle: Handle,
     ring: Arc<Ring<T>>,
     waiting: Waiting,
+    published: Watch,
     is_only: bool,
 }
 
@@ -42,6 +44,7 @@ pub struct Sender<T> {
 struct Claim<'a> {
     handle: &'a mut Handle,
     bell: &'a Bell,
+    published: &'a Watch,
     lo: u64,
     n: u64,
 }
@@ -51,6 +54,7 @@ impl Drop for Claim<'_> {
         // SAFETY: the handle is open, and nobody else has it.
         let refused = unsafe { disruptor_publish_slots_at(self.handle, 1, self.lo, self.lo + self.n - 1) };
         debug_assert_eq!(refused, 0, "a claim is published");
+        self.published.set(self.published.count() + self.n);
         self.bell.ring();
     }
 }
@@ -58,7 +62,7 @@ impl Drop for Claim<'_> {
 impl<T> Sender<T> {
     pub(crate) fn new(handle: Handle, ring: &Arc<Ring<T>>, wait: Wait, is_only: bool) -> Sender<T> {
         let waiting = Waiting::new(wait, ring.slots.len(), &ring.bell);
-        Sender { handle, ring: Arc::clone(ring), waiting, is_only }
+        Sender { handle, ring: Arc::clone(ring), waiting, published: Watch::default(), is_only }
     }
 
     fn claim(&mut self, n: u64) -> Result<u64, Refusal> {
@@ -85,7 +89,7 @@ impl<T> Sender<T> {
     }
 
     fn fill<R>(&mut self, lo: u64, n: u64, fill: impl FnOnce(Batch<'_, T>) -> R) -> R {
-        let claim = Claim { handle: &mut self.handle, bell: &self.ring.bell, lo, n };
+        let claim = Claim { handle: &mut self.handle, bell: &self.ring.bell, published: &self.published, lo, n };
         // SAFETY: they are claimed, and published only after `fill`, which cannot keep them.
         let (front, back) = unsafe { self.ring.slots.own(lo, n) };
         let made = fill(Batch(front.iter_mut().chain(back)));
@@ -126,6 +130,11 @@ impl<T> Sender<T> {
         let lo = self.claim(n)?;
         self.waiting.found_room(n);
         Ok(self.fill(lo, n, fill))
+    }
+
+    /// How many events it published, for who watches it.
+    pub fn watch(&self) -> Watch {
+        self.published.clone()
     }
 
     /// How many sequences it claimed, and how many events it published. One of several senders does not count them.

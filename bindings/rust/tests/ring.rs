@@ -215,6 +215,22 @@ fn a_thread_that_sleeps_is_woken() {
 }
 
 #[test]
+fn any_thread_may_watch_how_far_the_ends_came() {
+    let (mut sender, mut receivers, _halter) = open(&plan(8, &[0]), || 0u64).unwrap();
+    let (sent, received) = (sender.watch(), receivers[0].watch());
+    sender.publish_batch(5, |_| ()).unwrap();
+    receivers[0].receive(3, |_, _, _| ()).unwrap();
+    let counts = std::thread::spawn(move || (sent.count(), received.count())).join().unwrap();
+    assert_eq!(counts, (5, 3));
+    let mut disruptor = Builder::new(8, || 0u64).handle("reads", |_: &u64, _, _| ()).build().unwrap();
+    disruptor.publish(|_| ()).unwrap();
+    while disruptor.completed("reads") != Some(1) {
+        std::thread::yield_now();
+    }
+    assert_eq!((disruptor.watch().count(), disruptor.completed("writes")), (1, None));
+}
+
+#[test]
 fn a_deadline_ends_a_wait() {
     let short = Duration::from_millis(20);
     let (mut sender, mut receivers, halter) = open(&plan(4, &[0]), || 0u64).unwrap();

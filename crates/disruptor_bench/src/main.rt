@@ -121,7 +121,9 @@ fn answer(
     }
 }
 
-fn run(rt: &(impl Runtime + Alloc<A = Global> + Threads + Wait + Sync)) -> Result<(), Fault> {
+fn run(
+    rt: &(impl Runtime + Alloc<A = Global> + Threads + Wait + Sync + Copy + Send + 'static),
+) -> Result<(), Fault> {
     let words: Vec<String> = env::args(rt)?.skip(1).collect(rt.alloc())?;
     answer(rt, rt.alloc(), read_request(&words))
 }

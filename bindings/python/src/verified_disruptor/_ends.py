@@ -95,6 +95,8 @@ class Sender(_End):
         super().__init__(ends, handle)
         self._lo, self._waiting = ctypes.c_uint64(), Waiting(ends.bell)
         self._lo_at = ctypes.addressof(self._lo)
+        # (how many events it published, which any thread may read)
+        self.published = 0
 
     def _claim(self, n: int, timeout: float | None) -> int:
         deadline = None if timeout is None else time.monotonic() + timeout
@@ -110,6 +112,7 @@ class Sender(_End):
 
     def _publish(self, lo: int, n: int) -> None:
         check(LIBRARY.disruptor_publish_slots_at(self._handle, 1, lo, lo + n - 1))
+        self.published += n
         self._ends.bell.ring()
 
     def event(self, timeout: float | None = None) -> _Claim:
@@ -152,13 +155,14 @@ class Receiver(_End):
         super().__init__(ends, handle)
         self._offer, self._waiting = Offer(), Waiting(ends.bell)
         self._offer_at = ctypes.addressof(self._offer)
-        self._completed = self._shown = self._taken = 0
+        # (how many events it completed, which any thread may read)
+        self.completed = self._shown = self._taken = 0
         self.is_drained = False
 
     def _complete(self, upto: int) -> None:
-        if upto != self._completed:
+        if upto != self.completed:
             check(LIBRARY.disruptor_complete_at(self._handle, 1, upto))
-            self._completed = upto
+            self.completed = upto
             self._ends.bell.ring()
 
     def _take(self, room: int | None, deadline: float | None = None) -> bool:

@@ -86,11 +86,3 @@ NATIVE(jint, complete, jlong at, jlong upto) {
 NATIVE(jint, halt, jlong at) {
     return (jint)disruptor_halt(&handle_at(at)->halter);
 }
-
-/* What an end completed or published, or with `begun` what it took or claimed. */
-NATIVE(jlong, progress, jlong at, jlong answer, jboolean begun) {
-    (void)answer;
-    disruptor_counts counts;
-    const uint32_t refused = disruptor_progress(handle_at(at), &counts);
-    return refused ? -(jlong)refused : (jlong)(begun ? counts.begun : counts.done);
-}

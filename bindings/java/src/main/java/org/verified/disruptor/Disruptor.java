@@ -202,6 +202,11 @@ public final class Disruptor<T> implements AutoCloseable {
         sender.publishEvents(n, translator);
     }
 
+    /** How many events the handler with this name completed. Any thread may ask that once it has started. */
+    public long completed(String name) {
+        return ring.receivers().get(place(name)).completed();
+    }
+
     /** Halts the ring: from now on a publication is refused. */
     public void halt() {
         ring.halt();

@@ -26,6 +26,4 @@ final class Native {
     static native int complete(long receiver, long upto);
 
     static native int halt(long halter);
-
-    static native long progress(long end, long answer, boolean begun);
 }

@@ -2,6 +2,7 @@ package org.verified.disruptor;
 
 import java.lang.invoke.VarHandle;
 import java.util.concurrent.TimeUnit;
+import java.util.concurrent.atomic.AtomicLong;
 
 /**
  * The end of one handler, for one thread, which is shown every event after those that it follows had it.
@@ -16,7 +17,7 @@ public final class Receiver<T> {
     private final long handle;
     private final long answer;
     private final Waiting waiting;
-    private long completed;
+    private final AtomicLong completed = new AtomicLong();
     private long shown;
     private long taken;
     private boolean isDrained;
@@ -29,10 +30,10 @@ public final class Receiver<T> {
     }
 
     private void complete(long upto) {
-        if (completed < upto) {
+        if (completed.getPlain() < upto) {
             VarHandle.releaseFence();
             Answers.check(Native.complete(handle, upto));
-            completed = upto;
+            completed.setRelease(upto);
             ring.bell.ring();
         }
     }
@@ -110,8 +111,8 @@ public final class Receiver<T> {
         return isDrained;
     }
 
-    /** How many events it completed. */
+    /** How many events it completed. Any thread may ask that at any time; it is never ahead of the end. */
     public long completed() {
-        return completed;
+        return completed.get();
     }
 }

@@ -1,8 +1,8 @@
 package org.verified.disruptor;
 
 import java.lang.invoke.VarHandle;
-import java.lang.ref.Reference;
 import java.util.concurrent.TimeUnit;
+import java.util.concurrent.atomic.AtomicLong;
 
 /**
  * An end that fills events where they lie and publishes them, for one thread.
@@ -14,6 +14,7 @@ public final class Sender<T> {
     private final long handle;
     private final long answer;
     private final Waiting waiting;
+    private final AtomicLong published = new AtomicLong();
 
     Sender(Ring<T> ring, long handle, long answer) {
         this.ring = ring;
@@ -55,6 +56,7 @@ public final class Sender<T> {
         } finally {
             VarHandle.releaseFence();
             Answers.check(Native.publish(handle, first, first + n - 1));
+            published.setRelease(published.getPlain() + n);
             ring.bell.ring();
         }
     }
@@ -95,13 +97,9 @@ public final class Sender<T> {
         return true;
     }
 
-    /** How many events it published. One of several senders does not count them, and refuses this. */
+    /** How many events it published. Any thread may ask that at any time; it is never ahead of the end. */
     public long published() {
-        try {
-            return Answers.checked(Native.progress(handle, answer, false));
-        } finally {
-            Reference.reachabilityFence(ring);
-        }
+        return published.get();
     }
 
     /** Closes the ring of one sender: no event comes any more. */

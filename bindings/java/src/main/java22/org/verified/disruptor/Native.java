@@ -18,10 +18,8 @@ import java.util.Arrays;
 final class Native {
     private static final int BATCH = 0;
 
-    /** Where a poll leaves its offer's first sequence and its count, and a progress its second number. */
+    /** Where a poll leaves the count of its offer. */
     private static final long COUNT = 16;
-
-    private static final long DONE = 8;
 
     // All memory, for what a call left at an address.
     private static final MemorySegment MEMORY = MemorySegment.NULL.reinterpret(Long.MAX_VALUE);
@@ -32,7 +30,6 @@ final class Native {
     private static final MethodHandle POLL;
     private static final MethodHandle COMPLETE;
     private static final MethodHandle HALT;
-    private static final MethodHandle PROGRESS;
 
     static {
         System.load(Library.path());
@@ -42,7 +39,6 @@ final class Native {
         POLL = call("poll_slots", 5);
         COMPLETE = call("complete", 3);
         HALT = call("halt", 2);
-        PROGRESS = call("progress", 4);
     }
 
     private Native() {}
@@ -108,15 +104,6 @@ final class Native {
     static int halt(long halter) {
         try {
             return (int) HALT.invokeExact(halter, 1L);
-        } catch (Throwable thrown) {
-            throw new AssertionError(thrown);
-        }
-    }
-
-    static long progress(long end, long answer, boolean begun) {
-        try {
-            int refused = (int) PROGRESS.invokeExact(end, 1L, answer, 1L);
-            return refused == 0 ? MEMORY.get(JAVA_LONG, begun ? answer : answer + DONE) : -refused;
         } catch (Throwable thrown) {
             throw new AssertionError(thrown);
         }
