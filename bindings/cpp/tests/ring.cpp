@@ -198,18 +198,6 @@ void a_deadline_ends_a_wait() {
     EXPECT(ring.receivers[0].receive_for(time, 4, see).kind == DISRUPTOR_DRAINED);
 }
 
-void a_deadline_ends_a_wait() {
-    const auto time = std::chrono::milliseconds(20);
-    auto ring = disruptor::open_in_place<std::uint64_t>(4, {0});
-    const auto see = [](const std::uint64_t &event, std::uint64_t sequence, bool) { EXPECT(event == sequence); };
-    EXPECT(ring.receivers[0].receive_for(time, 4, see).kind == DISRUPTOR_IDLE);
-    EXPECT(ring.sender.try_publish_batch_for(time, 4, fill));
-    EXPECT(!ring.sender.try_publish_batch_for(time, 1, fill));
-    EXPECT(ring.receivers[0].receive_for(time, 4, see).count == 4);
-    ring.sender.close();
-    EXPECT(ring.receivers[0].receive_for(time, 4, see).kind == DISRUPTOR_DRAINED);
-}
-
 } // namespace
 
 int main() {

@@ -232,24 +232,6 @@ public final class RingTest {
         expect(receiver.completed(), 5L);
     }
 
-    private static void aDeadlineEndsAWait() throws Exception {
-        Ring<Event> ring = ring(4, 0);
-        Sender<Event> sender = ring.senders().get(0);
-        Receiver<Event> receiver = ring.receivers().get(0);
-        EventHandler<Event> right = (event, sequence, endOfBatch) -> expect(event.number, sequence);
-        expect(receiver.receive(20, TimeUnit.MILLISECONDS, right), 0);
-        expect(sender.tryPublishEvents(4, 20, TimeUnit.MILLISECONDS, RingTest::fill), true);
-        expect(sender.tryPublishEvents(1, 20, TimeUnit.MILLISECONDS, RingTest::fill), false);
-        expect(receiver.receive(20, TimeUnit.MILLISECONDS, right), 4);
-        expect(sender.tryPublishEvents(1, RingTest::fill), true);
-        sender.close();
-        expect(receiver.receive(20, TimeUnit.MILLISECONDS, right), 1);
-        expect(receiver.isDrained(), false);
-        expect(receiver.receive(20, TimeUnit.MILLISECONDS, right), 0);
-        expect(receiver.isDrained(), true);
-        expect(receiver.completed(), 5L);
-    }
-
     public static void main(String[] arguments) throws Exception {
         aFullRingHasNoRoom();
         aBatchGoesOnAfterTheEventAtWhichAHandlerThrew();
