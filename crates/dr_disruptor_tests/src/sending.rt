@@ -1,11 +1,12 @@
 //! Each call of a run's sender, once.
 
-ghost use Rattle.std.specs.Prelude.{◌<◌};
+ghost use Rattle.std.specs.Prelude.{◌≡◌, ◌<◌};
+ghost use Rattle.dr_plain.specs.Calls.Ends.{sender_place};
 
 use crate::checks::{check, diamond, size};
 use crate::work::Tally;
-use dr_disruptor::{Ran, WaitStrategy, Way, run};
-use dr_plain::Settled;
+use dr_disruptor::{LiveSender, Ran, WaitStrategy, Way, run};
+use dr_plain::{Sender, Settled};
 use std::alloc::Global;
 use std::process::Abort;
 use std::sync::Wait;
@@ -28,14 +29,17 @@ fn one_by_one<R: Threads + Wait + Abort + Copy + Send + 'static>(
     let size = size(&rt, 4);
     let events = vec![in alloc; 0u64; 4].expect(&rt, "memory");
     let tallies = vec![in alloc; Tally::default(); 3].expect(&rt, "memory");
-    let ran = run(rt, alloc, &graph, size, events, tallies, way, |sender| {
+    let send = |sender: &mut LiveSender<R, Sender<u64>>|
+        ensures { sender_place sender.new ≡ sender_place sender.old }
+    {
         check(&rt, sender.published(), 0);
         check(&rt, sender.publish_with(|event| *event = 1), Ok(()));
         check(&rt, sender.try_publish_with(|event| *event = 2), Ok(()));
         let each = sender.publish_each(3, 2, |event: &mut u64, k| *event = k.wrapping_add(3));
         check(&rt, each, Ok(()));
         sender.published()
-    });
+    };
+    let ran = run(rt, alloc, &graph, size, events, tallies, way, send);
     ran.expect(&rt, "a run")
 }
 
@@ -78,9 +82,10 @@ fn check_sent(rt: &impl Abort, ran: Numbers, many: u64, sum: u64, last: u64) {
     }
     let mut events = ran.events;
     let mut left = 0u64;
-    while let Some(event) = events.next() {
-        left = left.wrapping_add(event);
+    for _ in 0..4 {
+        left = left.wrapping_add(events.next().unwrap_or(0));
     }
+    check(rt, events.next(), None);
     check(rt, left, last);
 }
 
