@@ -1,4 +1,5 @@
-//! Two handlers, one after the other, and the sender, all on this thread: where the ring is full the handlers have a turn.
+//! Readings go to an archive and then to an alert, with the sender on this thread: where the ring is full each handler has a
+//! turn. The handlers are of one type, an enum.
 #![tactic(auto)]
 
 use dr_disruptor::{
@@ -9,57 +10,71 @@ use dr_meaning::Refusal;
 use dr_seq::Size;
 use std::sync::Wait;
 
-/// Adds up the numbers that it is shown.
-#[derive(Clone, Copy, Default)]
-struct Sum {
-    total: u64,
+/// What each handler does with a reading: handlers that stand in one list are of one type.
+#[derive(Drop)]
+enum Stage {
+    /// Adds up all readings.
+    Archive(u64),
+    /// Counts those above 90.
+    Alert(u64),
 }
 
-impl InPlaceHandler<u64> for Sum {
-    ghost use Rattle.std.specs.Prelude.{◌≡◌, ◌+◌, ◌%◌, ◌^◌};
+impl InPlaceHandler<u64> for Stage {
+    ghost use Rattle.std.specs.Prelude.{◌≡◌};
+    ghost use Rattle.example_here.specs.Stages.{stage_after};
 
-    ghost goes = { λ old number s end new. new.total ≡ (old.total + number) % 2 ^ 64 };
+    ghost goes = { λ old reading s end new. new ≡ stage_after old reading };
 
-    fn on_event_in_place(&mut self, number: &u64, _s: u64, _end: bool) {
-        self.total = self.total.wrapping_add(*number);
+    fn on_event_in_place(&mut self, reading: &u64, _s: u64, _end: bool) {
+        match self {
+            Stage::Archive(sum) => *sum = sum.wrapping_add(*reading),
+            Stage::Alert(count) => {
+                if *reading > 90 {
+                    *count = count.wrapping_add(1);
+                }
+            }
+        }
     }
 }
 
-/// Sends the numbers below `count`.
+/// Sends the readings below `count`.
 #[derive(Clone, Copy)]
-struct Numbers {
+struct Readings {
     count: u64,
 }
 
-impl Feed<u64> for Numbers {
+impl Feed<u64> for Readings {
     ghost use Rattle.std.specs.Prelude.{⊤};
 
     type Answer = Result<(), Refusal>;
 
-    ghost gives = { λ numbers answer old new. ⊤ };
+    ghost gives = { λ readings answer old new. ⊤ };
 
     fn feed<R: Wait + Copy, I: InPlaceInlet<Event = u64>>(
         self,
         sender: &mut LiveSender<R, I>,
     ) -> Result<(), Refusal> {
-        sender.publish_each(self.count, 4, |number: &mut u64, k| *number = k)
+        sender.publish_each(self.count, 4, |reading: &mut u64, k| *reading = k)
     }
 }
 
 fn main(rt: HostRuntime) -> Result<(), RunFault> {
     let (alloc, size) = (rt.alloc(), Size::new(8)?);
     let mut builder = GraphBuilder::new(alloc);
-    let first = builder.handle_with(&["first"])?;
-    builder.then(&first, &["second"])?;
+    let archive = builder.handle_with(&["archive"])?;
+    builder.then(&archive, &["alert"])?;
     let graph = builder.build()?;
-    let numbers = vec![in alloc; 0u64; size.get() as usize]?;
-    let sums = vec![in alloc; Sum::default(); 2]?;
+    let readings = vec![in alloc; 0u64; size.get() as usize]?;
+    let stages = vec![in alloc; Stage::Archive(0), Stage::Alert(0)]?;
     let way = Way::by(WaitStrategy::Spinning);
-    let send = Numbers { count: 101 };
-    let ran = run_here(rt, alloc, &graph, size, numbers, sums, way, send)?;
+    let send = Readings { count: 101 };
+    let ran = run_here(rt, alloc, &graph, size, readings, stages, way, send)?;
     ran.sent?;
-    for sum in ran.handlers.iter() {
-        let _printed = rt.println(&sum.total);
+    for stage in ran.handlers.iter() {
+        let _printed = match stage {
+            Stage::Archive(sum) => rt.println(sum),
+            Stage::Alert(count) => rt.println(count),
+        };
     }
     Ok(())
 }
