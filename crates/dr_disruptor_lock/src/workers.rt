@@ -86,7 +86,7 @@ fn served<
 ) -> Result<Joined<L, H>, AllocError>
     ensures halted { IfOk result (λ joined. HasHalted halter joined.halter) }
     ensures sent { IfOk result (λ joined. AreSent L.begun around.now.size tasks.items joined.sent.items) }
-    ensures served { IfOk result (λ joined. AreServed L.begun H.goes (map given_job workers.entry.items) joined.served.items) }
+    ensures served { IfOk result (λ joined. AreServed L.begun H.goes (map given_job workers.items) joined.served.items) }
 {
     let sent = send_all(alloc, around, tasks);
     halted(around, &mut halter);
