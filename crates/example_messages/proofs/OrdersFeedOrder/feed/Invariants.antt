@@ -1,5 +1,0 @@
-use Rattle.std.proofs.Common.{◌≡◌}
-use Rattle.example_messages.proofs.OrdersFeedOrder.feed.Given as goal
-
-abbrev pub invariant-loop-number : goal.invariant-loop-number
-invariant-loop-number g l = g.I.InPlaceInlet.kept l.sender ≡ g.I.InPlaceInlet.kept l.fn.sender
