@@ -4,6 +4,7 @@ pub mod Ends
 pub mod Finds
 pub mod Making
 pub mod Receiving
+pub mod Turning
 pub mod Outlets
 pub mod Handing
 pub mod Sending
