@@ -4,7 +4,7 @@ use dr_graph::GraphFault;
 use dr_meaning::{OpenFault, Refusal};
 use dr_ring::RingFault;
 use dr_seq::SizeFault;
-use std::alloc::AllocError;
+use std::alloc::{AllocError, AllocFailed};
 use std::{fmt, io};
 
 /// Why a call gave nothing, or the program ends early. Its text is the line that it prints.
@@ -48,6 +48,12 @@ impl fmt::Display for Fault {
 
 impl From<AllocError> for Fault {
     fn from(_: AllocError) -> Fault {
+        Fault::Memory
+    }
+}
+
+impl<T: Drop> From<AllocFailed<T>> for Fault {
+    fn from(_: AllocFailed<T>) -> Fault {
         Fault::Memory
     }
 }

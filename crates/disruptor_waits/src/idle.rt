@@ -20,7 +20,7 @@ struct Rest<R> {
     seconds: u64,
 }
 
-impl<C: Clock> Feed<u64> for Rest<C> {
+impl<C: Clock + Drop> Feed<u64> for Rest<C> {
     ghost use Rattle.std.specs.Prelude.{⊤};
 
     type Answer = Result<(), Refusal>;

@@ -38,7 +38,7 @@ struct Lone<'a, C> {
     notes: &'a Notes,
 }
 
-impl<C: Wait + Clock> Feed<u64> for Lone<'_, C> {
+impl<C: Wait + Clock + Drop> Feed<u64> for Lone<'_, C> {
     ghost use Rattle.std.specs.Prelude.{⊤};
 
     type Answer = Result<(), Refusal>;
