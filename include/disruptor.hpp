@@ -4,6 +4,7 @@
 #define DISRUPTOR_HPP
 
 #include "disruptor.h"
+#include <algorithm>
 #include <atomic>
 #include <chrono>
 #include <cstddef>
@@ -38,6 +39,13 @@ inline void check(std::uint32_t number) {
     if (number != DISRUPTOR_OK) throw refusal(number);
 }
 
+// When a time from now on is up: never, where no clock goes so far.
+[[nodiscard]] inline std::chrono::steady_clock::time_point end_of(std::chrono::nanoseconds time) noexcept {
+    using clock = std::chrono::steady_clock;
+    const clock::time_point now = clock::now();
+    return time < clock::time_point::max() - now ? now + time : clock::time_point::max();
+}
+
 // How a thread waits that looks again and again for what others do: without a bell it never sleeps.
 class waiting {
 public:
@@ -59,7 +67,8 @@ private:
     disruptor_waiting state_;
 };
 
-// A handler went away before it had every event: the ring is halted, and those who follow it wait no longer.
+// A handler went away before it had every event: the ring is halted, and those who follow it wait no longer once they had what it
+// completed. A sender that went away with an open claim does so to all.
 class broken : public std::runtime_error {
 public:
     broken() : std::runtime_error("a handler went away before it had every event") {}
@@ -76,14 +85,14 @@ public:
         check(disruptor_halt(&halter_));
         ring();
     }
-    // Halts the ring for a handler that goes away too early, so that nobody waits for it.
-    void give_up() noexcept {
-        is_broken_ = true;
+    // Halts the ring for an end that goes away too early, so that nobody waits for it: a handler by its bit.
+    void give_up(std::uint64_t end) noexcept {
+        gone_ |= end;
         const std::lock_guard<std::mutex> lock(mutex_);
         disruptor_halt(&halter_);
         ring();
     }
-    bool is_broken() const noexcept { return is_broken_; }
+    bool is_gone(std::uint64_t ends) const noexcept { return (gone_ & ends) != 0; }
     common() = default;
     common(const common &) = delete;
     common &operator=(const common &) = delete;
@@ -93,13 +102,19 @@ private:
     disruptor_bell bell_ = DISRUPTOR_NEW_BELL;
     disruptor_halter halter_ = DISRUPTOR_NEW;
     std::mutex mutex_;
-    std::atomic<bool> is_broken_{false};
+    std::atomic<std::uint64_t> gone_{0};
 };
 using shared = std::shared_ptr<common>;
+// The bit of the senders among the ends that went away.
+constexpr std::uint64_t a_sender = UINT64_C(1) << 63;
 
 // How many events an end published or completed, which any thread may ask at any time. It is never ahead of the end.
 class watch {
 public:
+    watch() = default;
+    // (one that is moved from still counts)
+    watch(const watch &) noexcept = default;
+    watch &operator=(const watch &) noexcept = default;
     std::uint64_t count() const noexcept { return line_->count.load(std::memory_order_acquire); }
     // Only its end calls this.
     void set(std::uint64_t count) const noexcept { line_->count.store(count, std::memory_order_release); }
@@ -154,15 +169,29 @@ private:
     Handle handle_ DISRUPTOR_NEW;
 };
 
-class sender : public end<disruptor_sender> {
+// An end that claims and publishes. One that goes away closes the ring of one sender; where it leaves a claim unpublished, it halts the
+// ring, and the handlers wait no longer.
+class sending : public end<disruptor_sender> {
 public:
     using end::end;
+    sending(sending &&) noexcept = default;
+    sending &operator=(sending &&other) noexcept {
+        if (this != &other) leave();
+        end::operator=(std::move(other));
+        open_ = other.open_;
+        return *this;
+    }
+    ~sending() { leave(); }
+    void close() { check_and_ring(disruptor_close(get())); }
+
+protected:
     // The first of n sequences, or nothing where there is no room, or another sender came first.
     [[nodiscard]] std::optional<std::uint64_t> try_claim(std::uint64_t n) {
         std::uint64_t lo = 0;
         const std::uint32_t number = disruptor_claim(get(), n, &lo);
         if (number == DISRUPTOR_NO_ROOM || number == DISRUPTOR_CONTENDED) return std::nullopt;
         check(number);
+        open_ += n;
         return lo;
     }
     // Waits for room.
@@ -177,16 +206,41 @@ public:
     }
     // The same, or nothing where the time is up. It may take ten milliseconds more, where it sleeps.
     [[nodiscard]] std::optional<std::uint64_t> try_claim_for(std::chrono::nanoseconds time, std::uint64_t n, waiting &how) {
-        const auto end = std::chrono::steady_clock::now() + time;
+        const auto end = end_of(time);
         for (;;) {
             const std::optional<std::uint64_t> lo = try_claim(n);
             if (lo) how.found_room(n);
             if (lo || how.is_over(end)) return lo;
         }
     }
+    // Takes note that so many were published.
+    void published(std::uint64_t n) {
+        open_ -= n;
+        shared_->ring();
+    }
+    bool has_open_claim() const noexcept { return open_ > 0; }
+
+private:
+    void leave() noexcept {
+        if (!shared_) return;
+        if (has_open_claim()) shared_->give_up(a_sender);
+        else if (disruptor_close(get()) == DISRUPTOR_OK) shared_->ring();
+    }
+    // How many sequences are claimed and not published.
+    std::uint64_t open_ = 0;
+};
+
+class sender : public sending {
+public:
+    using sending::sending;
+    using sending::claim;
+    using sending::try_claim;
+    using sending::try_claim_for;
     void write(std::uint64_t sequence, const event &what) { check(disruptor_write(get(), sequence, &what)); }
-    void publish(std::uint64_t lo, std::uint64_t hi) { check_and_ring(disruptor_publish(get(), lo, hi)); }
-    void close() { check_and_ring(disruptor_close(get())); }
+    void publish(std::uint64_t lo, std::uint64_t hi) {
+        check(disruptor_publish(get(), lo, hi));
+        published(hi - lo + 1);
+    }
 };
 
 // The end of a handler, which is shown every event after those that it follows had it. Where the handler throws, the events before
@@ -200,6 +254,7 @@ public:
         if (this != &other) leave();
         end::operator=(std::move(other));
         completed_ = other.completed_;
+        own_ = other.own_, upstreams_ = other.upstreams_, is_at_end_ = other.is_at_end_;
         next_ = other.next_, taken_ = other.taken_, has_thrown_ = other.has_thrown_, is_drained_ = other.is_drained_;
         return *this;
     }
@@ -211,6 +266,8 @@ public:
     }
     // How many events it completed, for who watches it.
     watch watched() const noexcept { return completed_; }
+    // That it is handler k, and whom it follows.
+    void takes_place(std::size_t k, std::uint64_t upstreams) noexcept { own_ = UINT64_C(1) << k, upstreams_ = upstreams | a_sender; }
 
 protected:
     // Notes what a poll found.
@@ -226,9 +283,9 @@ protected:
         if (next_ == taken_) {
             const offer found = poll();
             if (found.kind != DISRUPTOR_BATCH) return found;
-            next_ = found.first, taken_ = found.first + found.count;
+            next_ = found.first, taken_ = found.first + found.count, is_at_end_ = found.end;
         }
-        const offer shown = {DISRUPTOR_BATCH, 1, next_, taken_ - next_};
+        const offer shown = {DISRUPTOR_BATCH, is_at_end_, next_, taken_ - next_};
         try {
             for (; next_ != taken_; next_++) handle(at(next_), next_, next_ + 1 == taken_);
         } catch (...) {
@@ -239,29 +296,36 @@ protected:
         complete(taken_);
         return shown;
     }
-    // Takes turns until the ring is drained, and sleeps while none comes.
+    // Takes turns until the ring is drained, and sleeps while none comes. It answers false where one that it follows went away.
     template <typename Turn>
-    void take_turns(std::uint64_t room, Turn &&turn) {
+    [[nodiscard]] bool take_turns(std::uint64_t room, Turn &&turn) {
         waiting how = waits(room);
+        bool is_last_look = false;
         for (;;) {
             const offer found = turn();
-            if (found.kind == DISRUPTOR_DRAINED) return;
+            if (found.kind == DISRUPTOR_DRAINED) return true;
             if (found.kind == DISRUPTOR_BATCH) {
                 how.found(found.count);
                 continue;
             }
-            if (shared_ && shared_->is_broken()) throw broken();
-            how.wait();
+            // (it looks once more for what that one completed)
+            if (is_last_look) return false;
+            is_last_look = lost_one();
+            if (!is_last_look) how.wait();
         }
     }
+    // Whether one that it follows went away.
+    bool lost_one() const noexcept { return shared_ && shared_->is_gone(upstreams_); }
 
 private:
     void leave() noexcept {
-        if (shared_ && !is_drained_) shared_->give_up();
+        if (shared_ && !is_drained_) shared_->give_up(own_);
     }
     watch completed_;
+    std::uint64_t own_ = 0, upstreams_ = a_sender;
     // Of the events that are taken the next one to show, and up to where they go.
     std::uint64_t next_ = 0, taken_ = 0;
+    std::uint32_t is_at_end_ = 0;
     bool has_thrown_ = false, is_drained_ = false;
 };
 
@@ -282,7 +346,8 @@ public:
             first_ = found.first;
             return found;
         };
-        take_turns(room, [&] { return show(take, [&](std::uint64_t s) { return events_[s - first_]; }, handle); });
+        const auto turn = [&] { return show(take, [&](std::uint64_t s) { return events_[s - first_]; }, handle); };
+        if (!take_turns(room, turn)) throw broken();
     }
 
 private:
@@ -319,7 +384,7 @@ public:
     template <typename Handler>
     void run(std::uint64_t room, Handler &&handle) {
         const auto take = [&] { return poll(room); };
-        take_turns(room, [&] { return show(take, [&](std::uint64_t s) { return read(s); }, handle); });
+        if (!take_turns(room, [&] { return show(take, [&](std::uint64_t s) { return read(s); }, handle); })) throw broken();
     }
 };
 
@@ -327,7 +392,10 @@ public:
 class halter {
 public:
     explicit halter(disruptor::shared all) noexcept : shared_(std::move(all)) {}
-    void halt() { shared_->halt(); }
+    void halt() {
+        if (!shared_) throw refusal(DISRUPTOR_NOT_OPEN);
+        shared_->halt();
+    }
 
 private:
     disruptor::shared shared_;
@@ -366,10 +434,18 @@ template <typename End, typename Handle>
 void own(std::vector<End> &ends, const std::vector<Handle> &handles) noexcept {
     for (std::size_t k = 0; k < handles.size(); k++) *ends[k].get() = handles[k];
 }
+template <typename End>
+void own(std::vector<End> &ends, const std::vector<disruptor_receiver> &handles, const std::vector<std::uint64_t> &upstreams) noexcept {
+    own(ends, handles);
+    for (std::size_t k = 0; k < handles.size(); k++) ends[k].takes_place(k, upstreams[k]);
+}
+// So many senders, or as many as are refused like them.
+inline std::size_t few(std::size_t senders) noexcept { return std::min<std::size_t>(senders, 17); }
 
 // Opens a ring of several senders.
 [[nodiscard]] inline ring_of_several open_several(std::uint64_t size, const std::vector<std::uint64_t> &upstreams, std::size_t senders,
                                                   std::uint64_t limit = DISRUPTOR_MAX_LIMIT) {
+    senders = few(senders);
     const disruptor::shared all = std::make_shared<common>();
     std::vector<disruptor_sender> sending(senders, disruptor_sender DISRUPTOR_NEW);
     std::vector<disruptor_receiver> receiving(upstreams.size(), disruptor_receiver DISRUPTOR_NEW);
@@ -377,7 +453,7 @@ void own(std::vector<End> &ends, const std::vector<Handle> &handles) noexcept {
     check(disruptor_open_several(size, limit, upstreams.data(), upstreams.size(), sending.data(), senders, receiving.data(),
                                  receiving.size(), all->halter()));
     own(made.senders, sending);
-    own(made.receivers, receiving);
+    own(made.receivers, receiving, upstreams);
     return made;
 }
 
@@ -389,7 +465,7 @@ void own(std::vector<End> &ends, const std::vector<Handle> &handles) noexcept {
     ring made = {sender(all), unopened<receiver>(upstreams.size(), all), halter(all)};
     check(disruptor_open(size, limit, upstreams.data(), upstreams.size(), made.sender.get(), receiving.data(), receiving.size(),
                          all->halter()));
-    own(made.receivers, receiving);
+    own(made.receivers, receiving, upstreams);
     return made;
 }
 
@@ -402,7 +478,7 @@ template <typename T>
     ring_of<T> made = {sender_of<T>(all), unopened<receiver_of<T>>(upstreams.size(), all), halter(all)};
     check(disruptor_open_bytes(size, limit, sizeof(T), upstreams.data(), upstreams.size(), made.sender.get(), receiving.data(),
                                receiving.size(), all->halter()));
-    own(made.receivers, receiving);
+    own(made.receivers, receiving, upstreams);
     return made;
 }
 

@@ -4,7 +4,6 @@
 #define DISRUPTOR_SLOTS_HPP
 
 #include "disruptor.hpp"
-#include <algorithm>
 #include <exception>
 #include <functional>
 #include <initializer_list>
@@ -20,21 +19,30 @@ namespace disruptor {
 template <typename T>
 class slots {
 public:
-    explicit slots(std::uint64_t size) : events_(size) {}
-    T &at(std::uint64_t sequence) noexcept { return events_[DISRUPTOR_SLOT(sequence, events_.size())]; }
-    std::uint64_t size() const noexcept { return events_.size(); }
+    explicit slots(std::uint64_t size) : size_(size), events_(std::make_unique<T[]>(size)) {}
+    T &at(std::uint64_t sequence) noexcept { return events_[DISRUPTOR_SLOT(sequence, size_)]; }
+    std::uint64_t size() const noexcept { return size_; }
 
 private:
-    std::vector<T> events_;
+    std::uint64_t size_;
+    std::unique_ptr<T[]> events_;
 };
 template <typename T>
 using shared_slots = std::shared_ptr<std::unique_ptr<slots<T>>>;
 
-// An end that fills events and publishes them. What a filler throws passes, once what lies in its slots is published.
+// The slots of an end, where it has not been moved from.
 template <typename T>
-class sender_in_place : public sender {
+slots<T> &slots_of(const shared_slots<T> &all) {
+    if (!all) throw refusal(DISRUPTOR_NOT_OPEN);
+    return **all;
+}
+
+// An end that fills events and publishes them. What a filler throws passes, once what lies in its slots is published. A filler that
+// publishes by the same end is refused with open-claim.
+template <typename T>
+class sender_in_place : public sending {
 public:
-    sender_in_place(const disruptor::shared &all, shared_slots<T> events) : sender(all), slots_(std::move(events)), waiting_(1, bell()) {}
+    sender_in_place(const disruptor::shared &all, shared_slots<T> events) : sending(all), slots_(std::move(events)), waiting_(1, bell()) {}
     // Publishes an event, once there is room for it and fill(event) has filled it.
     template <typename Fill>
     void publish(Fill &&fill) {
@@ -43,11 +51,13 @@ public:
     // Publishes n events together, once there is room for all and fill(event, sequence) has filled each.
     template <typename Fill>
     void publish_batch(std::uint64_t n, Fill &&fill) {
+        may_claim();
         fill_and_publish(claim(n, waiting_), n, fill);
     }
     // The same, or answers false where there is no room now, or another sender came first.
     template <typename Fill>
     [[nodiscard]] bool try_publish_batch(std::uint64_t n, Fill &&fill) {
+        may_claim();
         const std::optional<std::uint64_t> lo = try_claim(n);
         if (lo) fill_and_publish(*lo, n, fill);
         return lo.has_value();
@@ -55,20 +65,23 @@ public:
     // The same, or answers false where that is so when the time is up. It may take ten milliseconds more, where it sleeps.
     template <typename Fill>
     [[nodiscard]] bool try_publish_batch_for(std::chrono::nanoseconds time, std::uint64_t n, Fill &&fill) {
+        may_claim();
         const std::optional<std::uint64_t> lo = try_claim_for(time, n, waiting_);
         if (lo) fill_and_publish(*lo, n, fill);
         return lo.has_value();
     }
     // How many events it published, for who watches it.
     watch watched() const noexcept { return published_; }
-    void write(std::uint64_t, const event &) = delete;
     // Once the ring is open.
-    void begin() { waiting_ = waits((*slots_)->size()); }
+    void begin() { waiting_ = waits(slots_of(slots_).size()); }
 
 private:
+    void may_claim() const {
+        if (has_open_claim()) throw refusal(DISRUPTOR_OPEN_CLAIM);
+    }
     template <typename Fill>
     void fill_and_publish(std::uint64_t lo, std::uint64_t n, Fill &fill) {
-        slots<T> &events = **slots_;
+        slots<T> &events = slots_of(slots_);
         try {
             for (std::uint64_t s = lo; s < lo + n; s++) fill(events.at(s), s);
         } catch (...) {
@@ -80,7 +93,7 @@ private:
     void publish_slots(std::uint64_t lo, std::uint64_t n) {
         check(disruptor_publish_slots(get(), lo, lo + n - 1));
         published_.set(published_.count() + n);
-        shared_->ring();
+        published(n);
     }
     shared_slots<T> slots_;
     waiting waiting_;
@@ -100,26 +113,30 @@ public:
             check(disruptor_poll_slots(get(), room, &found));
             return polled(found);
         };
-        slots<T> &events = **slots_;
+        slots<T> &events = slots_of(slots_);
         return show(take, [&](std::uint64_t s) -> T & { return events.at(s); }, handle);
     }
     // The same, once there are events: what it finds when the time is up, or when a handler that it follows went away, may be none. It
     // may take ten milliseconds more, where it sleeps.
     template <typename Handler>
     offer receive_for(std::chrono::nanoseconds time, std::uint64_t room, Handler &&handle) {
-        const auto end = std::chrono::steady_clock::now() + time;
-        waiting how = waits((*slots_)->size());
-        for (;;) {
+        const auto end = end_of(time);
+        waiting how = waits(slots_of(slots_).size());
+        for (bool is_last_look = false;; is_last_look = lost_one() || how.is_over(end)) {
             const offer found = receive(room, handle);
-            const bool has_come = found.kind == DISRUPTOR_BATCH || found.kind == DISRUPTOR_DRAINED;
-            if (has_come || shared_->is_broken() || how.is_over(end)) return found;
+            if (found.kind == DISRUPTOR_BATCH || found.kind == DISRUPTOR_DRAINED || is_last_look) return found;
         }
     }
-    // The same until the ring is drained; it sleeps while none comes.
+    // The same until the ring is drained; it sleeps while none comes. It throws `broken` where a handler that it follows went away.
     template <typename Handler>
     void run(Handler &&handle) {
-        const std::uint64_t room = (*slots_)->size();
-        take_turns(room, [&] { return receive(room, handle); });
+        if (!run_or_lose_one(handle)) throw broken();
+    }
+    // The same, or answers false there.
+    template <typename Handler>
+    [[nodiscard]] bool run_or_lose_one(Handler &&handle) {
+        const std::uint64_t room = slots_of(slots_).size();
+        return take_turns(room, [&] { return receive(room, handle); });
     }
 
 private:
@@ -150,7 +167,7 @@ template <typename T>
     std::vector<disruptor_receiver> receiving(upstreams.size(), disruptor_receiver DISRUPTOR_NEW);
     check(disruptor_open_slots(size, limit, upstreams.data(), upstreams.size(), made.sender.get(), receiving.data(), receiving.size(),
                                all->halter()));
-    own(made.receivers, receiving);
+    own(made.receivers, receiving, upstreams);
     *events = std::make_unique<slots<T>>(size);
     made.sender.begin();
     return made;
@@ -160,6 +177,7 @@ template <typename T>
 template <typename T>
 [[nodiscard]] ring_in_place_of_several<T> open_several_in_place(std::uint64_t size, const std::vector<std::uint64_t> &upstreams,
                                                                 std::size_t senders, std::uint64_t limit = DISRUPTOR_MAX_LIMIT) {
+    senders = few(senders);
     const disruptor::shared all = std::make_shared<common>();
     const shared_slots<T> events = std::make_shared<std::unique_ptr<slots<T>>>();
     ring_in_place_of_several<T> made = {unopened<sender_in_place<T>>(senders, all, events),
@@ -169,7 +187,7 @@ template <typename T>
     check(disruptor_open_several_slots(size, limit, upstreams.data(), upstreams.size(), sending.data(), senders, receiving.data(),
                                        receiving.size(), all->halter()));
     own(made.senders, sending);
-    own(made.receivers, receiving);
+    own(made.receivers, receiving, upstreams);
     *events = std::make_unique<slots<T>>(size);
     for (sender_in_place<T> &it : made.senders) it.begin();
     return made;
@@ -204,7 +222,6 @@ public:
                 // (where it throws, the receiver goes away, which halts the ring)
                 receiver_in_place<T> own = std::move(receiver);
                 work(own);
-            } catch (const broken &) {
             } catch (...) {
                 const std::lock_guard<std::mutex> lock(failed.mutex);
                 if (!failed.what) failed.name = name, failed.what = std::current_exception();
@@ -247,7 +264,7 @@ private:
 };
 
 // A ring of one sender whose handlers run. When it is finished or goes away the ring is closed, and it waits until each handler had
-// every event.
+// every event. One thread uses it, but any may halt it or ask what is completed.
 template <typename T>
 class running : public sender_in_place<T> {
 public:
@@ -307,13 +324,13 @@ public:
     template <typename Handler>
     builder &handle(const std::string &name, Handler handler) {
         return add(name, false, [handler = std::move(handler)](receiver_in_place<T> &receiver) mutable {
-            receiver.run([&](const T &event, std::uint64_t sequence, bool is_last) { handler(event, sequence, is_last); });
+            return receiver.run_or_lose_one([&](const T &event, std::uint64_t sequence, bool is_last) { handler(event, sequence, is_last); });
         });
     }
     // Adds a handler that changes events: handle(T &event, sequence, is_last_of_batch). Each other handler comes before it or after.
     template <typename Handler>
     builder &handle_mut(const std::string &name, Handler handler) {
-        return add(name, true, [handler = std::move(handler)](receiver_in_place<T> &receiver) mutable { receiver.run(handler); });
+        return add(name, true, [handler = std::move(handler)](receiver_in_place<T> &receiver) mutable { return receiver.run_or_lose_one(handler); });
     }
     // The handlers that come next follow these.
     builder &after(std::initializer_list<const char *> names) {
@@ -326,7 +343,7 @@ public:
         after_ = (UINT64_C(1) << works_.size()) - 1;
         return *this;
     }
-    // Opens the ring, and starts a thread for each handler.
+    // Opens the ring, and starts a thread for each handler. The builder is empty then.
     [[nodiscard]] running<T> start() {
         must_be_alone();
         ring_in_place<T> ring = open_in_place<T>(size_, upstreams_);
@@ -344,7 +361,7 @@ private:
     struct work {
         std::string name;
         bool is_changing;
-        std::function<void(receiver_in_place<T> &)> run;
+        std::function<bool(receiver_in_place<T> &)> run;
         // All handlers that come before it.
         std::uint64_t before;
     };
@@ -374,7 +391,7 @@ private:
     handlers start_all(std::vector<receiver_in_place<T>> &receivers) {
         handlers threads;
         for (std::size_t k = 0; k < works_.size(); k++) threads.start(works_[k].name, std::move(receivers[k]), std::move(works_[k].run));
-        works_.clear();
+        works_.clear(), upstreams_.clear(), after_ = 0;
         return threads;
     }
     std::uint64_t size_, after_ = 0;

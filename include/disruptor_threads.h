@@ -56,7 +56,8 @@ typedef struct disruptor_graph {
     /* Which handler failed first, or a null pointer, and what it answered. */
     const char *failed;
     int failure;
-    bool is_broken;
+    /* The handlers that ended before they had every event. */
+    uint64_t gone;
     pthread_mutex_t lock;
 } disruptor_graph;
 
@@ -74,11 +75,12 @@ static inline size_t disruptor_place_of(const disruptor_graph *graph, const char
     return k;
 }
 
-/* Adds a handler, which follows those that `after` names, with a space between two. The name stays where it is. Refusals: BAD_ORDER
+/* Adds a handler, which follows those that `after` names, with a space between two, or none. The name stays where it is. Refusals: BAD_ORDER
  * (one of the names of `after` is none before, or another handler has this name) and TOO_MANY; disruptor_start answers them too. */
 static inline uint32_t disruptor_add(disruptor_graph *graph, const disruptor_work *added, const char *after) {
     disruptor_work work = *added;
     uint32_t refused = DISRUPTOR_OK;
+    if (!after) after = "";
     if (graph->handlers == DISRUPTOR_MOST_HANDLERS) refused = DISRUPTOR_TOO_MANY;
     else if (disruptor_place_of(graph, work.name, strlen(work.name)) < graph->handlers) refused = DISRUPTOR_BAD_ORDER;
     for (const char *name = after + strspn(after, " "); !refused && *name; name += strspn(name, " ")) {
@@ -131,12 +133,13 @@ static inline void disruptor_stop(disruptor_graph *graph) {
     disruptor_ring(&graph->bell);
 }
 
-/* Halts it for a handler that ends before it had every event, so that nobody waits for it. */
-static inline void disruptor_give_up(disruptor_graph *graph, const char *name, int failure) {
+/* Halts it for a handler that ends before it had every event, so that nobody waits for it. It failed, or one that it follows did. */
+static inline void disruptor_give_up(disruptor_work *work, int failure) {
+    disruptor_graph *graph = work->graph;
     pthread_mutex_lock(&graph->lock);
-    if (!graph->failed) graph->failed = name, graph->failure = failure;
+    if (failure && !graph->failed) graph->failed = work->name, graph->failure = failure;
     pthread_mutex_unlock(&graph->lock);
-    __atomic_store_n(&graph->is_broken, true, __ATOMIC_SEQ_CST);
+    __atomic_fetch_or(&graph->gone, UINT64_C(1) << (work - graph->works), __ATOMIC_SEQ_CST);
     disruptor_stop(graph);
 }
 
@@ -171,6 +174,7 @@ static inline void *disruptor_work_on(void *given) {
     disruptor_receiver *receiver = &graph->receivers[work - graph->works];
     disruptor_waiting waiting = disruptor_waits_by(graph->size, &graph->bell);
     disruptor_name_thread(work->name);
+    bool is_last_look = false;
     for (;;) {
         disruptor_offer offer;
         if (disruptor_poll_slots(receiver, graph->size, &offer) || offer.kind == DISRUPTOR_DRAINED) return NULL;
@@ -178,17 +182,31 @@ static inline void *disruptor_work_on(void *given) {
             disruptor_found(&waiting, offer.count);
             const int failure = disruptor_show(work, receiver, &offer);
             if (!failure) continue;
-            disruptor_give_up(graph, work->name, failure);
+            disruptor_give_up(work, failure);
             return NULL;
         }
-        if (__atomic_load_n(&graph->is_broken, __ATOMIC_SEQ_CST)) return NULL;
-        disruptor_wait(&waiting);
+        if (is_last_look) {
+            disruptor_give_up(work, 0);
+            return NULL;
+        }
+        /* Where one that it follows is gone, it looks once more for what that one completed. */
+        is_last_look = (__atomic_load_n(&graph->gone, __ATOMIC_SEQ_CST) & work->upstreams) != 0;
+        if (!is_last_look) disruptor_wait(&waiting);
     }
 }
 
-/* Closes the ring, waits until each handler had every event, and frees the ring. It answers 0, or what the first handler answered that
- * failed: graph.failed names it. No event from the one on at which it failed was shown to those that follow it. */
+/* Publishes what is claimed and not published, with what lies there, so that the ring can be closed. */
+static inline void disruptor_send_rest(disruptor_graph *graph) {
+    disruptor_counts sent = {0, 0};
+    if (disruptor_progress(&graph->sender, &sent) || sent.begun == sent.done) return;
+    disruptor_publish_slots(&graph->sender, sent.done, sent.begun - 1);
+}
+
+/* Closes the ring, waits until each handler had every event, and frees the ring; a claim that is open is published first. It answers 0,
+ * or what the first handler answered that failed: graph.failed names it. Those that follow it had all events before the one at which it
+ * failed, and none from that on. */
 static inline int disruptor_finish(disruptor_graph *graph) {
+    disruptor_send_rest(graph);
     disruptor_close(&graph->sender);
     disruptor_ring(&graph->bell);
     for (size_t k = 0; k < graph->started; k++) pthread_join(graph->works[k].thread, NULL);
@@ -214,7 +232,7 @@ static inline uint32_t disruptor_start(disruptor_graph *graph) {
         disruptor_work *work = &graph->works[graph->started];
         work->graph = graph;
         if (pthread_create(&work->thread, NULL, disruptor_work_on, work)) {
-            disruptor_give_up(graph, work->name, -1);
+            disruptor_give_up(work, -1);
             disruptor_finish(graph);
             return DISRUPTOR_NO_MEMORY;
         }

@@ -2,6 +2,7 @@
 #include <disruptor_threads.h>
 #include <stdio.h>
 #include <stdlib.h>
+#include <threads.h>
 
 static void expect(bool holds, const char *what, int line) {
     if (holds) return;
@@ -96,6 +97,38 @@ static void a_handler_that_fails_halts_the_ring(void) {
     EXPECT(most < 10);
 }
 
+/* Handles the first two events only once the third is claimed. */
+static int fails_at_one(void *own, void *event, uint64_t sequence, bool is_last) {
+    (void)event, (void)is_last;
+    while (!__atomic_load_n((bool *)own, __ATOMIC_SEQ_CST)) sched_yield();
+    return sequence == 1 ? 5 : 0;
+}
+
+static int counts(void *own, void *event, uint64_t sequence, bool is_last) {
+    (void)event, (void)sequence, (void)is_last;
+    ++*(uint64_t *)own;
+    return 0;
+}
+
+/* The third event is published only once the handler of the second failed. */
+static void who_follows_has_what_was_completed_and_others_have_all(void) {
+    uint64_t lo, followed = 0, counted = 0;
+    bool is_claimed = false;
+    const struct timespec short_time = {0, 30000000};
+    disruptor_graph graph = DISRUPTOR_GRAPH(events);
+    disruptor_handle(&graph, "fails", fails_at_one, &is_claimed, NULL);
+    disruptor_handle(&graph, "counts", counts, &counted, NULL);
+    disruptor_handle(&graph, "follows", counts, &followed, "fails");
+    EXPECT(disruptor_start(&graph) == DISRUPTOR_OK);
+    EXPECT(disruptor_next(&graph, 2, &lo) == DISRUPTOR_OK && disruptor_send(&graph, lo, 2) == DISRUPTOR_OK);
+    EXPECT(disruptor_next(&graph, 1, &lo) == DISRUPTOR_OK);
+    __atomic_store_n(&is_claimed, true, __ATOMIC_SEQ_CST);
+    thrd_sleep(&short_time, NULL);
+    /* (the claim that is open is published) */
+    EXPECT(disruptor_finish(&graph) == 5 && strcmp(graph.failed, "fails") == 0);
+    EXPECT(followed == 1 && counted == 3);
+}
+
 static void a_deadline_ends_a_wait(void) {
     const uint64_t upstreams[1] = {0}, short_time = 20000000;
     uint64_t lo;
@@ -126,6 +159,7 @@ int main(void) {
     graphs_are_refused();
     each_follows_its_own();
     a_handler_that_fails_halts_the_ring();
+    who_follows_has_what_was_completed_and_others_have_all();
     puts("each test passed");
     return 0;
 }

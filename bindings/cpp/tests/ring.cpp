@@ -35,6 +35,7 @@ std::string thrown(Call &&call) {
 using numbers = std::vector<std::uint64_t>;
 
 void fill(std::uint64_t &event, std::uint64_t sequence) { event = sequence; }
+void fill_nothing(const std::uint64_t &, std::uint64_t, bool) {}
 
 void a_full_ring_has_no_room() {
     auto ring = disruptor::open_in_place<std::uint64_t>(4, {0});
@@ -112,6 +113,69 @@ void a_receiver_that_goes_away_halts_the_ring() {
     EXPECT(thrown<disruptor::broken>([&] { second.run([](std::uint64_t, std::uint64_t, bool) {}); }) != "nothing");
 }
 
+void a_sender_that_goes_away_closes_the_ring_or_gives_it_up() {
+    const auto nothing = [](auto &&, std::uint64_t, bool) {};
+    auto ring = disruptor::open_in_place<std::uint64_t>(4, {0});
+    {
+        auto sender = std::move(ring.sender);
+        sender.publish([](std::uint64_t &event) { event = 1; });
+    }
+    ring.receivers[0].run(nothing);
+    EXPECT(ring.receivers[0].progress().done == 1);
+    auto words = disruptor::open(4, {0});
+    {
+        auto sender = std::move(words.sender);
+        EXPECT(sender.try_claim(1) == std::optional<std::uint64_t>(0));
+    }
+    EXPECT(thrown<disruptor::broken>([&] { words.receivers[0].run(4, nothing); }) != "nothing");
+}
+
+void an_end_that_was_moved_from_is_not_open() {
+    auto ring = disruptor::open_in_place<std::uint64_t>(4, {0});
+    auto receiver = std::move(ring.receivers[0]);
+    auto sender = std::move(ring.sender);
+    auto halter = std::move(ring.halter);
+    EXPECT(refused([&] { ring.receivers[0].receive(4, fill_nothing); }) == DISRUPTOR_NOT_OPEN);
+    EXPECT(refused([&] { ring.sender.publish([](std::uint64_t &) {}); }) == DISRUPTOR_NOT_OPEN);
+    EXPECT(refused([&] { ring.halter.halt(); }) == DISRUPTOR_NOT_OPEN);
+    EXPECT(ring.receivers[0].watched().count() == 0 && ring.sender.watched().count() == 0);
+    sender.publish([](std::uint64_t &event) { event = 0; });
+    EXPECT(receiver.receive(4, fill_nothing).count == 1);
+}
+
+void a_filler_that_publishes_is_refused() {
+    auto ring = disruptor::open_in_place<std::uint64_t>(4, {0});
+    EXPECT(refused([&] { ring.sender.publish([&](std::uint64_t &) { ring.sender.publish([](std::uint64_t &) {}); }); })
+           == DISRUPTOR_OPEN_CLAIM);
+    ring.sender.publish_batch(2, fill);
+    ring.sender.close();
+    EXPECT(ring.receivers[0].receive(2, fill_nothing).end == 0);
+    EXPECT(ring.receivers[0].receive(2, fill_nothing).end == 1);
+}
+
+// The first event is handled only once the second one is claimed, and that one is published only once the handler of the first failed.
+void who_follows_one_that_fails_has_what_it_completed_and_others_have_all() {
+    std::atomic<bool> is_claimed{false};
+    numbers follows, counts;
+    disruptor::builder<std::uint64_t> graph(4);
+    graph.handle("fails", [&](std::uint64_t, std::uint64_t sequence, bool) {
+        while (!is_claimed) std::this_thread::yield();
+        if (sequence == 1) throw std::runtime_error("the second event");
+    });
+    graph.handle("counts", [&](std::uint64_t event, std::uint64_t, bool) { counts.push_back(event); });
+    graph.after({"fails"}).handle("follows", [&](std::uint64_t event, std::uint64_t, bool) { follows.push_back(event); });
+    auto ring = graph.start();
+    EXPECT(refused([&] { (void)graph.start(); }) == DISRUPTOR_NO_HANDLERS);
+    ring.publish_batch(2, fill);
+    ring.publish([&](std::uint64_t &event) {
+        is_claimed = true;
+        std::this_thread::sleep_for(std::chrono::milliseconds(30));
+        event = 2;
+    });
+    EXPECT(thrown<disruptor::handler_failed>([&] { ring.finish(); }) == "a handler threw: fails");
+    EXPECT((follows == numbers{0} && counts == numbers{0, 1, 2}));
+}
+
 void graphs_are_refused_by_name() {
     const auto none = [](const int &, std::uint64_t, bool) {};
     const auto changes = [](int &, std::uint64_t, bool) {};
@@ -122,6 +186,7 @@ void graphs_are_refused_by_name() {
            == "b would change events that another handler reads at the same time");
     EXPECT(refused([&] { (void)disruptor::builder<int>(5).handle("a", none).start(); }) == DISRUPTOR_BAD_SIZE);
     EXPECT(refused([&] { (void)disruptor::builder<int>(4).start(); }) == DISRUPTOR_NO_HANDLERS);
+    EXPECT(refused([&] { (void)disruptor::builder<int>(4).handle("a", none).start_several(SIZE_MAX); }) == DISRUPTOR_BAD_PRODUCERS);
 }
 
 void a_handler_that_throws_halts_the_ring_and_is_named() {
@@ -194,8 +259,17 @@ void a_deadline_ends_a_wait() {
     EXPECT(!ring.sender.try_publish_batch_for(time, 1, fill));
     EXPECT(ring.receivers[0].receive_for(time, 4, see).count == 4);
     EXPECT(ring.sender.watched().count() == 4 && ring.receivers[0].watched().count() == 4);
+    // (no deadline is so late that it is over)
+    EXPECT(ring.sender.try_publish_batch_for(time, 4, fill));
+    std::thread thread([&] {
+        std::this_thread::sleep_for(time);
+        (void)ring.receivers[0].receive(4, see);
+    });
+    EXPECT(ring.sender.try_publish_batch_for(std::chrono::nanoseconds::max(), 4, fill));
+    thread.join();
+    EXPECT(ring.receivers[0].receive(4, see).count == 4);
     ring.sender.close();
-    EXPECT(ring.receivers[0].receive_for(time, 4, see).kind == DISRUPTOR_DRAINED);
+    EXPECT(ring.receivers[0].receive_for(std::chrono::nanoseconds::max(), 4, see).kind == DISRUPTOR_DRAINED);
 }
 
 } // namespace
@@ -206,6 +280,10 @@ int main() {
     a_batch_goes_on_after_the_event_at_which_a_handler_threw();
     a_filler_that_throws_leaves_the_ring_in_order();
     a_receiver_that_goes_away_halts_the_ring();
+    a_sender_that_goes_away_closes_the_ring_or_gives_it_up();
+    an_end_that_was_moved_from_is_not_open();
+    a_filler_that_publishes_is_refused();
+    who_follows_one_that_fails_has_what_it_completed_and_others_have_all();
     graphs_are_refused_by_name();
     a_handler_that_throws_halts_the_ring_and_is_named();
     several_senders_share_a_ring();
