@@ -1,7 +1,7 @@
 //! The ends of a ring, for threads of your own.
 
 use crate::ffi::{disruptor_open_bytes_at, disruptor_open_several_at, Handle};
-use crate::receiver::Receiver;
+use crate::receiver::{Place, Receiver};
 use crate::refusal::{answer, Refusal};
 use crate::ring::Ring;
 use crate::sender::Sender;
@@ -17,6 +17,12 @@ impl<T> Halter<T> {
     /// once the sender is dropped.
     pub fn halt(&self) {
         self.0.halt();
+    }
+}
+
+impl<T> Clone for Halter<T> {
+    fn clone(&self) -> Halter<T> {
+        Halter(Arc::clone(&self.0))
     }
 }
 
@@ -49,13 +55,17 @@ fn is_alone(before: &[u64], k: usize) -> bool {
     (0..before.len()).all(|other| other == k || before[k] >> other & 1 == 1 || before[other] >> k & 1 == 1)
 }
 
+const MOST_SENDERS: usize = 16;
+
 type Ends<T, S> = (S, Vec<Receiver<T>>, Halter<T>);
 
 fn ends<T>(plan: &Plan, receiving: Vec<Handle>, halter: Handle, factory: impl FnMut() -> T) -> Ends<T, ()> {
     let ring = Arc::new(Ring::new(Slots::new(plan.size as usize, factory), halter));
     let before = all_before(&plan.upstreams);
-    let handles = receiving.into_iter().enumerate();
-    let receivers = handles.map(|(k, handle)| Receiver::new(handle, &ring, plan.wait, is_alone(&before, k))).collect();
+    let places = plan.upstreams.iter().enumerate();
+    let places = places.map(|(k, upstreams)| Place { k, upstreams: *upstreams, is_alone: is_alone(&before, k) });
+    let ends = receiving.into_iter().zip(places);
+    let receivers = ends.map(|(handle, place)| Receiver::new(handle, &ring, plan.wait, place)).collect();
     ((), receivers, Halter(ring))
 }
 
@@ -81,6 +91,8 @@ pub fn open_several<T: Send + Sync>(
     senders: usize,
     factory: impl FnMut() -> T,
 ) -> Result<Ends<T, Vec<Sender<T>>>, Refusal> {
+    // (so many, or as many as are refused like them)
+    let senders = senders.min(MOST_SENDERS + 1);
     let (mut sending, mut halter) = (Handle::several(senders), Handle::NEW);
     let mut receiving = Handle::several(plan.upstreams.len());
     let (masks, count, places) = (plan.upstreams.as_ptr(), receiving.len(), receiving.as_mut_ptr());

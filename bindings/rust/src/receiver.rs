@@ -22,7 +22,8 @@ pub enum Polled {
     Drained,
 }
 
-/// A handler went away before it had every event, so the ring is halted, and those who follow it wait no longer.
+/// A handler went away before it had every event, so the ring is halted, and those who follow it wait no longer once they had what
+/// it completed.
 #[derive(Clone, Copy, Debug, PartialEq, Eq)]
 pub struct Broken;
 
@@ -34,6 +35,14 @@ impl fmt::Display for Broken {
 
 impl std::error::Error for Broken {}
 
+/// Where a handler stands in its graph.
+pub(crate) struct Place {
+    pub k: usize,
+    pub upstreams: u64,
+    // Whether each other handler comes before it or after it, so that it has its events alone.
+    pub is_alone: bool,
+}
+
 /// The end of one handler, which is shown every event after those that it follows had it.
 ///
 /// Where a handler panics, the events before the one at which it did are completed. If it is asked to receive again, that one
@@ -42,8 +51,7 @@ pub struct Receiver<T> {
     handle: Handle,
     ring: Arc<Ring<T>>,
     waiting: Waiting,
-    // Whether each other handler comes before it or after it, so that it has its events alone.
-    is_alone: bool,
+    place: Place,
     is_drained: bool,
     // Up to where events are completed, shown, and taken.
     completed: Watch,
@@ -91,10 +99,10 @@ fn complete(handle: &mut Handle, completed: &Watch, upto: u64, bell: &Bell) {
 }
 
 impl<T> Receiver<T> {
-    pub(crate) fn new(handle: Handle, ring: &Arc<Ring<T>>, wait: Wait, is_alone: bool) -> Receiver<T> {
+    pub(crate) fn new(handle: Handle, ring: &Arc<Ring<T>>, wait: Wait, place: Place) -> Receiver<T> {
         let waiting = Waiting::new(wait, ring.slots.len(), &ring.bell);
         let ring = Arc::clone(ring);
-        Receiver { handle, ring, waiting, is_alone, is_drained: false, completed: Watch::default(), shown: 0, taken: 0 }
+        Receiver { handle, ring, waiting, place, is_drained: false, completed: Watch::default(), shown: 0, taken: 0 }
     }
 
     /// Takes more events, `room` at most, where a handler that panicked left none to show.
@@ -140,10 +148,16 @@ impl<T> Receiver<T> {
         timeout: Duration,
         mut handle: impl FnMut(&T, u64, bool),
     ) -> Result<Polled, Refusal> {
-        let deadline = Instant::now() + timeout;
+        let deadline = Instant::now().checked_add(timeout);
+        let mut is_last_look = false;
         loop {
             match self.receive(room, &mut handle)? {
-                Polled::Gating | Polled::Idle if Instant::now() < deadline && !self.ring.is_broken() => self.waiting.wait(),
+                Polled::Gating | Polled::Idle if !is_last_look => {
+                    is_last_look = self.lost_one() || deadline.map_or(false, |it| Instant::now() >= it);
+                    if !is_last_look {
+                        self.waiting.wait();
+                    }
+                }
                 found => {
                     self.waiting.found(if let Polled::Handled(count) = found { count } else { 0 });
                     return Ok(found);
@@ -156,7 +170,7 @@ impl<T> Receiver<T> {
     ///
     /// It panics where another handler neither comes before this one nor after it ([`Receiver::is_alone`]).
     pub fn receive_mut(&mut self, room: u64, handle: impl FnMut(&mut T, u64, bool)) -> Result<Polled, Refusal> {
-        assert!(self.is_alone, "a handler changes events only if each other one comes before it or after it");
+        assert!(self.place.is_alone, "a handler changes events only if each other one comes before it or after it");
         if let Some(found) = self.take(room)? {
             return Ok(found);
         }
@@ -180,19 +194,27 @@ impl<T> Receiver<T> {
 
     fn take_turns(&mut self, mut turn: impl FnMut(&mut Self, u64) -> Result<Polled, Refusal>) -> Result<(), Broken> {
         let room = self.size();
+        let mut is_last_look = false;
         loop {
             match turn(self, room).expect("a poll with room is not refused") {
                 Polled::Handled(count) => self.waiting.found(count),
                 Polled::Drained => return Ok(()),
-                Polled::Gating | Polled::Idle if self.ring.is_broken() => return Err(Broken),
+                Polled::Gating | Polled::Idle if is_last_look => return Err(Broken),
+                // (it looks once more for what that one completed)
+                Polled::Gating | Polled::Idle if self.lost_one() => is_last_look = true,
                 Polled::Gating | Polled::Idle => self.waiting.wait(),
             }
         }
     }
 
+    /// Whether a handler that it follows went away.
+    fn lost_one(&self) -> bool {
+        self.ring.lacks(self.place.upstreams)
+    }
+
     /// Whether each other handler comes before it or after it, so that it has its events alone.
     pub fn is_alone(&self) -> bool {
-        self.is_alone
+        self.place.is_alone
     }
 
     /// How many events it completed, for who watches it.
@@ -218,7 +240,7 @@ impl<T> Receiver<T> {
 impl<T> Drop for Receiver<T> {
     fn drop(&mut self) {
         if !self.is_drained {
-            self.ring.give_up();
+            self.ring.give_up(self.place.k);
         }
     }
 }

@@ -3,20 +3,20 @@
 use crate::ffi::{disruptor_halt_at, Handle};
 use crate::slots::Slots;
 use crate::waiting::Bell;
-use std::sync::atomic::{AtomicBool, Ordering};
+use std::sync::atomic::{AtomicU64, Ordering};
 use std::sync::{Arc, Mutex, PoisonError};
 
 pub(crate) struct Ring<T> {
     pub slots: Slots<T>,
     pub bell: Arc<Bell>,
     halter: Mutex<Handle>,
-    // A handler went away before it had every event, so those who follow it never will have.
-    is_broken: AtomicBool,
+    // The handlers that went away before they had every event, so those who follow them never will have.
+    gone: AtomicU64,
 }
 
 impl<T> Ring<T> {
     pub(crate) fn new(slots: Slots<T>, halter: Handle) -> Ring<T> {
-        Ring { slots, bell: Arc::default(), halter: Mutex::new(halter), is_broken: AtomicBool::new(false) }
+        Ring { slots, bell: Arc::default(), halter: Mutex::new(halter), gone: AtomicU64::new(0) }
     }
 
     pub(crate) fn halt(&self) {
@@ -27,13 +27,14 @@ impl<T> Ring<T> {
         self.bell.ring();
     }
 
-    /// Halts the ring, so that no sender waits for a handler that is gone.
-    pub(crate) fn give_up(&self) {
-        self.is_broken.store(true, Ordering::SeqCst);
+    /// Halts the ring, so that no sender waits for handler `k`, which is gone.
+    pub(crate) fn give_up(&self, k: usize) {
+        self.gone.fetch_or(1 << k, Ordering::SeqCst);
         self.halt();
     }
 
-    pub(crate) fn is_broken(&self) -> bool {
-        self.is_broken.load(Ordering::SeqCst)
+    /// Whether one of these handlers is gone.
+    pub(crate) fn lacks(&self, handlers: u64) -> bool {
+        self.gone.load(Ordering::SeqCst) & handlers != 0
     }
 }

@@ -76,7 +76,8 @@ pub(crate) fn start<T: Send + Sync + 'static>(
     let mut threads = Threads(Vec::new());
     for (Handler { name, work, .. }, mut receiver) in handlers.into_iter().zip(receivers) {
         let completed = receiver.watch();
-        match thread::Builder::new().name(name.clone()).spawn(move || work(&mut receiver)) {
+        // (a thread's name has no zero)
+        match thread::Builder::new().name(name.replace('\0', " ")).spawn(move || work(&mut receiver)) {
             Ok(thread) => threads.0.push(Started { name, completed, thread }),
             // (its receiver and those of the handlers after it are dropped, so those before it end too)
             Err(why) => return Err(Fault::Thread(why.to_string())),
@@ -111,6 +112,11 @@ impl<T: Send + Sync> Disruptor<T> {
     /// Halts the ring: from now on a publication is refused.
     pub fn halt(&self) {
         self.halter.halt();
+    }
+
+    /// What halts the ring from any thread.
+    pub fn halter(&self) -> Halter<T> {
+        self.halter.clone()
     }
 
     /// How many events the handler with this name completed.

@@ -83,7 +83,10 @@ impl<T> Sender<T> {
                 Err(Refusal::NoRoom | Refusal::Contended) if deadline.map_or(true, |it| Instant::now() < it) => {
                     self.waiting.wait();
                 }
-                refused => return refused,
+                refused => {
+                    self.waiting.found_room(0);
+                    return refused;
+                }
             }
         }
     }
@@ -121,7 +124,7 @@ impl<T> Sender<T> {
         timeout: Duration,
         fill: impl FnOnce(Batch<'_, T>) -> R,
     ) -> Result<R, Refusal> {
-        let lo = self.claim_until(n, Some(Instant::now() + timeout))?;
+        let lo = self.claim_until(n, Instant::now().checked_add(timeout))?;
         Ok(self.fill(lo, n, fill))
     }
 

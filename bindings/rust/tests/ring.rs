@@ -1,7 +1,7 @@
 //! What no type says of a ring of slots.
 
 use std::panic::{catch_unwind, AssertUnwindSafe};
-use std::sync::atomic::{AtomicUsize, Ordering};
+use std::sync::atomic::{AtomicBool, AtomicUsize, Ordering};
 use std::sync::Arc;
 use std::time::Duration;
 use verified_disruptor::{open, open_several, Broken, Builder, Counts, Fault, Plan, Polled, Refusal, Wait, MAX_LIMIT};
@@ -135,7 +135,9 @@ fn graphs_are_refused_by_name() {
     assert_eq!(fault(one().handle_mut("b", |_, _, _| ())), Fault::NotAlone("b".into()));
     assert_eq!(fault(Builder::new(5, || 0).handle("a", |_, _, _| ())), Fault::Refused(Refusal::BadSize));
     assert_eq!(fault(Builder::new(4, || 0)), Fault::Refused(Refusal::NoHandlers));
-    assert_eq!(one().build_several(17).err(), Some(Fault::Refused(Refusal::BadProducers)));
+    for senders in [0, 17, usize::MAX] {
+        assert_eq!(one().build_several(senders).err(), Some(Fault::Refused(Refusal::BadProducers)));
+    }
     assert_eq!(Refusal::BadSize.to_string(), "bad-size");
 }
 
@@ -155,6 +157,40 @@ fn a_handler_that_panics_halts_the_ring_and_is_named() {
     assert_eq!(panicked.names(), ["first"]);
     assert!(catch_unwind(AssertUnwindSafe(|| panicked.resume())).is_err());
     assert!(seen.load(Ordering::SeqCst) < 10);
+}
+
+#[test]
+fn who_follows_one_that_panics_has_what_it_completed_and_others_have_all() {
+    let is_claimed = Arc::new(AtomicBool::new(false));
+    let counted: [Arc<AtomicUsize>; 2] = Default::default();
+    let (own, [counts, follows]) = (Arc::clone(&is_claimed), counted.clone());
+    // (the first two events are handled only once the third is claimed, and that one is published only once the second failed)
+    let fails = move |_: &u64, sequence, _| {
+        while !own.load(Ordering::SeqCst) {
+            std::thread::yield_now();
+        }
+        assert!(sequence < 1, "the second event");
+    };
+    let mut disruptor = Builder::new(4, || 0u64)
+        .handle("fails", fails)
+        .handle("counts", move |_, _, _| {
+            counts.fetch_add(1, Ordering::SeqCst);
+        })
+        .after(["fails"])
+        .handle("follows", move |_, _, _| {
+            follows.fetch_add(1, Ordering::SeqCst);
+        })
+        .build()
+        .unwrap();
+    disruptor.publish_batch(2, |_| ()).unwrap();
+    disruptor
+        .publish(|_| {
+            is_claimed.store(true, Ordering::SeqCst);
+            std::thread::sleep(Duration::from_millis(30));
+        })
+        .unwrap();
+    assert_eq!(disruptor.finish().unwrap_err().names(), ["fails"]);
+    assert_eq!(counted.map(|it| it.load(Ordering::SeqCst)), [3, 1]);
 }
 
 #[test]
@@ -238,7 +274,10 @@ fn a_deadline_ends_a_wait() {
     sender.publish_batch_timeout(4, short, |batch| batch.for_each(|event| *event = 7)).unwrap();
     assert_eq!(sender.publish_batch_timeout(1, short, |_| ()), Err(Refusal::NoRoom));
     assert_eq!(receivers[0].receive_timeout(4, short, |event, _, _| assert_eq!(*event, 7)), Ok(Polled::Handled(4)));
-    halter.halt();
+    // (no deadline is so late that it is over)
+    sender.publish_batch_timeout(4, Duration::MAX, |_| ()).unwrap();
+    assert_eq!(receivers[0].receive_timeout(4, Duration::MAX, |_, _, _| ()), Ok(Polled::Handled(4)));
+    halter.clone().halt();
     assert_eq!(sender.publish_batch_timeout(1, short, |_| ()), Err(Refusal::Halted));
     drop(sender);
     assert_eq!(receivers[0].receive_timeout(4, short, |_, _, _| ()), Ok(Polled::Drained));
