@@ -1,8 +1,10 @@
 import java.util.ArrayList;
 import java.util.List;
 import java.util.concurrent.Callable;
+import java.util.concurrent.CountDownLatch;
 import java.util.concurrent.TimeUnit;
 import java.util.concurrent.atomic.AtomicLong;
+import java.util.concurrent.locks.LockSupport;
 import org.verified.disruptor.Broken;
 import org.verified.disruptor.Disruptor;
 import org.verified.disruptor.EventHandler;
@@ -144,7 +146,7 @@ public final class RingTest {
                 "b would change events that another handler reads at the same time");
         refused(Refusal.Reason.BAD_SIZE, () -> one(5).start());
         refused(Refusal.Reason.NO_HANDLERS, () -> new Disruptor<>(Event::new, 4).start());
-        refused(Refusal.Reason.BAD_PRODUCERS, () -> one(4).startSeveral(17));
+        refused(Refusal.Reason.BAD_PRODUCERS, () -> one(4).startSeveral(Integer.MAX_VALUE));
         refused(Refusal.Reason.BAD_PRODUCERS, () -> one(4).startSeveral(0));
     }
 
@@ -170,6 +172,52 @@ public final class RingTest {
         expect(failed.handler(), "first");
         expect(failed.getCause().getMessage(), "too large");
         expect(most.get() < 10, true);
+    }
+
+    private static void aTranslatorThatPublishesIsRefused() throws Exception {
+        Ring<Event> ring = ring(4, 0);
+        Sender<Event> sender = ring.senders().get(0);
+        refused(Refusal.Reason.OPEN_CLAIM, () -> sender.publishEvent((event, sequence) -> sender.publishEvent(RingTest::fill)));
+        sender.publishEvent(RingTest::fill);
+        sender.close();
+        ring.receivers().get(0).run((event, sequence, endOfBatch) -> {});
+        expect(ring.receivers().get(0).completed(), 2L);
+    }
+
+    private static void whoFollowsOneThatFailsHasWhatItCompletedAndOthersHaveAll() {
+        CountDownLatch claimed = new CountDownLatch(1);
+        long[] counted = new long[2];
+        Disruptor<Event> disruptor = new Disruptor<>(Event::new, 4);
+        // (the first two events are handled only once the third is claimed, and that one is published only once the second failed)
+        disruptor.handle("fails", (event, sequence, endOfBatch) -> {
+            claimed.await();
+            if (sequence == 1) {
+                throw new IllegalStateException("the second event");
+            }
+        });
+        disruptor.handle("counts", (event, sequence, endOfBatch) -> counted[0]++);
+        disruptor.after("fails").handle("follows", (event, sequence, endOfBatch) -> counted[1]++);
+        disruptor.start();
+        disruptor.publishEvents(2, RingTest::fill);
+        disruptor.publishEvent((event, sequence) -> {
+            claimed.countDown();
+            LockSupport.parkNanos(30_000_000);
+        });
+        expect(fault(disruptor::shutdown), "the handler fails threw");
+        expect(List.of(counted[0], counted[1]), List.of(3L, 1L));
+    }
+
+    private static void namesAndGroupsMix() {
+        EventHandler<Event> none = (event, sequence, endOfBatch) -> {};
+        Disruptor<Event> disruptor = one(4);
+        disruptor.handleEventsWith(none).then(none);
+        // (a group leaves those that come next by name where they were: "b" follows nobody)
+        expect(fault(() -> disruptor.handleChanging("b", none).after("a", "handler-1", "b").handleChanging("c", none).start()),
+                "b would change events that another handler reads at the same time");
+        expect(thrown(() -> {
+            new Disruptor<>(Event::new, 4).publishEvent((event, sequence) -> {});
+            return null;
+        }).getClass(), IllegalStateException.class);
     }
 
     private static void severalSendersShareARing() throws InterruptedException {
@@ -239,6 +287,9 @@ public final class RingTest {
         thoseWhoFollowOneThatGaveUpEnd();
         graphsAreRefusedByName();
         aHandlerThatThrowsHaltsTheRingAndIsNamed();
+        aTranslatorThatPublishesIsRefused();
+        whoFollowsOneThatFailsHasWhatItCompletedAndOthersHaveAll();
+        namesAndGroupsMix();
         severalSendersShareARing();
         handlersFollowOneAnotherAsInLmaxsDsl();
         aDeadlineEndsAWait();

@@ -114,11 +114,13 @@ public final class Disruptor<T> implements AutoCloseable {
 
     private EventHandlerGroup addAll(long upstreams, List<EventHandler<? super T>> next) {
         long members = 0;
+        long named = after;
         after = upstreams;
         for (EventHandler<? super T> handler : next) {
             members |= 1L << handlers.size();
             add("handler-" + handlers.size(), handler, false);
         }
+        after = named;
         return new EventHandlerGroup(members);
     }
 
@@ -137,14 +139,17 @@ public final class Disruptor<T> implements AutoCloseable {
     private void work(Handler<T> handler, Receiver<T> receiver, Ring<T> own) {
         try {
             receiver.run(handler.handler);
-        } catch (Broken broken) {
-            // (who broke the ring is named)
         } catch (Throwable thrown) {
-            synchronized (this) {
-                failed = failed == null ? new HandlerFailed(handler.name, thrown) : failed;
+            // (where one that it follows is gone, that one is named)
+            if (!(thrown instanceof Broken) || !((Broken) thrown).isOf(own)) {
+                fail(handler.name, thrown);
             }
-            own.giveUp();
+            receiver.giveUp();
         }
+    }
+
+    private synchronized void fail(String name, Throwable thrown) {
+        failed = failed == null ? new HandlerFailed(name, thrown) : failed;
     }
 
     private Ring<T> open(int senders) {
@@ -192,24 +197,31 @@ public final class Disruptor<T> implements AutoCloseable {
         return open(senders).senders();
     }
 
+    private static <E> E started(E end) {
+        if (end == null) {
+            throw new IllegalStateException("it has not started, or has several senders");
+        }
+        return end;
+    }
+
     /** Publishes an event by the one sender, once there is room for it and it is filled. */
     public void publishEvent(EventTranslator<? super T> translator) {
-        sender.publishEvent(translator);
+        started(sender).publishEvent(translator);
     }
 
     /** Publishes n events together. */
     public void publishEvents(int n, EventTranslator<? super T> translator) {
-        sender.publishEvents(n, translator);
+        started(sender).publishEvents(n, translator);
     }
 
     /** How many events the handler with this name completed. Any thread may ask that once it has started. */
     public long completed(String name) {
-        return ring.receivers().get(place(name)).completed();
+        return started(ring).receivers().get(place(name)).completed();
     }
 
-    /** Halts the ring: from now on a publication is refused. */
+    /** Halts the ring, from any thread: from now on a publication is refused. */
     public void halt() {
-        ring.halt();
+        started(ring).halt();
     }
 
     /**

@@ -1,6 +1,7 @@
 package org.verified.disruptor;
 
 import java.lang.invoke.VarHandle;
+import java.lang.ref.Reference;
 import java.util.concurrent.TimeUnit;
 import java.util.concurrent.atomic.AtomicLong;
 
@@ -18,21 +19,32 @@ public final class Receiver<T> {
     private final long answer;
     private final Waiting waiting;
     private final AtomicLong completed = new AtomicLong();
+    // Its own bit among those of the ring's handlers, and those that it waits for.
+    private final long own;
+    private final long upstreams;
     private long shown;
     private long taken;
     private boolean isDrained;
+    private boolean isLastLook;
 
-    Receiver(Ring<T> ring, long handle, long answer) {
+    /** The bit of who gives up the whole ring. */
+    private static final long WHOLE = Long.MIN_VALUE;
+
+    Receiver(Ring<T> ring, long handle, long answer, int place, long upstreams) {
         this.ring = ring;
         this.handle = handle;
         this.answer = answer;
+        own = 1L << place;
+        this.upstreams = upstreams | WHOLE;
         waiting = new Waiting(ring.size(), ring.bell);
     }
 
     private void complete(long upto) {
         if (completed.getPlain() < upto) {
             VarHandle.releaseFence();
-            Answers.check(Native.complete(handle, upto));
+            int refused = Native.complete(handle, upto);
+            Reference.reachabilityFence(this);
+            Answers.check(refused);
             completed.setRelease(upto);
             ring.bell.ring();
         }
@@ -44,18 +56,31 @@ public final class Receiver<T> {
         if (shown < taken || isDrained) {
             return false;
         }
-        long count = Answers.checkedPoll(Native.poll(handle, answer, ring.size()));
+        long found = Native.poll(handle, answer, ring.size());
+        Reference.reachabilityFence(this);
+        long count = Answers.checkedPoll(found);
         if (count > 0) {
+            isLastLook = false;
             VarHandle.acquireFence();
             waiting.found(count);
             taken += count;
             return false;
         }
         isDrained = count == Answers.DRAINED;
-        if (!isDrained && ring.isBroken()) {
-            throw new Broken();
+        if (isDrained) {
+            return false;
         }
-        return !isDrained;
+        if (isLastLook) {
+            throw new Broken(ring);
+        }
+        // (where one that it follows is gone, it looks once more for what that one completed)
+        isLastLook = ring.isGone(upstreams);
+        return isLastLook ? lacks() : true;
+    }
+
+    /** Halts the ring for this handler, which goes away before it had every event, so that nobody waits for it. */
+    public void giveUp() {
+        ring.giveUp(own);
     }
 
     /** Shows the events that are in hand, and answers how many. */

@@ -3,6 +3,7 @@ package org.verified.disruptor;
 import java.lang.ref.Cleaner;
 import java.util.ArrayList;
 import java.util.List;
+import java.util.concurrent.atomic.AtomicLong;
 import java.util.function.Supplier;
 
 /**
@@ -18,12 +19,18 @@ public final class Ring<T> {
     /** How many bytes lie from one handle of a ring to the next. */
     private static final long HANDLE = 128;
 
+    /** More senders than this are refused, however many. */
+    private static final int MOST_SENDERS = 16;
+
+    private static final long ALL = -1;
+
     private static final Cleaner CLEANER = Cleaner.create();
 
     final Bell bell = new Bell();
     private final Object[] events;
     private final long halter;
-    private volatile boolean isBroken;
+    // The handlers that went away before they had every event, as bits, and one more bit for who gave up the whole ring.
+    private final AtomicLong gone = new AtomicLong();
     private final List<Sender<T>> senders = new ArrayList<>();
     private final List<Receiver<T>> receivers = new ArrayList<>();
 
@@ -41,7 +48,7 @@ public final class Ring<T> {
             senders.add(new Sender<>(this, handles + HANDLE * k, handles + HANDLE * (count + k)));
         }
         for (int k = first; k < count - 1; k++) {
-            receivers.add(new Receiver<>(this, handles + HANDLE * k, handles + HANDLE * (count + k)));
+            receivers.add(new Receiver<>(this, handles + HANDLE * k, handles + HANDLE * (count + k), k - first, upstreams[k - first]));
         }
     }
 
@@ -55,7 +62,7 @@ public final class Ring<T> {
         if (senders <= 0) {
             throw new Refusal(Refusal.Reason.BAD_PRODUCERS.number());
         }
-        return new Ring<T>(size, limit, senders, factory, upstreams);
+        return new Ring<T>(size, limit, Math.min(senders, MOST_SENDERS + 1), factory, upstreams);
     }
 
     /** Its senders, each for one thread. */
@@ -74,14 +81,19 @@ public final class Ring<T> {
         bell.ring();
     }
 
-    /** Halts the ring for a handler that goes away before it had every event, so that nobody waits for it. */
+    /** Halts the ring for good, so that nobody waits any more: each handler ends once it finds no event. */
     public void giveUp() {
-        isBroken = true;
+        giveUp(ALL);
+    }
+
+    /** Halts the ring for handlers that go away before they had every event, so that nobody waits for them. */
+    void giveUp(long handlers) {
+        gone.getAndUpdate(all -> all | handlers);
         halt();
     }
 
-    boolean isBroken() {
-        return isBroken;
+    boolean isGone(long handlers) {
+        return (gone.get() & handlers) != 0;
     }
 
     int size() {

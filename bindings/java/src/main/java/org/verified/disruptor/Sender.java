@@ -1,11 +1,13 @@
 package org.verified.disruptor;
 
 import java.lang.invoke.VarHandle;
+import java.lang.ref.Reference;
 import java.util.concurrent.TimeUnit;
 import java.util.concurrent.atomic.AtomicLong;
 
 /**
- * An end that fills events where they lie and publishes them, for one thread.
+ * An end that fills events where they lie and publishes them, for one thread. A translator that publishes by the same end is refused
+ * with {@code OPEN_CLAIM}.
  *
  * @param <T> the class of the events
  */
@@ -15,6 +17,7 @@ public final class Sender<T> {
     private final long answer;
     private final Waiting waiting;
     private final AtomicLong published = new AtomicLong();
+    private boolean isFilling;
 
     Sender(Ring<T> ring, long handle, long answer) {
         this.ring = ring;
@@ -25,7 +28,11 @@ public final class Sender<T> {
 
     /** The first of n sequences, or less than 0 where there is no room now, or another sender came first. */
     private long tryClaim(long n) {
+        if (isFilling) {
+            throw new Refusal(Refusal.Reason.OPEN_CLAIM.number());
+        }
         long first = Native.claim(handle, answer, n);
+        Reference.reachabilityFence(this);
         if (first >= 0) {
             VarHandle.acquireFence();
             return first;
@@ -49,13 +56,17 @@ public final class Sender<T> {
     /** Publishes what lies there, also where the filling throws, so that the ring stays in order. */
     private void fillAndPublish(long first, long n, EventTranslator<? super T> translator) {
         waiting.foundRoom(n);
+        isFilling = true;
         try {
             for (long sequence = first; sequence < first + n; sequence++) {
                 translator.translateTo(ring.get(sequence), sequence);
             }
         } finally {
+            isFilling = false;
             VarHandle.releaseFence();
-            Answers.check(Native.publish(handle, first, first + n - 1));
+            int refused = Native.publish(handle, first, first + n - 1);
+            Reference.reachabilityFence(this);
+            Answers.check(refused);
             published.setRelease(published.getPlain() + n);
             ring.bell.ring();
         }
@@ -90,6 +101,7 @@ public final class Sender<T> {
         long begun = System.nanoTime();
         while (!tryPublishEvents(n, translator)) {
             if (System.nanoTime() - begun >= unit.toNanos(timeout)) {
+                waiting.foundRoom(0);
                 return false;
             }
             waiting.await();
@@ -104,7 +116,9 @@ public final class Sender<T> {
 
     /** Closes the ring of one sender: no event comes any more. */
     public void close() {
-        Answers.check(Native.close(handle));
+        int refused = Native.close(handle);
+        Reference.reachabilityFence(this);
+        Answers.check(refused);
         ring.bell.ring();
     }
 }
