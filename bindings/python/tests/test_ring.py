@@ -125,6 +125,51 @@ class Ring(unittest.TestCase):
         self.assertEqual(str(raised.exception.__cause__), "too large")
         self.assertTrue(all(number < 10 for number in seen))
 
+    def test_who_follows_one_that_fails_has_what_it_completed_and_others_have_all(self):
+        claimed, follows, counts = threading.Event(), [], []
+
+        # (the first two events are handled only once the third is claimed, and that one is published only once the second failed)
+        def fail(event, sequence, is_last):
+            claimed.wait()
+            if sequence == 1:
+                raise ValueError
+
+        disruptor = Disruptor(4, Event).handle("fails", fail).handle("counts", lambda *shown: counts.append(shown[1]))
+        disruptor.after("fails").handle("follows", lambda *shown: follows.append(shown[1]))
+        with self.assertRaises(HandlerFailed) as raised, disruptor.sender() as sender:
+            send(sender, [0, 1])
+            with sender.event():
+                claimed.set()
+                time.sleep(0.03)
+        self.assertEqual((raised.exception.name, follows, counts), ("fails", [0], [0, 1, 2]))
+
+    def test_a_sender_has_one_claim_at_a_time(self):
+        seen = []
+        disruptor = Disruptor(4, Event).handle("sees", lambda event, sequence, is_last: seen.append(sequence))
+        with disruptor.sender() as sender:
+            with sender.event():
+                self.refused(Reason.OPEN_CLAIM, sender.event().__enter__)
+            send(sender, [1])
+            # (a claim whose end an interrupt took away is published when the ring ends)
+            sender.events(2).__enter__()
+        self.assertEqual(seen, [0, 1, 2, 3])
+
+    def test_an_interrupt_right_after_a_claim_leaves_none_open(self):
+        ends = ends_of(4, [0])
+        with unittest.mock.patch.object(Events, "at", side_effect=KeyboardInterrupt), self.assertRaises(KeyboardInterrupt):
+            ends.senders[0].event().__enter__()
+        self.assertEqual(ends.senders[0].progress(), (1, 1))
+
+    def test_numbers_that_no_call_can_have_are_refused(self):
+        ends = ends_of(4, [0])
+        for n in (-1, (1 << 64) + 1):
+            self.refused(Reason.BAD_COUNT, ends.senders[0].events(n).__enter__)
+            self.refused(Reason.BAD_SIZE, ends_of, n << 2, [0])
+            self.refused(Reason.BAD_ORDER, ends_of, 4, [0, n])
+            self.refused(Reason.BAD_PRODUCERS, ends_of, 4, [0], n)
+            self.refused(Reason.BAD_LIMIT, Ends, 4, lambda size: Events(size, Event), [0], None, n)
+        self.assertEqual(ends.senders[0].progress(), (0, 0))
+
     def test_an_event_outside_a_with_is_not_claimed(self):
         seen = []
         disruptor = Disruptor(4, Event).handle("sees", lambda event, sequence, is_last: seen.append(sequence))
@@ -197,7 +242,15 @@ class Ring(unittest.TestCase):
                 sender.send(array.array("Q", [k, 1, k + 1, 1, k + 2, 1]))
             with self.assertRaises(ValueError):
                 sender.send(array.array("Q", [1]))
-        self.assertEqual(seen, [it for k in range(60) for it in (k, k + 1)])
+            with sender.event() as record:
+                record[0], record[1] = 60, 1
+        self.assertEqual(seen, [it for k in range(61) for it in (k, k + 1)])
+        one_by_one = []
+        disruptor = Disruptor(4, record="QQ")
+        disruptor.handle("sees", lambda record, sequence, is_last: one_by_one.append((*record, sequence)))
+        with disruptor.sender() as sender:
+            sender.send(array.array("Q", range(6)))
+        self.assertEqual(one_by_one, [(0, 1, 0), (2, 3, 1), (4, 5, 2)])
         self.assertRaises(ValueError, Records, 4, "QI")
 
     def test_a_thread_that_sleeps_is_woken(self):

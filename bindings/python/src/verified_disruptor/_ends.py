@@ -3,19 +3,30 @@
 from __future__ import annotations
 
 import ctypes
+import threading
 import time
 from collections.abc import Callable, Sequence
 from typing import Any
 
-from ._library import BATCH, DRAINED, LIBRARY, MAX_LIMIT, Counts, Handle, Offer, Reason, Refusal, check
+from ._library import BATCH, DRAINED, LIBRARY, MAX_LIMIT, Counts, Handle, Offer, Reason, Refusal, check, number_or
 from ._slots import Events, Records
 from ._waiting import Bell, Waiting
 
 _WAITED_OUT = (Reason.NO_ROOM, Reason.CONTENDED)
+# More senders than this are refused, however many.
+_MOST_SENDERS = 16
+# The bit of who gives up the whole ring, among those of its handlers.
+_WHOLE = 1 << 63
+_NO_SEQUENCE = (1 << 64) - 1
 
 
 class Broken(Exception):
-    """A handler went away before it had every event: the ring is halted, and those who follow it wait no longer."""
+    """A handler went away before it had every event: the ring is halted, and those who follow it wait no longer once they had what
+    it completed."""
+
+    def __init__(self, ends: Ends):
+        super().__init__("a handler went away before it had every event")
+        self.ends = ends
 
 
 class Ends:
@@ -30,8 +41,14 @@ class Ends:
         senders: int | None = None,
         limit: int = MAX_LIMIT,
     ):
+        self._handles = (Handle * 0)()
+        if senders is not None:
+            senders = min(max(senders, 0), _MOST_SENDERS + 1)
+        size, limit = number_or(0, size), number_or(0, limit)
+        upstreams = [number_or(_NO_SEQUENCE, mask) for mask in upstreams]
         count, first = len(upstreams), senders or 1
-        self.bell, self.is_broken = Bell(), False
+        # (the handlers that went away before they had every event, as bits)
+        self.bell, self._gone, self._lock = Bell(), 0, threading.Lock()
         self._handles = (Handle * (first + count + 1))()
         at = [ctypes.addressof(handle) for handle in self._handles]
         masks = (ctypes.c_uint64 * max(count, 1))(*upstreams)
@@ -45,20 +62,25 @@ class Ends:
         self.slots = make(size)
         self._halter = at[first + count]
         self.senders = [Sender(self, place) for place in at[:first]]
-        self.receivers = [Receiver(self, place) for place in at[first:-1]]
+        self.receivers = [Receiver(self, place, k, mask) for k, (place, mask) in enumerate(zip(at[first:-1], upstreams))]
 
-    def __del__(self) -> None:
-        LIBRARY.disruptor_free_at(ctypes.addressof(self._handles), len(self._handles))
+    # (the names of a module may be gone when a program ends)
+    def __del__(self, free: Any = LIBRARY.disruptor_free_at, address: Any = ctypes.addressof) -> None:
+        free(address(self._handles), len(self._handles))
 
     def halt(self) -> None:
         """Nobody claims from now on."""
         check(LIBRARY.disruptor_halt_at(self._halter, 1))
         self.bell.ring()
 
-    def give_up(self) -> None:
-        """Halts the ring for a handler that goes away too early, so that nobody waits for it."""
-        self.is_broken = True
+    def give_up(self, ends: int = _WHOLE) -> None:
+        """Halts the ring for good, so that nobody waits any more: each handler ends once it finds no event."""
+        with self._lock:
+            self._gone |= ends
         self.halt()
+
+    def is_gone(self, ends: int) -> bool:
+        return self._gone & ends != 0
 
 
 class _End:
@@ -77,29 +99,43 @@ class _Claim:
     """Events that its `with` claims, once there is room, and publishes at its end, filled or not: the next one, or a batch."""
 
     def __init__(self, sender: Sender, n: int, is_batch: bool, timeout: float | None):
-        self._sender, self._n, self._is_batch, self._timeout, self._lo = sender, n, is_batch, timeout, 0
+        self._sender, self._n, self._is_batch, self._timeout = sender, n, is_batch, timeout
 
     def __enter__(self) -> Any:
-        self._lo = self._sender._claim(self._n, self._timeout)
-        slots = self._sender._ends.slots
-        return slots.stretch(self._lo, self._n) if self._is_batch else slots.items[self._lo & (slots.size - 1)]
+        slots = self._sender.slots_to_claim()
+        try:
+            lo = self._sender.claim(self._n, self._timeout)
+            return slots.stretch(lo, self._n) if self._is_batch else slots.at(lo)
+        except BaseException:
+            # (an interrupt may come between the claim and the `with`)
+            self._sender.publish_claim()
+            raise
 
     def __exit__(self, *raised: object) -> None:
-        self._sender._publish(self._lo, self._n)
+        self._sender.publish_claim()
 
 
 class Sender(_End):
-    """An end that fills events and publishes them, for one thread."""
+    """An end that fills events and publishes them, for one thread. It has one claim at a time: another one is refused, OPEN_CLAIM."""
 
     def __init__(self, ends: Ends, handle: int):
         super().__init__(ends, handle)
-        self._lo, self._waiting = ctypes.c_uint64(), Waiting(ends.bell)
-        self._lo_at = ctypes.addressof(self._lo)
+        # (the claim that is not published, where there is one: the library writes its first sequence there)
+        self._lo, self._n = ctypes.c_uint64(_NO_SEQUENCE), 0
+        self._lo_at, self._waiting = ctypes.addressof(self._lo), Waiting(ends.bell)
         # (how many events it published, which any thread may read)
         self.published = 0
 
-    def _claim(self, n: int, timeout: float | None) -> int:
+    def slots_to_claim(self) -> Events | Records:
+        """The slots, where no claim is open."""
+        if self._lo.value != _NO_SEQUENCE:
+            raise Refusal(Reason.OPEN_CLAIM)
+        return self._ends.slots
+
+    def claim(self, n: int, timeout: float | None) -> int:
+        """The first of n sequences, once there is room."""
         deadline = None if timeout is None else time.monotonic() + timeout
+        self._n = n = number_or(0, n)
         while True:
             number = LIBRARY.disruptor_claim_at(self._handle, 1, n, self._lo_at, 1)
             if not number:
@@ -110,10 +146,14 @@ class Sender(_End):
                 raise Refusal(number)
             self._waiting.wait()
 
-    def _publish(self, lo: int, n: int) -> None:
-        check(LIBRARY.disruptor_publish_slots_at(self._handle, 1, lo, lo + n - 1))
-        self.published += n
-        self._ends.bell.ring()
+    def publish_claim(self) -> None:
+        """Publishes the claim that is open, where there is one: at the end of its `with`, or where an interrupt kept that from it."""
+        lo = self._lo.value
+        if lo != _NO_SEQUENCE:
+            check(LIBRARY.disruptor_publish_slots_at(self._handle, 1, lo, lo + self._n - 1))
+            self._lo.value = _NO_SEQUENCE
+            self.published += self._n
+            self._ends.bell.ring()
 
     def event(self, timeout: float | None = None) -> _Claim:
         """The next event, once there is room, for a `with` that fills it: `with sender.event() as order: order.price = 3`.
@@ -151,8 +191,9 @@ class Receiver(_End):
     handled, and it goes on after it.
     """
 
-    def __init__(self, ends: Ends, handle: int):
+    def __init__(self, ends: Ends, handle: int, place: int, upstreams: int):
         super().__init__(ends, handle)
+        self._own, self._upstreams = 1 << place, upstreams | _WHOLE
         self._offer, self._waiting = Offer(), Waiting(ends.bell)
         self._offer_at = ctypes.addressof(self._offer)
         # (how many events it completed, which any thread may read)
@@ -170,8 +211,9 @@ class Receiver(_End):
         self._complete(self._shown)
         if self._shown < self._taken:
             return True
+        room, is_last_look = min(room or self._ends.slots.size, self._ends.slots.size), False
         while True:
-            check(LIBRARY.disruptor_poll_slots_at(self._handle, 1, room or self._ends.slots.size, self._offer_at, 1))
+            check(LIBRARY.disruptor_poll_slots_at(self._handle, 1, room, self._offer_at, 1))
             if self._offer.kind == BATCH:
                 self._waiting.found()
                 self._taken = self._offer.first + self._offer.count
@@ -180,14 +222,21 @@ class Receiver(_End):
             if self.is_drained or (deadline is not None and time.monotonic() >= deadline):
                 self._waiting.found()
                 return False
-            if self._ends.is_broken:
-                raise Broken
-            self._waiting.wait()
+            if is_last_look:
+                raise Broken(self._ends)
+            # (where one that it follows is gone, it looks once more for what that one completed)
+            is_last_look = self._ends.is_gone(self._upstreams)
+            if not is_last_look:
+                self._waiting.wait()
+
+    def give_up(self) -> None:
+        """Halts the ring for this handler, which goes away before it had every event, so that nobody waits for it."""
+        self._ends.give_up(self._own)
 
     def _show(self, handle: Callable[[Any, int, bool], object]) -> int:
         first, last = self._shown, self._taken - 1
         try:
-            for event in self._ends.slots.stretch(first, self._taken - first):
+            for event in self._ends.slots.each(first, self._taken - first):
                 handle(event, self._shown, self._shown == last)
                 self._shown += 1
         except BaseException:

@@ -85,6 +85,7 @@ class Disruptor:
         if len(started) < len(threads):
             ends.give_up()
         elif senders is None:
+            ends.senders[0].publish_claim()
             ends.senders[0].close()
         else:
             ends.halt()
@@ -101,11 +102,11 @@ class Disruptor:
         def work(name: str, run: Callable[[Receiver], None], receiver: Receiver) -> None:
             try:
                 run(receiver)
-            except Broken:
-                pass
             except BaseException as error:
-                failed.append((name, error))
-                ends.give_up()
+                # (where one that it follows is gone, that one is named)
+                if not (isinstance(error, Broken) and error.ends is ends):
+                    failed.append((name, error))
+                receiver.give_up()
 
         threads = [
             threading.Thread(target=work, args=each, name=each[0]) for each in zip(self._names, self._runs, ends.receivers)

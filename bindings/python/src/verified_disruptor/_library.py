@@ -94,6 +94,13 @@ def _load() -> ctypes.PyDLL:
 
 
 LIBRARY = _load()
+# (ctypes would cut longer numbers short)
+_LONGEST = (1 << 64) - 1
+
+
+def number_or(refused: int, number: int) -> int:
+    """A number that the library may be asked, or else one that it refuses."""
+    return number if 0 <= number <= _LONGEST else refused
 
 
 def check(number: int) -> None:

@@ -3,7 +3,7 @@
 from __future__ import annotations
 
 import struct
-from collections.abc import Callable
+from collections.abc import Callable, Iterable
 from typing import Any
 
 
@@ -13,6 +13,14 @@ class Events:
     def __init__(self, size: int, factory: Callable[[], Any]):
         self.size = size
         self.items = [factory() for _ in range(size)]
+
+    def at(self, sequence: int) -> Any:
+        """The event of a sequence."""
+        return self.items[sequence & (self.size - 1)]
+
+    def each(self, first: int, count: int) -> Iterable[Any]:
+        """The events of the sequences from `first` on, one by one."""
+        return self.stretch(first, count)
 
     def stretch(self, first: int, count: int) -> list:
         """The events of the sequences from `first` on, in order."""
@@ -29,6 +37,15 @@ class Records:
             raise ValueError("a record has items of one kind")
         self.size, self.width, self.bytes = size, len(record), struct.calcsize(record)
         self.items = memoryview(bytearray(size * self.bytes)).cast(record[0])
+
+    def at(self, sequence: int) -> memoryview:
+        """The items of the record of a sequence."""
+        at = (sequence & (self.size - 1)) * self.width
+        return self.items[at : at + self.width]
+
+    def each(self, first: int, count: int) -> Iterable[memoryview]:
+        """The items of each record from `first` on."""
+        return map(self.at, range(first, first + count))
 
     def stretch(self, first: int, count: int) -> tuple[memoryview, ...]:
         """The items of the records from `first` on: one view, or two where they go round the end of the slots."""
