@@ -3,7 +3,7 @@ program := crates/disruptor
 log := make.log
 sources = $(shell find crates \( -name '*.rt' -o -name '*.antt' \) -not -path '*/out/*')
 
-.PHONY: all run try test check lib install dist bench bench-plots hello clean help
+.PHONY: all run try test check lib install install-lib dist bench bench-plots hello clean help
 
 ifneq ($(filter-out help clean bench-plots,$(or $(MAKECMDGOALS),all)),)
 ifeq ($(shell command -v rt),)
@@ -44,15 +44,18 @@ lib:
 	@tools/library.sh out $(abspath $(PREFIX))
 	@tools/packages.sh out
 
-install: disruptor lib
-	install -d $(into)/bin $(into)/lib/pkgconfig $(into)/lib/cmake/disruptor $(into)/include
+install: disruptor install-lib
+	install -d $(into)/bin
 	install -m 755 disruptor $(into)/bin
+	find share -type f -exec install -D -m 644 '{}' '$(into)/{}' ';'
+
+install-lib: lib
+	install -d $(into)/lib/pkgconfig $(into)/lib/cmake/disruptor $(into)/include
 	install -m 644 out/libdisruptor.a $(into)/lib
 	cp -P out/libdisruptor.so* $(into)/lib
 	install -m 644 out/disruptor.pc $(into)/lib/pkgconfig
 	install -m 644 include/* $(into)/include
 	install -m 644 bindings/cpp/*.cmake $(into)/lib/cmake/disruptor
-	find share -type f -exec install -D -m 644 '{}' '$(into)/{}' ';'
 	tools/man_pages.py '$(into)/share/man/man3'
 
 # For those who have no kit.
@@ -84,7 +87,8 @@ help:
 	@echo '                            changed, from 3 minutes on'
 	@echo '  make lib                  proves and builds in out/ the library for other languages, a wheel and a jar: some minutes'
 	@echo '  make dist                 packs library, headers and packages in a tarball in out/, for those who have no kit'
-	@echo '  make install PREFIX=/opt  installs program, libraries, headers and man pages there, or else in /usr/local'
+	@echo '  make install PREFIX=/opt  installs program, libraries, headers and man pages there, or else in /usr/local; install-lib all but'
+	@echo '                            the program'
 	@echo '  make bench                events a second of core and ring: some minutes, and many where other work runs'
 	@echo '  make bench-plots          draws what bench/measured holds, as docs/pictures, and writes its tables: seconds'
 	@echo '  make hello DIR=../hello   starts a repository of your own in that folder, with a program over the ring, which is proved, built'

@@ -254,7 +254,7 @@ static inline uint32_t disruptor_write(disruptor_sender *sender, uint64_t sequen
     return disruptor_write_at(DISRUPTOR_ONE(disruptor_sender, sender), sequence, DISRUPTOR_ONE(const disruptor_event, event));
 }
 
-/* The same in a ring of bytes: copies `length` bytes, just as many as an event of the ring has, to where the event lies.
+/* As disruptor_write, in a ring of bytes: copies `length` bytes, just as many as an event of the ring has, to where the event lies.
  * Refusals: BAD_POINTER (of either), NOT_OPEN, WRONG_END, BAD_LENGTH, NOT_CLAIMED, ALREADY_PUBLISHED. */
 static inline uint32_t disruptor_write_bytes(disruptor_sender *sender, uint64_t sequence, const void *bytes, size_t length) {
     const uint8_t *from = (const uint8_t *)bytes;
@@ -269,8 +269,8 @@ static inline uint32_t disruptor_publish(disruptor_sender *sender, uint64_t lo, 
     return disruptor_publish_at(DISRUPTOR_ONE(disruptor_sender, sender), lo, hi);
 }
 
-/* The same in a ring of slots, where no call writes: publishes the sequences from lo to hi with what lies in their slots. In a ring
- * of bytes each event is then what was written last of its slot. Refusals: BAD_POINTER, NOT_OPEN, WRONG_END (also the sender of one
+/* As disruptor_publish, in a ring of slots, where no call writes: publishes the sequences from lo to hi with what lies in their slots.
+ * In a ring of bytes each event is then what was written last of its slot. Refusals: BAD_POINTER, NOT_OPEN, WRONG_END (also the sender of one
  * whose events are two words), BAD_COUNT, NOT_CLAIMED, ALREADY_PUBLISHED, OUT_OF_ORDER, as of disruptor_publish. A refused one may
  * leave sequences of the stretch counted as written, which only disruptor_publish asks about. */
 static inline uint32_t disruptor_publish_slots(disruptor_sender *sender, uint64_t lo, uint64_t hi) {
@@ -298,7 +298,7 @@ static inline uint32_t disruptor_poll_bytes(disruptor_receiver *receiver, uint64
     return disruptor_poll_bytes_at(DISRUPTOR_ONE(disruptor_receiver, receiver), room, DISRUPTOR_ONE(disruptor_offer, offer));
 }
 
-/* The same in a ring of slots, of one sender or of several: the handler may use the slots of the batch until it completes them.
+/* As disruptor_poll_bytes, in a ring of slots, of one sender or of several: the handler may use the slots of the batch until it completes them.
  * Refusals: those of disruptor_poll_bytes. */
 static inline uint32_t disruptor_poll_slots(disruptor_receiver *receiver, uint64_t room, disruptor_offer *offer) {
     return disruptor_poll_slots_at(DISRUPTOR_ONE(disruptor_receiver, receiver), room, DISRUPTOR_ONE(disruptor_offer, offer));
@@ -439,7 +439,7 @@ static inline void disruptor_found(disruptor_waiting *waiting, uint64_t count) {
     waiting->looks = waiting->heard = 0;
 }
 
-/* The same after a claim of so many events: a sender claims again at once, so what counts is how many found room until it waits
+/* As disruptor_found, after a claim of so many events: a sender claims again at once, so what counts is how many found room until it waits
  * again, which disruptor_wait tells disruptor_found. */
 static inline void disruptor_found_room(disruptor_waiting *waiting, uint64_t count) {
     waiting->found += count;
@@ -466,6 +466,20 @@ static inline void disruptor_wait(disruptor_waiting *waiting) {
     }
     for (uint32_t k = 0; k < waiting->pauses; k++) disruptor_pause();
     waiting->paused++;
+}
+
+/* Keeps the calling thread on one processor, counted from 0, and answers whether it does: on Linux, where the program may use it. */
+static inline bool disruptor_pin(unsigned processor) {
+#ifdef __linux__
+    unsigned long mask[16] = {0};
+    const unsigned bits = 8 * sizeof *mask;
+    if (processor / bits >= sizeof mask / sizeof *mask) return false;
+    mask[processor / bits] = 1ul << processor % bits;
+    return syscall(SYS_sched_setaffinity, 0, sizeof mask, mask) == 0;
+#else
+    (void)processor;
+    return false;
+#endif
 }
 
 /* Nanoseconds of a clock that nobody sets, on Linux. */

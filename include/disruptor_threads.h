@@ -246,7 +246,7 @@ static inline uint32_t disruptor_next(disruptor_graph *graph, uint64_t n, uint64
     return disruptor_claim_within(&graph->sender, n, lo, &graph->waiting, DISRUPTOR_FOREVER);
 }
 
-/* The same, or NO_ROOM where there is none when so many nanoseconds are over; it may take ten milliseconds more. */
+/* As disruptor_next, or NO_ROOM where there is none when so many nanoseconds are over; it may take ten milliseconds more. */
 static inline uint32_t disruptor_next_within(disruptor_graph *graph, uint64_t n, uint64_t *lo, uint64_t nanoseconds) {
     return disruptor_claim_within(&graph->sender, n, lo, &graph->waiting, nanoseconds);
 }

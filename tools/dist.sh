@@ -25,13 +25,17 @@ rm -rf "$to/rust/target" "$to/rust/Cargo.lock"
 for it in "$out"/*.whl "$out/disruptor.jar"; do
     if [ -f "$it" ]; then cp "$it" "$to"; fi
 done
+mkdir -p "$to/share/doc/disruptor"
+for it in c cpp java python; do cp "$top/bindings/$it/README.md" "$to/share/doc/disruptor/$it.md"; done
 cat > "$to/README" <<END
 disruptor $said
 
-C, C++   include and lib: pkg-config by lib/pkgconfig, CMake by lib/cmake; man -M share/man disruptor
-Rust     rust is the crate: DISRUPTOR_LIB names the folder lib
-Python   the wheel, by pip
-Java     disruptor.jar
+C, C++   include and lib: PKG_CONFIG_PATH names lib/pkgconfig, CMAKE_PREFIX_PATH this folder; man -M share/man disruptor
+Rust     rust is the crate, for a dependency by path
+Python   the wheel: pip install --no-index verified_disruptor-*.whl
+Java     disruptor.jar, for the class path or the module path
+
+Each begins with a whole program: rust/README.md, and share/doc/disruptor of the others.
 END
 tar -C "$room" -czf "$out/$name.tar.gz" "$name"
 echo "$out/$name.tar.gz"

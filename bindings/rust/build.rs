@@ -1,4 +1,5 @@
-//! Finds the proved library: in the folder DISRUPTOR_LIB, in `out` of the repository, or where pkg-config says.
+//! Finds the proved library: in the folder DISRUPTOR_LIB, in `out` of the repository, beside the crate as `make dist` packs it, or where
+//! pkg-config says.
 
 use std::env;
 use std::path::PathBuf;
@@ -14,10 +15,10 @@ fn by_pkg_config() -> Option<PathBuf> {
 
 fn main() {
     println!("cargo:rerun-if-env-changed=DISRUPTOR_LIB");
-    let out = PathBuf::from(env::var_os("CARGO_MANIFEST_DIR").expect("cargo names it")).join("../../out");
+    let here = PathBuf::from(env::var_os("CARGO_MANIFEST_DIR").expect("cargo names it"));
     let folder = env::var_os("DISRUPTOR_LIB")
         .map(PathBuf::from)
-        .or_else(|| out.join(NAME).exists().then_some(out))
+        .or_else(|| ["../../out", "../lib"].iter().map(|it| here.join(it)).find(|it| it.join(NAME).exists()))
         .or_else(by_pkg_config)
         .filter(|folder| folder.join(NAME).exists())
         .unwrap_or_else(|| panic!("{} is not found: run `make lib`, or name its folder in DISRUPTOR_LIB", NAME));

@@ -104,6 +104,25 @@ static int fails_at_one(void *own, void *event, uint64_t sequence, bool is_last)
     return sequence == 1 ? 5 : 0;
 }
 
+/* Its thread stays on the first processor that the program may use. */
+static int pins(void *own, void *event, uint64_t sequence, bool is_last) {
+    (void)event, (void)is_last;
+    unsigned processor = 0;
+    while (sequence == 0 && processor < 1024 && !disruptor_pin(processor)) processor++;
+    *(unsigned *)own = processor;
+    return 0;
+}
+
+static void a_handler_may_keep_its_thread_on_a_processor(void) {
+    uint64_t lo;
+    unsigned processor = 1024;
+    disruptor_graph graph = DISRUPTOR_GRAPH(events);
+    disruptor_handle(&graph, "pins", pins, &processor, NULL);
+    EXPECT(disruptor_start(&graph) == DISRUPTOR_OK && disruptor_next(&graph, 1, &lo) == DISRUPTOR_OK);
+    EXPECT(disruptor_finish(&graph) == 0 && processor < 1024);
+    EXPECT(!disruptor_pin(1024) && !disruptor_pin(UINT32_MAX));
+}
+
 static int counts(void *own, void *event, uint64_t sequence, bool is_last) {
     (void)event, (void)sequence, (void)is_last;
     ++*(uint64_t *)own;
@@ -160,6 +179,7 @@ int main(void) {
     each_follows_its_own();
     a_handler_that_fails_halts_the_ring();
     who_follows_has_what_was_completed_and_others_have_all();
+    a_handler_may_keep_its_thread_on_a_processor();
     puts("each test passed");
     return 0;
 }

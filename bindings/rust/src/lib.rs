@@ -20,7 +20,7 @@ pub use receiver::{Broken, Polled, Receiver};
 pub use refusal::Refusal;
 pub use running::{Disruptor, Panicked, Senders};
 pub use sender::{Batch, Sender};
-pub use waiting::Wait;
+pub use waiting::{pin, Wait};
 pub use watch::Watch;
 
 /// How many sequences there may be in a ring at most.

@@ -55,6 +55,28 @@ impl Bell {
     }
 }
 
+/// Keeps the calling thread on one processor, counted from 0, and answers whether it does: on Linux, where the program may use it.
+pub fn pin(processor: usize) -> bool {
+    #[cfg(target_os = "linux")]
+    {
+        extern "C" {
+            fn sched_setaffinity(thread: i32, bytes: usize, mask: *const u64) -> i32;
+        }
+        let mut mask = [0u64; 16];
+        match mask.get_mut(processor / 64) {
+            Some(word) => *word = 1 << (processor % 64),
+            None => return false,
+        }
+        // SAFETY: so many bytes lie there.
+        unsafe { sched_setaffinity(0, std::mem::size_of_val(&mask), mask.as_ptr()) == 0 }
+    }
+    #[cfg(not(target_os = "linux"))]
+    {
+        let _ = processor;
+        false
+    }
+}
+
 const PAUSED_LOOKS: u32 = 4;
 const YIELDING_LOOKS: u32 = 200;
 const MOST_PAUSES: u32 = 1024;

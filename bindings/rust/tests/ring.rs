@@ -4,7 +4,9 @@ use std::panic::{catch_unwind, AssertUnwindSafe};
 use std::sync::atomic::{AtomicBool, AtomicUsize, Ordering};
 use std::sync::Arc;
 use std::time::Duration;
-use verified_disruptor::{open, open_several, Broken, Builder, Counts, Fault, Plan, Polled, Refusal, Wait, MAX_LIMIT};
+use verified_disruptor::{
+    open, open_several, pin, Broken, Builder, Counts, Fault, Plan, Polled, Refusal, Wait, MAX_LIMIT,
+};
 
 fn plan(size: u64, upstreams: &[u64]) -> Plan {
     Plan { size, limit: MAX_LIMIT, upstreams: upstreams.to_vec(), wait: Wait::default() }
@@ -264,6 +266,13 @@ fn any_thread_may_watch_how_far_the_ends_came() {
         std::thread::yield_now();
     }
     assert_eq!((disruptor.watch().count(), disruptor.completed("writes")), (1, None));
+}
+
+#[test]
+fn a_thread_may_be_kept_on_a_processor() {
+    let pinned = std::thread::spawn(|| (0..1024).any(pin)).join().unwrap();
+    assert!(pinned || !cfg!(target_os = "linux"));
+    assert!(!pin(1024) && !pin(usize::MAX));
 }
 
 #[test]
