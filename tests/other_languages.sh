@@ -1,6 +1,6 @@
 #!/usr/bin/env bash
 # Builds and runs programs in C and C++ over libdisruptor, in a new folder, and compares what they print: C also under the sanitizers
-# of addresses and of undefined behaviour, where the compiler has them. Then it builds and tests each package of `bindings`, without a
+# of addresses and of undefined behaviour, where the compiler has them. Among them are LMAX's own tests, of `tests/lmax`. Then it builds and tests each package of `bindings`, without a
 # network, and runs the programs of `examples` over it. A language whose compiler is not here is skipped, and named. It prints a line
 # for each failure, and then a count; its status is 0 where none failed.
 #
@@ -59,17 +59,20 @@ orders='each handler had every order, whole'
 declare -A prints=([ring]=$all [senders]=$all [bell]=$'the handler had every event\neach came in time\nidleness costs next to nothing'
     [refusals]='every misuse is refused by its number' [bytes]=$orders
     [refusals_of_bytes]='every misuse of bytes is refused by its number'
-    [refusals_of_slots]='every misuse of slots is refused by its number')
+    [refusals_of_slots]='every misuse of slots is refused by its number'
+    [lmax/rings]="each of LMAX's tests passed" [lmax/graphs]="each of LMAX's tests passed")
 
 # Builds and runs each program in C with these words more.
 try_c() { # WHAT WORD..
-    local what=$1 program run
+    local what=$1 program source run
     shift
-    for program in ring senders bell refusals bytes refusals_of_bytes refusals_of_slots; do
-        run=("$room/$program")
+    for program in ring senders bell refusals bytes refusals_of_bytes refusals_of_slots lmax/rings lmax/graphs; do
+        run=("$room/${program#lmax/}")
+        source=$top/examples/c/$program.c
+        [[ $program != lmax/* ]] || source=$top/tests/$program.c
         [[ $program != refusals_of_bytes ]] || run=("${lacks[@]}" "${run[@]}")
         try "C $program$what" "${prints[$program]}" \
-            cc "${c[@]}" "$@" -o "$room/$program" "$top/examples/c/$program.c" "$library/libdisruptor.a" -lpthread -- "${run[@]}"
+            cc "${c[@]}" "$@" -o "$room/${program#lmax/}" "$source" "$library/libdisruptor.a" -lpthread -- "${run[@]}"
     done
 }
 
