@@ -9,15 +9,16 @@
     bench/beside.py widths             events of 1, 2, 8 and 16 words, on one thread and through plain memory
     bench/beside.py producers          1 to 16 producers behind a lock
     bench/beside.py senders            1 to 16 senders of one ring; three of them are LMAX's `sequencer`
-    bench/beside.py languages          the rings from C beside ours, channels and LMAX, with `--library`
+    bench/beside.py languages          the rings from other languages beside ours, channels and LMAX, with `--library`
     bench/beside.py few                two topologies on threads, for fewer processors than ends (`taskset`)
 
 The others are the rings of bench/plain/exchanges, which `rustc` builds, and LMAX's own, where `javac` and
 the library are there (Debian's package libdisruptor-java; `--lmax JAR` names another place): `lmax` claims
 by `next`, which parks where there is no room, and `lmax-try` by `tryNext`, again and again. On threads
 `ours` is the ring over words, which has one sender, `memory` those over plain memory, `c` the rings of words
-and of several senders from C, and `c-slots` those of slots, where `--library FOLDER` names what `make lib`
-left. All run in turns, `--turns N` times (three without it), each for `--rounds N` rounds of `--seconds S`,
+and of several senders from C, and `c-slots`, `cpp-slots` and so on those of slots by each language's package
+(bench/slots), where `--library FOLDER` names what `make lib` left; `channel` is the standard library's, which
+is crossbeam's. All run in turns, `--turns N` times (three without it), each for `--rounds N` rounds of `--seconds S`,
 of which the one in the middle counts; the best of a program's turns is taken. `--under WORDS` starts each run by these words, as
 'chrt -r 10' (other work on the machine then counts for less) or 'taskset -c 0,1'. `--record FILE` also
 writes the rates to a file, as those of bench/measured, which bench/plots.py draws.
@@ -36,6 +37,7 @@ from records import RATES, Records
 PLAIN = os.path.join(TOP, "bench", "plain", "exchanges", "main.rs")
 LMAX = os.path.join(TOP, "bench", "lmax", "Lmax.java")
 RATES_OF_C = os.path.join(TOP, "bench", "c", "rates.c")
+OF_SLOTS = os.path.join(TOP, "bench", "slots")
 SHAPES = ("unicast", "pipeline", "multicast", "diamond")
 SIZES = (64, 1024, 65536)
 ONE_THREAD = ("ours", "ring", "deque", "lmax")
@@ -56,15 +58,35 @@ class Programs:
         for kind in ("ring", "deque", "words", "slots", "channel", "mutex"):
             self.words[kind] = [plain, kind]
         if given.library:
-            over_c = os.path.join(folder, "rates")
-            library = os.path.join(given.library, "libdisruptor.a")
-            flags = ["-std=c11", "-O2", "-I", os.path.join(TOP, "include")]
-            subprocess.run(["cc", *flags, "-o", over_c, RATES_OF_C, library, "-lpthread"], check=True)
-            self.words |= {"c": [over_c], "c-slots": [over_c, "slots"]}
+            self.words |= self.of_packages(folder, os.path.abspath(given.library))
         if shutil.which("javac") and os.path.exists(given.lmax):
             subprocess.run(["javac", "-cp", given.lmax, "-d", folder, LMAX], check=True)
             java = ["java", "-cp", f"{given.lmax}{os.pathsep}{folder}", "Lmax"]
             self.words |= {"lmax": [*java, "next"], "lmax-try": [*java, "try"]}
+
+    def of_packages(self, folder, library):
+        """How the programs over a folder of `make lib` are started, which it builds where their tools are here."""
+        archive, jar = os.path.join(library, "libdisruptor.a"), os.path.join(library, "disruptor.jar")
+        flags = ["-O2", "-I", os.path.join(TOP, "include"), "-o"]
+        of_c, of_cpp, classes, top = (os.path.join(folder, it) for it in ("rates", "rates_of_cpp", "classes", "copy"))
+        subprocess.run(["cc", "-std=c11", *flags, of_c, RATES_OF_C, archive, "-lpthread"], check=True)
+        found = {"c": [of_c], "c-slots": [of_c, "slots"]}
+        if shutil.which("c++"):
+            subprocess.run(["c++", "-std=c++17", *flags, of_cpp, f"{OF_SLOTS}/rates.cpp", archive, "-lpthread"], check=True)
+            found["cpp-slots"] = [of_cpp]
+        if shutil.which("cargo"):
+            # (cargo leaves files beside what it builds)
+            for it in ("bench/slots", "bindings/rust"):
+                shutil.copytree(os.path.join(TOP, it), os.path.join(top, it))
+            words = ["cargo", "build", "--release", "--offline", "--quiet", "--target-dir", os.path.join(folder, "cargo")]
+            subprocess.run(words, cwd=os.path.join(top, "bench/slots"), env={**os.environ, "DISRUPTOR_LIB": library}, check=True)
+            found["rust-slots"] = [os.path.join(folder, "cargo/release/rates")]
+        if shutil.which("javac") and os.path.exists(jar):
+            subprocess.run(["javac", "-cp", jar, "-d", classes, f"{OF_SLOTS}/Rates.java"], check=True)
+            found["java-slots"] = ["java", "-cp", f"{jar}{os.pathsep}{classes}", "Rates"]
+        python = ["env", f"DISRUPTOR_LIB={library}", f"PYTHONPATH={TOP}/bindings/python/src", "PYTHONDONTWRITEBYTECODE=1"]
+        found["python-slots"] = [*python, sys.executable, f"{OF_SLOTS}/rates.py"]
+        return found
 
     def of(self, kinds):
         return [kind for kind in kinds if kind in self.words]
@@ -163,10 +185,12 @@ def senders(programs):
 
 
 def languages(programs):
-    """What a call from C costs, beside what other programs have."""
-    kinds = ("memory", "c", "c-slots", "channel", "lmax", "lmax-try")
-    of_one = ("unicast", "unicast-b10", "diamond", "diamond-b10")
-    for kinds, topologies in ((("ours", *kinds), of_one), (kinds, ("senders3-unicast", "senders3-unicast-b10"))):
+    """What the ring gives to other languages, beside what other programs have."""
+    slots = [f"{it}-slots" for it in ("c", "cpp", "rust", "java", "python")]
+    kinds = ("memory", "c", *slots, "channel", "lmax", "lmax-try")
+    of_one = [f"{shape}{pace}" for shape in SHAPES for pace in ("", "-b10", "-b100")]
+    of_three = ("senders3-unicast", "senders3-unicast-b10", "senders3-unicast-b100")
+    for kinds, topologies in ((("ours", *kinds), of_one), (kinds, of_three)):
         kinds = programs.of(kinds)
         print_head(["topology"] + kinds)
         for topology in topologies:
