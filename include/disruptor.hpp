@@ -92,6 +92,11 @@ public:
         disruptor_halt(&halter_);
         ring();
     }
+    // Of so many senders one after another goes away. With the last one the ring is halted, since nobody claims any more.
+    void has_senders(std::size_t count) noexcept { senders_ = count; }
+    void lose_sender() noexcept {
+        if (senders_.fetch_sub(1) == 1) give_up(0);
+    }
     bool is_gone(std::uint64_t ends) const noexcept { return (gone_ & ends) != 0; }
     common() = default;
     common(const common &) = delete;
@@ -103,6 +108,7 @@ private:
     disruptor_halter halter_ = DISRUPTOR_NEW;
     std::mutex mutex_;
     std::atomic<std::uint64_t> gone_{0};
+    std::atomic<std::size_t> senders_{0};
 };
 using shared = std::shared_ptr<common>;
 // The bit of the senders among the ends that went away.
@@ -169,8 +175,8 @@ private:
     Handle handle_ DISRUPTOR_NEW;
 };
 
-// An end that claims and publishes. One that goes away closes the ring of one sender; where it leaves a claim unpublished, it halts the
-// ring, and the handlers wait no longer.
+// An end that claims and publishes. One that goes away closes the ring of one sender, and the last of several halts it; where one leaves a
+// claim unpublished, it halts the ring, and the handlers wait no longer.
 class sending : public end<disruptor_sender> {
 public:
     using end::end;
@@ -225,6 +231,7 @@ private:
         if (!shared_) return;
         if (has_open_claim()) shared_->give_up(a_sender);
         else if (disruptor_close(get()) == DISRUPTOR_OK) shared_->ring();
+        else shared_->lose_sender();
     }
     // How many sequences are claimed and not published.
     std::uint64_t open_ = 0;
@@ -452,6 +459,7 @@ inline std::size_t few(std::size_t senders) noexcept { return std::min<std::size
     ring_of_several made = {unopened<sender>(senders, all), unopened<receiver>(upstreams.size(), all), halter(all)};
     check(disruptor_open_several(size, limit, upstreams.data(), upstreams.size(), sending.data(), senders, receiving.data(),
                                  receiving.size(), all->halter()));
+    all->has_senders(senders);
     own(made.senders, sending);
     own(made.receivers, receiving, upstreams);
     return made;

@@ -173,7 +173,7 @@ template <typename T>
     return made;
 }
 
-// Opens one of several senders, which ends with a halt.
+// Opens one of several senders, which ends with a halt, or with the last of them.
 template <typename T>
 [[nodiscard]] ring_in_place_of_several<T> open_several_in_place(std::uint64_t size, const std::vector<std::uint64_t> &upstreams,
                                                                 std::size_t senders, std::uint64_t limit = DISRUPTOR_MAX_LIMIT) {
@@ -186,6 +186,7 @@ template <typename T>
     std::vector<disruptor_receiver> receiving(upstreams.size(), disruptor_receiver DISRUPTOR_NEW);
     check(disruptor_open_several_slots(size, limit, upstreams.data(), upstreams.size(), sending.data(), senders, receiving.data(),
                                        receiving.size(), all->halter()));
+    all->has_senders(senders);
     own(made.senders, sending);
     own(made.receivers, receiving, upstreams);
     *events = std::make_unique<slots<T>>(size);

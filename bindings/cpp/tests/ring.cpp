@@ -122,6 +122,11 @@ void a_sender_that_goes_away_closes_the_ring_or_gives_it_up() {
     }
     ring.receivers[0].run(nothing);
     EXPECT(ring.receivers[0].progress().done == 1);
+    auto several = disruptor::open_several_in_place<std::uint64_t>(4, {0}, 2);
+    several.senders.pop_back();
+    EXPECT(several.receivers[0].receive(4, nothing).kind == DISRUPTOR_IDLE);
+    several.senders.clear();
+    several.receivers[0].run(nothing);
     auto words = disruptor::open(4, {0});
     {
         auto sender = std::move(words.sender);

@@ -59,8 +59,14 @@ const MOST_SENDERS: usize = 16;
 
 type Ends<T, S> = (S, Vec<Receiver<T>>, Halter<T>);
 
-fn ends<T>(plan: &Plan, receiving: Vec<Handle>, halter: Handle, factory: impl FnMut() -> T) -> Ends<T, ()> {
-    let ring = Arc::new(Ring::new(Slots::new(plan.size as usize, factory), halter));
+fn ends<T>(
+    plan: &Plan,
+    senders: usize,
+    receiving: Vec<Handle>,
+    halter: Handle,
+    factory: impl FnMut() -> T,
+) -> Ends<T, ()> {
+    let ring = Arc::new(Ring::new(Slots::new(plan.size as usize, factory), halter, senders));
     let before = all_before(&plan.upstreams);
     let places = plan.upstreams.iter().enumerate();
     let places = places.map(|(k, upstreams)| Place { k, upstreams: *upstreams, is_alone: is_alone(&before, k) });
@@ -81,11 +87,11 @@ pub fn open<T: Send + Sync>(plan: &Plan, factory: impl FnMut() -> T) -> Result<E
             plan.size, plan.limit, 0, masks, count, count, &mut sending, 1, places, count, count, &mut halter, 1,
         )
     })?;
-    let ((), receivers, halter) = ends(plan, receiving, halter, factory);
+    let ((), receivers, halter) = ends(plan, 1, receiving, halter, factory);
     Ok((Sender::new(sending, &halter.0, plan.wait, true), receivers, halter))
 }
 
-/// Opens a ring of several senders, 1 to 16, each for a thread of its own. It ends with a halt.
+/// Opens a ring of several senders, 1 to 16, each for a thread of its own. It ends with a halt, or once its last sender is dropped.
 pub fn open_several<T: Send + Sync>(
     plan: &Plan,
     senders: usize,
@@ -104,7 +110,7 @@ pub fn open_several<T: Send + Sync>(
             plan.size, plan.limit, masks, count, count, from, senders, senders, places, count, count, &mut halter, 1,
         )
     })?;
-    let ((), receivers, halter) = ends(plan, receiving, halter, factory);
+    let ((), receivers, halter) = ends(plan, senders, receiving, halter, factory);
     let senders = sending.into_iter().map(|handle| Sender::new(handle, &halter.0, plan.wait, false)).collect();
     Ok((senders, receivers, halter))
 }

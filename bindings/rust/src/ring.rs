@@ -3,7 +3,7 @@
 use crate::ffi::{disruptor_halt_at, Handle};
 use crate::slots::Slots;
 use crate::waiting::Bell;
-use std::sync::atomic::{AtomicU64, Ordering};
+use std::sync::atomic::{AtomicU64, AtomicUsize, Ordering};
 use std::sync::{Arc, Mutex, PoisonError};
 
 pub(crate) struct Ring<T> {
@@ -12,11 +12,21 @@ pub(crate) struct Ring<T> {
     halter: Mutex<Handle>,
     // The handlers that went away before they had every event, so those who follow them never will have.
     gone: AtomicU64,
+    // How many of its several senders are not dropped.
+    senders: AtomicUsize,
 }
 
 impl<T> Ring<T> {
-    pub(crate) fn new(slots: Slots<T>, halter: Handle) -> Ring<T> {
-        Ring { slots, bell: Arc::default(), halter: Mutex::new(halter), gone: AtomicU64::new(0) }
+    pub(crate) fn new(slots: Slots<T>, halter: Handle, senders: usize) -> Ring<T> {
+        let (gone, senders) = (AtomicU64::new(0), AtomicUsize::new(senders));
+        Ring { slots, bell: Arc::default(), halter: Mutex::new(halter), gone, senders }
+    }
+
+    /// Halts the ring once the last of several senders is dropped, since nobody claims any more.
+    pub(crate) fn lose_sender(&self) {
+        if self.senders.fetch_sub(1, Ordering::SeqCst) == 1 {
+            self.halt();
+        }
     }
 
     pub(crate) fn halt(&self) {

@@ -31,7 +31,8 @@ impl<'a, T> Iterator for Batch<'a, T> {
     }
 }
 
-/// An end that fills events in place and publishes them. Dropping the sender of a ring of one closes the ring.
+/// An end that fills events in place and publishes them. Dropping the sender of a ring of one closes the ring, and dropping the last
+/// of several halts it.
 pub struct Sender<T> {
     handle: Handle,
     ring: Arc<Ring<T>>,
@@ -156,6 +157,8 @@ impl<T> Drop for Sender<T> {
             let refused = unsafe { disruptor_close_at(&mut self.handle, 1) };
             debug_assert_eq!(refused, 0, "each claim is published by now");
             self.ring.bell.ring();
+        } else {
+            self.ring.lose_sender();
         }
     }
 }

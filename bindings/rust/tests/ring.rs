@@ -243,6 +243,16 @@ fn a_halted_ring_of_several_drains() {
 }
 
 #[test]
+fn a_ring_of_several_ends_with_its_last_sender() {
+    let (mut senders, mut receivers, _halter) = open_several(&plan(8, &[0]), 2, || 0u64).unwrap();
+    senders.pop().unwrap().publish(|event| *event = 1).unwrap();
+    assert_eq!(receivers[0].receive(8, |_, _, _| ()), Ok(Polled::Handled(1)));
+    assert_eq!(receivers[0].receive(8, |_, _, _| ()), Ok(Polled::Idle));
+    drop(senders);
+    assert_eq!(receivers[0].run(|_, _, _| ()), Ok(()));
+}
+
+#[test]
 fn a_thread_that_sleeps_is_woken() {
     let mut disruptor = Builder::new(4, || 0u64).handle("slow", |_, _, _| ()).build().unwrap();
     for k in 0..20 {
