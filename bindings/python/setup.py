@@ -6,7 +6,12 @@ import shutil
 from setuptools import setup
 from setuptools.command.build_py import build_py
 from setuptools.dist import Distribution
-from wheel.bdist_wheel import bdist_wheel
+
+# (it is setuptools' own from 70.1 on)
+try:
+    from setuptools.command.bdist_wheel import bdist_wheel
+except ImportError:
+    from wheel.bdist_wheel import bdist_wheel
 
 NAME = "libdisruptor.so"
 OUT = os.path.join(os.path.dirname(os.path.abspath(__file__)), "..", "..", "out")

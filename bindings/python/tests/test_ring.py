@@ -152,7 +152,8 @@ class Ring(unittest.TestCase):
             send(sender, [1])
             # (a claim whose end an interrupt took away is published when the ring ends)
             sender.events(2).__enter__()
-        self.assertEqual(seen, [0, 1, 2, 3])
+            threading.Thread(target=sender.halt).start()
+        self.assertEqual((seen, disruptor.completed("sees")), ([0, 1, 2, 3], 4))
 
     def test_an_interrupt_right_after_a_claim_leaves_none_open(self):
         ends = ends_of(4, [0])

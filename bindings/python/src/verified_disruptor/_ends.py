@@ -88,6 +88,10 @@ class _End:
         # (the ends keep one another alive until all are let go)
         self._ends, self._handle = ends, handle
 
+    def halt(self) -> None:
+        """Halts the ring: nobody claims from now on. Any thread may do that by any end."""
+        self._ends.halt()
+
     def progress(self) -> tuple[int, int]:
         """What a sender of one claimed and published, or what a receiver took and completed."""
         counts = Counts()

@@ -38,6 +38,8 @@ class Disruptor:
         self._runs: list[Callable[[Receiver], None]] = []
         self._changes: list[bool] = []
         self._upstreams: list[list[int]] = []
+        # (those of the ring that was opened last)
+        self._ends: Ends | None = None
 
     def _add(self, name: str, changes: bool, run: Callable[[Receiver], None]) -> Disruptor:
         if name in self._names:
@@ -70,6 +72,10 @@ class Disruptor:
         """The handlers that come next follow all that there are."""
         return self.after(*self._names)
 
+    def completed(self, name: str) -> int:
+        """How many events the handler with this name completed, in the ring that was opened last. Any thread may ask that."""
+        return self._ends.receivers[self._names.index(name)].completed if self._ends else 0
+
     def _check_changes(self) -> None:
         before: list[set[int]] = []
         for ups in self._upstreams:
@@ -96,7 +102,7 @@ class Disruptor:
     def _running(self, senders: int | None) -> Iterator[Ends]:
         self._check_changes()
         masks = [sum(1 << up for up in set(ups)) for ups in self._upstreams]
-        ends = Ends(self._size, self._make, masks, senders, self._limit)
+        ends = self._ends = Ends(self._size, self._make, masks, senders, self._limit)
         failed: list[tuple[str, BaseException]] = []
 
         def work(name: str, run: Callable[[Receiver], None], receiver: Receiver) -> None:
