@@ -21,7 +21,8 @@
 enum { DISRUPTOR_MOST_HANDLERS = 16 };
 
 /* What is done with each event: it may read it where it lies, until it returns, and change it if it was added as one that does.
- * `own` is what was given with it. It answers 0, or else the ring is halted, and disruptor_finish answers that. */
+ * `own` is what was given with it. It answers 0, or else the ring is halted, and disruptor_finish answers that; -1 of one that ended its
+ * thread, or could not be given any. */
 typedef int disruptor_handler(void *own, void *event, uint64_t sequence, bool is_last_of_batch);
 
 struct disruptor_graph;
@@ -167,32 +168,45 @@ static inline void disruptor_name_thread(const char *name) {
 #endif
 }
 
-/* The thread of a handler, which has its name. */
-static inline void *disruptor_work_on(void *given) {
-    disruptor_work *work = (disruptor_work *)given;
+/* Takes turns until the handler had every event, or one that it follows is gone, or it fails. */
+static inline void disruptor_take_turns(disruptor_work *work) {
     disruptor_graph *graph = work->graph;
     disruptor_receiver *receiver = &graph->receivers[work - graph->works];
     disruptor_waiting waiting = disruptor_waits_by(graph->size, &graph->bell);
-    disruptor_name_thread(work->name);
     bool is_last_look = false;
     for (;;) {
         disruptor_offer offer;
-        if (disruptor_poll_slots(receiver, graph->size, &offer) || offer.kind == DISRUPTOR_DRAINED) return NULL;
+        if (disruptor_poll_slots(receiver, graph->size, &offer) || offer.kind == DISRUPTOR_DRAINED) return;
         if (offer.kind == DISRUPTOR_BATCH) {
             disruptor_found(&waiting, offer.count);
             const int failure = disruptor_show(work, receiver, &offer);
             if (!failure) continue;
             disruptor_give_up(work, failure);
-            return NULL;
+            return;
         }
         if (is_last_look) {
             disruptor_give_up(work, 0);
-            return NULL;
+            return;
         }
         /* Where one that it follows is gone, it looks once more for what that one completed. */
         is_last_look = (__atomic_load_n(&graph->gone, __ATOMIC_SEQ_CST) & work->upstreams) != 0;
         if (!is_last_look) disruptor_wait(&waiting);
     }
+}
+
+/* A handler that ends its own thread has failed too. */
+static inline void disruptor_die(void *given) {
+    disruptor_give_up((disruptor_work *)given, -1);
+}
+
+/* The thread of a handler, which has its name. */
+static inline void *disruptor_work_on(void *given) {
+    disruptor_work *work = (disruptor_work *)given;
+    disruptor_name_thread(work->name);
+    pthread_cleanup_push(disruptor_die, given);
+    disruptor_take_turns(work);
+    pthread_cleanup_pop(0);
+    return NULL;
 }
 
 /* Publishes what is claimed and not published, with what lies there, so that the ring can be closed. */

@@ -15,7 +15,7 @@ CALL = re.compile(r"^static inline ([^;{]*?\b(disruptor_\w+)\([^;{]*\)) \{$", re
 
 
 # What only these calls themselves use.
-INNER = "add are_alone give_up is_over name_thread or_nothing place_of send_rest show there work_on".split()
+INNER = "add are_alone die give_up is_over name_thread or_nothing place_of send_rest show take_turns there work_on".split()
 
 
 def text_of(comment):

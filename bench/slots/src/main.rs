@@ -86,8 +86,9 @@ fn play(order: &Order) -> Result<f64, Box<dyn Error>> {
 
 fn main() -> Result<(), Box<dyn Error>> {
     let words: Vec<String> = std::env::args().collect();
-    let [_, topology, size, seconds, rounds] = &words[..] else {
-        return Err("usage: rates TOPOLOGY SIZE SECONDS ROUNDS".into());
+    let (topology, size, seconds, rounds) = match &words[..] {
+        [_, topology, size, seconds, rounds] => (topology, size, seconds, rounds),
+        _ => return Err("usage: rates TOPOLOGY SIZE SECONDS ROUNDS".into()),
     };
     let order = read(topology, size.parse()?, seconds.parse()?)?;
     let mut rates = (0..rounds.parse()?).map(|_| play(&order)).collect::<Result<Vec<f64>, _>>()?;

@@ -104,6 +104,22 @@ static int fails_at_one(void *own, void *event, uint64_t sequence, bool is_last)
     return sequence == 1 ? 5 : 0;
 }
 
+static int dies(void *own, void *event, uint64_t sequence, bool is_last) {
+    (void)own, (void)event, (void)is_last;
+    if (sequence == 1) pthread_exit(NULL);
+    return 0;
+}
+
+static void a_handler_whose_thread_ends_halts_the_ring(void) {
+    uint64_t lo;
+    disruptor_graph graph = DISRUPTOR_GRAPH(events);
+    disruptor_handle(&graph, "dies", dies, NULL, NULL);
+    disruptor_handle(&graph, "follows", none, NULL, "dies");
+    EXPECT(disruptor_start(&graph) == DISRUPTOR_OK);
+    while (!disruptor_next(&graph, 1, &lo)) disruptor_send(&graph, lo, 1);
+    EXPECT(disruptor_finish(&graph) == -1 && strcmp(graph.failed, "dies") == 0);
+}
+
 /* Its thread stays on the first processor that the program may use. */
 static int pins(void *own, void *event, uint64_t sequence, bool is_last) {
     (void)event, (void)is_last;
@@ -179,6 +195,7 @@ int main(void) {
     each_follows_its_own();
     a_handler_that_fails_halts_the_ring();
     who_follows_has_what_was_completed_and_others_have_all();
+    a_handler_whose_thread_ends_halts_the_ring();
     a_handler_may_keep_its_thread_on_a_processor();
     puts("each test passed");
     return 0;
