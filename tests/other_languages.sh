@@ -1,6 +1,6 @@
 #!/usr/bin/env bash
 # Builds and runs programs in C and C++ over libdisruptor, in a new folder, and compares what they print: C also under the sanitizers
-# of addresses and of undefined behaviour, where the compiler has them. Among them are LMAX's own tests, of `tests/lmax`. Then it builds and tests each package of `bindings`, without a
+# of addresses, of undefined behaviour and of threads, where the compiler has them. Among them are LMAX's own tests, of `tests/lmax`. Then it builds and tests each package of `bindings`, without a
 # network, and runs the programs of `examples` over it. A language whose compiler is not here is skipped, and named. It prints a line
 # for each failure, and then a count; its status is 0 where none failed.
 #
@@ -82,6 +82,22 @@ if has cc c; then
         try_c ', with sanitizers' "${guard[@]}"
     else
         skip 'C with sanitizers'
+    fi
+    # Over a stand-in, since this one sees no atomic of the proved archive.
+    threads=(-g -fsanitize=thread)
+    if has cc c "${threads[@]}" && cc "${c[@]}" "${threads[@]}" -c -o "$room/stand_in.o" "$top/tests/seen_by_sanitizers.c"; then
+        lmax=${prints[lmax/rings]}
+        for it in "tests/lmax/rings.c:$lmax" "tests/lmax/graphs.c:$lmax" 'bindings/c/tests/graph.c:each test passed'; do
+            try "C ${it%%:*}, with the sanitizer of threads" "${it#*:}" \
+                cc "${c[@]}" "${threads[@]}" -o "$room/raced" "$top/${it%%:*}" "$room/stand_in.o" -lpthread -- "$room/raced"
+        done
+        if has c++ cpp "${threads[@]}"; then
+            try 'C++ bindings/cpp/tests/ring.cpp, with the sanitizer of threads' 'each test passed' \
+                c++ -std=c++17 -O1 "${warns[@]}" "${threads[@]}" -o "$room/raced" "$top/bindings/cpp/tests/ring.cpp" "$room/stand_in.o" \
+                -lpthread -- "$room/raced"
+        fi
+    else
+        skip 'C with the sanitizer of threads'
     fi
     # Each request of the library for memory comes to the program.
     wraps=(-Wl,--wrap=malloc,--wrap=realloc)
