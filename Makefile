@@ -5,7 +5,8 @@ sources = $(shell find crates \( -name '*.rt' -o -name '*.antt' \) -not -path '*
 
 .PHONY: all run try test check lib install install-lib dist bench bench-plots hello clean help
 
-ifneq ($(filter-out help clean bench-plots,$(or $(MAKECMDGOALS),all)),)
+# (what `make lib` left may be installed by who has no kit)
+ifneq ($(filter-out help clean bench-plots install install-lib,$(or $(MAKECMDGOALS),all)),)
 ifeq ($(shell command -v rt),)
 $(error rt is not on the path: install the Rattle kit of README.md, and put its folder bin on the path)
 endif
@@ -39,7 +40,9 @@ PREFIX ?= /usr/local
 into = $(DESTDIR)$(abspath $(PREFIX))
 
 # What programs in other languages link.
-lib:
+lib: out/libdisruptor.a
+.DELETE_ON_ERROR:
+out/libdisruptor.a: crates.txt $(sources) $(shell find bindings include tools/library.sh tools/packages.sh -type f)
 	@tools/prove.py --log $(log) dr_c
 	@tools/library.sh out $(abspath $(PREFIX))
 	@tools/packages.sh out
@@ -53,7 +56,7 @@ install-lib: lib
 	install -d $(into)/lib/pkgconfig $(into)/lib/cmake/disruptor $(into)/include
 	install -m 644 out/libdisruptor.a $(into)/lib
 	cp -P out/libdisruptor.so* $(into)/lib
-	install -m 644 out/disruptor.pc $(into)/lib/pkgconfig
+	sed 's|^prefix=.*|prefix=$(abspath $(PREFIX))|' out/disruptor.pc > $(into)/lib/pkgconfig/disruptor.pc
 	install -m 644 include/* $(into)/include
 	install -m 644 bindings/cpp/*.cmake $(into)/lib/cmake/disruptor
 	tools/man_pages.py '$(into)/share/man/man3'
