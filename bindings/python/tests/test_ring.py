@@ -86,9 +86,12 @@ class Ring(unittest.TestCase):
         ends = ends_of(4, [0, 1])
         send(ends.senders[0], [1])
         ends.give_up()
-        self.refused(Reason.HALTED, ends.senders[0].event().__enter__)
         with self.assertRaises(Broken):
             ends.receivers[1].run(print)
+        self.refused(Reason.HALTED, ends.senders[0].event().__enter__)
+        # (the sender closed the ring then)
+        ends.receivers[0].run(lambda event, sequence, is_last: None)
+        self.assertTrue(ends.receivers[0].is_drained)
 
     def test_graphs_are_refused_by_name(self):
         def one():

@@ -147,6 +147,10 @@ class Sender(_End):
                 return self._lo.value
             if number not in _WAITED_OUT or (deadline is not None and time.monotonic() >= deadline):
                 self._waiting.found()
+                if number == Reason.HALTED:
+                    # (it never claims again, so a ring of one sender may as well be closed: nobody waits for one that is forgotten)
+                    LIBRARY.disruptor_close_at(self._handle, 1)
+                    self._ends.bell.ring()
                 raise Refusal(number)
             self._waiting.wait()
 
@@ -183,7 +187,7 @@ class Sender(_End):
                 done += len(view)
 
     def close(self) -> None:
-        """Closes the ring of one sender: no event comes any more."""
+        """Closes the ring of one sender: no event comes any more. A sender that is refused with HALTED has done so."""
         check(LIBRARY.disruptor_close_at(self._handle, 1))
         self._ends.bell.ring()
 

@@ -179,7 +179,9 @@ public final class RingTest {
         Sender<Event> sender = ring.senders().get(0);
         refused(Refusal.Reason.OPEN_CLAIM, () -> sender.publishEvent((event, sequence) -> sender.publishEvent(RingTest::fill)));
         sender.publishEvent(RingTest::fill);
-        sender.close();
+        ring.halt();
+        refused(Refusal.Reason.HALTED, () -> sender.publishEvent(RingTest::fill));
+        // (the sender closed the ring then)
         ring.receivers().get(0).run((event, sequence, endOfBatch) -> {});
         expect(ring.receivers().get(0).completed(), 2L);
     }

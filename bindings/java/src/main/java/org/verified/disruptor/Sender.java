@@ -40,6 +40,12 @@ public final class Sender<T> {
         if (first == -Refusal.Reason.NO_ROOM.number() || first == -Refusal.Reason.CONTENDED.number()) {
             return first;
         }
+        if (first == -Refusal.Reason.HALTED.number()) {
+            // (it never claims again, so the ring of one sender may as well be closed: nobody waits for one that is forgotten)
+            Native.close(handle);
+            Reference.reachabilityFence(this);
+            ring.bell.ring();
+        }
         throw new Refusal((int) -first);
     }
 
@@ -114,7 +120,7 @@ public final class Sender<T> {
         return published.get();
     }
 
-    /** Closes the ring of one sender: no event comes any more. */
+    /** Closes the ring of one sender: no event comes any more. A sender that is refused with {@code HALTED} has done so. */
     public void close() {
         int refused = Native.close(handle);
         Reference.reachabilityFence(this);
