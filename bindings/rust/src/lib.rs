@@ -6,6 +6,8 @@ mod ffi;
 mod open;
 mod receiver;
 mod refusal;
+#[cfg(doctest)]
+mod refused;
 mod ring;
 mod running;
 mod sender;
