@@ -9,7 +9,9 @@ room=$(mktemp -d)
 trap 'rm -rf "$room"' EXIT
 sed -n '/^```c$/,/^```$/p' "$here/README.md" | sed '1d;$d' > "$room/readme.c"
 build=("${CC:-cc}" -std=c11 -O2 -Wall -Wextra -Werror -Wno-unused-parameter -I "$here/../../include")
-for program in "$room/readme.c" "$here/tests/graph.c"; do
-    "${build[@]}" -o "$room/program" "$program" "$library/libdisruptor.a" -lpthread
-    timeout 60 "$room/program"
-done
+try() { # PROGRAM EXPECTED
+    "${build[@]}" -o "$room/program" "$1" "$library/libdisruptor.a" -lpthread
+    [ "$(timeout 60 "$room/program" | tee /dev/stderr)" = "$2" ]
+}
+try "$room/readme.c" 'each handler had every order'
+try "$here/tests/graph.c" 'each test passed'
