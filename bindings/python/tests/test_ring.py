@@ -249,6 +249,9 @@ class Ring(unittest.TestCase):
             with sender.event() as record:
                 record[0], record[1] = 60, 1
         self.assertEqual(seen, [it for k in range(61) for it in (k, k + 1)])
+        ends = Ends(4, lambda size: Records(size, "QQ"), [0])
+        ends.senders[0].send(array.array("Q", range(8)))
+        self.refused(Reason.NO_ROOM, ends.senders[0].send, array.array("Q", [1, 2]), 0.02)
         one_by_one = []
         disruptor = Disruptor(4, record="QQ")
         disruptor.handle("sees", lambda record, sequence, is_last: one_by_one.append((*record, sequence)))

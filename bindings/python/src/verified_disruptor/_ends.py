@@ -173,14 +173,14 @@ class Sender(_End):
         """The next `n` events, once there is room for all, for a `with` that fills each: a list, or views of records."""
         return _Claim(self, n, True, timeout)
 
-    def send(self, records: Any) -> None:
+    def send(self, records: Any, timeout: float | None = None) -> None:
         """Copies records into their slots and publishes them, once there is room: what has a buffer, as an array of numpy."""
         slots, new = self._ends.slots, memoryview(records)
         n, rest = divmod(new.nbytes, slots.bytes)
         if rest:
             raise ValueError(f"not a whole number of records of {slots.bytes} bytes")
         new = new.cast("B").cast(slots.items.format)
-        with self.events(n) as views:
+        with self.events(n, timeout) as views:
             done = 0
             for view in views:
                 view[:] = new[done : done + len(view)]
