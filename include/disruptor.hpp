@@ -403,6 +403,10 @@ public:
         if (!shared_) throw refusal(DISRUPTOR_NOT_OPEN);
         shared_->halt();
     }
+    // Halts it for good, so that nobody waits any more: each handler ends once it finds no event.
+    void give_up() noexcept {
+        if (shared_) shared_->give_up(a_sender);
+    }
 
 private:
     disruptor::shared shared_;

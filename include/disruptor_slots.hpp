@@ -348,13 +348,13 @@ public:
     [[nodiscard]] running<T> start() {
         must_be_alone();
         ring_in_place<T> ring = open_in_place<T>(size_, upstreams_);
-        handlers threads = start_all(ring.receivers);
+        handlers threads = start_all(ring.receivers, ring.halter);
         return running<T>(std::move(ring.sender), std::move(ring.halter), std::move(threads));
     }
     [[nodiscard]] running_of_several<T> start_several(std::size_t senders) {
         must_be_alone();
         ring_in_place_of_several<T> ring = open_several_in_place<T>(size_, upstreams_, senders);
-        handlers threads = start_all(ring.receivers);
+        handlers threads = start_all(ring.receivers, ring.halter);
         return running_of_several<T>(std::move(ring.senders), std::move(ring.halter), std::move(threads));
     }
 
@@ -389,10 +389,17 @@ private:
                 if (other != k && !(works_[k].before >> other & 1) && !(works_[other].before >> k & 1))
                     throw std::invalid_argument(works_[k].name + " would change events that another handler reads at the same time");
     }
-    handlers start_all(std::vector<receiver_in_place<T>> &receivers) {
+    handlers start_all(std::vector<receiver_in_place<T>> &receivers, disruptor::halter &halter) {
+        std::vector<work> works = std::exchange(works_, {});
+        upstreams_.clear(), after_ = 0;
         handlers threads;
-        for (std::size_t k = 0; k < works_.size(); k++) threads.start(works_[k].name, std::move(receivers[k]), std::move(works_[k].run));
-        works_.clear(), upstreams_.clear(), after_ = 0;
+        try {
+            for (std::size_t k = 0; k < works.size(); k++) threads.start(works[k].name, std::move(receivers[k]), std::move(works[k].run));
+        } catch (...) {
+            // (the threads that started are joined)
+            halter.give_up();
+            throw;
+        }
         return threads;
     }
     std::uint64_t size_, after_ = 0;
