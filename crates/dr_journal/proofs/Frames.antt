@@ -4,7 +4,7 @@ use Rattle.std.specs.Prelude.{⊤}
 use Rattle.std.proofs.lemmas.List.{append-nil}
 use Rattle.std.proofs.lemmas.Bool.{cases_lt}
 use Rattle.std.proofs.lemmas.Bool.Decides.{nat_tests}
-use Rattle.dr_journal.specs.Coding.{kept_length, records_from, coded, lines, frame}
+use Rattle.dr_journal.specs.Meaning.Format.{whole_length, records_from, coded, coded_records, frame}
 use Rattle.dr_journal.proofs.Codes.{IsWhole, more}
 
 -- no byte is 0 or 2
@@ -29,16 +29,16 @@ clean_coded (b ∷ bytes) = elim (cases_lt b 4) [
   | inr le ↦ rw (large b bytes le) (omega arith, omega arith, clean_coded bytes)
 ]
 
-pub clean_lines : (batch : List (List ℕ)) → IsClean (lines batch)
+pub clean_lines : (batch : List (List ℕ)) → IsClean (coded_records batch)
 clean_lines [] = tt
-clean_lines (bytes ∷ batch) = clean_append (coded bytes) (1 ∷ lines batch) (clean_coded bytes) (omega arith, omega arith, clean_lines batch)
+clean_lines (bytes ∷ batch) = clean_append (coded bytes) (1 ∷ coded_records batch) (clean_coded bytes) (omega arith, omega arith, clean_lines batch)
 
-clean_ends : (l : List ℕ) → IsClean l → kept_length (l ++ 2 ∷ []) ≡ length l + 1
+clean_ends : (l : List ℕ) → IsClean l → whole_length (l ++ 2 ∷ []) ≡ length l + 1
 clean_ends [] clean = refl
 clean_ends (b ∷ l) clean = let tail = clean_ends l clean.2 in let step = more b (l ++ 2 ∷ []) clean.0 (omega (arith, tail)) in omega (arith, tail, step)
 
 pub whole_frame : (batch : List (List ℕ)) → IsWhole (frame batch)
-whole_frame batch = clean_ends (lines batch) (clean_lines batch) ∙ sym (length-append (lines batch) (2 ∷ []))
+whole_frame batch = clean_ends (coded_records batch) (clean_lines batch) ∙ sym (length-append (coded_records batch) (2 ∷ []))
 
 push_own : (so_far : List ℕ) (less b : ℕ) (rest : List ℕ) → b ≢ 1 → b ≢ 2 → b ≢ 3 → records_from so_far less (b ∷ rest) ≡ records_from (so_far ++ (b - less) ∷ []) 0 rest
 push_own so_far less b rest not_1 not_2 not_3 = grind (arith, nat_tests)
@@ -66,6 +66,6 @@ read_coded so_far (b ∷ bytes) rest =
 pub read_lines : (batch : List (List ℕ)) → records_from [] 0 (frame batch) ≡ batch
 read_lines [] = refl
 read_lines (bytes ∷ batch) =
-    ap (λ (l : List ℕ). records_from [] 0 l) (append_assoc (coded bytes) (1 ∷ lines batch) (2 ∷ []))
-    ∙ read_coded [] bytes (lines batch ++ 2 ∷ [])
+    ap (λ (l : List ℕ). records_from [] 0 l) (append_assoc (coded bytes) (1 ∷ coded_records batch) (2 ∷ []))
+    ∙ read_coded [] bytes (coded_records batch ++ 2 ∷ [])
     ∙ ap (λ (l : List (List ℕ)). bytes ∷ l) (read_lines batch)

@@ -1,8 +1,8 @@
 -- One more content joins those that a file has had.
 use Rattle.std.proofs.Common.{◌≡◌, ◌⊎◌, inl, inr, ⊎_elim, ℕ, zero, suc, ◌≤◌, List, [], ◌∷◌, ◌++◌, length, drop, Vec, refl, sym, ◌∙◌, subst, arith, length-append}
 use Rattle.std.specs.declared.alloc.Global.{Global}
-use Rattle.dr_journal.specs.Device.{Elapses}
-use Rattle.dr_journal.specs.Past.{HadBeen}
+use Rattle.dr_journal.specs.Meaning.Disk.{Elapses}
+use Rattle.dr_journal.specs.Inside.Past.{HadBeen}
 
 abbrev Contents : Type 0
 Contents = List (Vec ℕ Global)

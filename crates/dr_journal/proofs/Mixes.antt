@@ -4,8 +4,8 @@ use Rattle.std.specs.Prelude.{replicate}
 use Rattle.std.proofs.lemmas.List.{take_at, drop_at, length-take, length-drop}
 use Rattle.std.proofs.lemmas.Bool.{cases_eq}
 use Rattle.std.proofs.lemmas.Bool.Decides.{nat_tests}
-use Rattle.dr_journal.specs.Device.{IsMix, written}
-use Rattle.dr_journal.specs.Coding.{kept_length}
+use Rattle.dr_journal.specs.Meaning.Disk.{IsMix, written}
+use Rattle.dr_journal.specs.Meaning.Format.{whole_length}
 use Rattle.dr_journal.proofs.Codes.{nothing_more}
 use Rattle.dr_journal.proofs.Frames.{IsClean}
 
@@ -26,11 +26,11 @@ mix_same (x ∷ a) (y ∷ c) mix =
     λ i. same i ∷ rest i
 
 -- a batch over zeros is there whole, or a 0 stands before its end
-pub holed : (l : List ℕ) (n spare : ℕ) (m : List ℕ) → IsClean l → n ≡ length l + 1 + spare → IsMix (replicate n 0) (l ++ 2 ∷ replicate spare 0) m → (kept_length m ≡ 0) ⊎ (m ≡ l ++ 2 ∷ replicate spare 0)
+pub holed : (l : List ℕ) (n spare : ℕ) (m : List ℕ) → IsClean l → n ≡ length l + 1 + spare → IsMix (replicate n 0) (l ++ 2 ∷ replicate spare 0) m → (whole_length m ≡ 0) ⊎ (m ≡ l ++ 2 ∷ replicate spare 0)
 holed l zero spare m clean size mix = absurd (omega arith)
 holed [] (suc n) spare [] clean size mix = absurd mix
 holed [] (suc n) spare (x ∷ m) clean size mix = elim mix.0 [
-  | inl hole ↦ inl (ap (λ (y : ℕ). kept_length (y ∷ m)) hole)
+  | inl hole ↦ inl (ap (λ (y : ℕ). whole_length (y ∷ m)) hole)
   | inr there ↦
       let left : n ≡ spare = omega arith in
       let rest = mix_same (replicate spare 0) m (subst (λ (k : ℕ). IsMix (replicate k 0) (replicate spare 0) m) left mix.1) in
@@ -38,36 +38,36 @@ holed [] (suc n) spare (x ∷ m) clean size mix = elim mix.0 [
 ]
 holed (b ∷ l) (suc n) spare [] clean size mix = absurd mix
 holed (b ∷ l) (suc n) spare (x ∷ m) clean size mix = elim mix.0 [
-  | inl hole ↦ inl (ap (λ (y : ℕ). kept_length (y ∷ m)) hole)
+  | inl hole ↦ inl (ap (λ (y : ℕ). whole_length (y ∷ m)) hole)
   | inr there ↦ elim (holed l n spare m clean.2 (omega arith) mix.1) [
-    | inl none ↦ inl (ap (λ (y : ℕ). kept_length (y ∷ m)) there ∙ nothing_more b m clean.1 none)
+    | inl none ↦ inl (ap (λ (y : ℕ). whole_length (y ∷ m)) there ∙ nothing_more b m clean.1 none)
     | inr rest ↦ inr (λ i. there i ∷ rest i)
   ]
 ]
 
 -- zeros over what stands for nothing leave nothing
-pub zeroed : (rest m : List ℕ) → kept_length rest ≡ 0 → IsMix rest (replicate (length rest) 0) m → kept_length m ≡ 0
-zeroed [] m none mix = ap kept_length mix
+pub zeroed : (rest m : List ℕ) → whole_length rest ≡ 0 → IsMix rest (replicate (length rest) 0) m → whole_length m ≡ 0
+zeroed [] m none mix = ap whole_length mix
 zeroed (b ∷ rest) [] none mix = absurd mix
 zeroed (b ∷ rest) (x ∷ m) none mix = elim mix.0 [
-  | inr hole ↦ ap (λ (y : ℕ). kept_length (y ∷ m)) hole
-  | inl there ↦ ap (λ (y : ℕ). kept_length (y ∷ m)) there ∙ elim (cases_eq b 0) [
-    | inl is ↦ ap (λ (y : ℕ). kept_length (y ∷ m)) is
+  | inr hole ↦ ap (λ (y : ℕ). whole_length (y ∷ m)) hole
+  | inl there ↦ ap (λ (y : ℕ). whole_length (y ∷ m)) there ∙ elim (cases_eq b 0) [
+    | inl is ↦ ap (λ (y : ℕ). whole_length (y ∷ m)) is
     | inr not_0 ↦ elim (cases_eq b 2) [
-      | inl is ↦ let two : kept_length (b ∷ rest) ≡ 1 + kept_length rest = ap (λ (y : ℕ). kept_length (y ∷ rest)) is in absurd (omega (arith, two, none))
+      | inl is ↦ let two : whole_length (b ∷ rest) ≡ 1 + whole_length rest = ap (λ (y : ℕ). whole_length (y ∷ rest)) is in absurd (omega (arith, two, none))
       | inr not_2 ↦ nothing_more b m not_2 (zeroed rest m (counts_not b rest not_0 not_2 none) mix.1)
     ]
   ]
 ]
   where
-    counts_not : (b : ℕ) (rest : List ℕ) → b ≢ 0 → b ≢ 2 → kept_length (b ∷ rest) ≡ 0 → kept_length rest ≡ 0
+    counts_not : (b : ℕ) (rest : List ℕ) → b ≢ 0 → b ≢ 2 → whole_length (b ∷ rest) ≡ 0 → whole_length rest ≡ 0
     counts_not b rest not_0 not_2 none = grind (arith, nat_tests)
 
-pub zeros_first : (n : ℕ) (tail : List ℕ) → 0 < n → kept_length (replicate n 0 ++ tail) ≡ 0
+pub zeros_first : (n : ℕ) (tail : List ℕ) → 0 < n → whole_length (replicate n 0 ++ tail) ≡ 0
 zeros_first zero tail some = absurd (omega arith)
 zeros_first (suc n) tail some = refl
 
-pub zeros_none : (n : ℕ) → kept_length (replicate n 0) ≡ 0
+pub zeros_none : (n : ℕ) → whole_length (replicate n 0) ≡ 0
 zeros_none zero = refl
 zeros_none (suc n) = refl
 

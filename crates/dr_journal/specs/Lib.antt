@@ -1,7 +1,3 @@
-pub mod Coding
-pub mod Device
-pub mod File
-pub mod Handling
-pub mod Journal
-pub mod Memory
-pub mod Past
+pub mod Meaning
+pub mod Calls
+pub mod Inside

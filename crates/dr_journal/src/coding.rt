@@ -1,15 +1,55 @@
 //! Batches of records as bytes, and back.
-ghost use Rattle.std.specs.Prelude.{◌≡◌, ◌≤◌, ◌++◌, [], length, replicate, IfOk, OnOk};
-ghost use Rattle.dr_journal.specs.Coding.{kept_length, records_from, coded, frame};
-ghost use Rattle.dr_journal.specs.Journal.{bytes_of};
+
+ghost use Rattle.std.specs.Prelude.{◌≡◌, ◌≤◌, ◌++◌, [], ◌∷◌, length, drop, replicate, IfOk, OnOk};
+ghost use Rattle.dr_journal.specs.declared.coding.Beginning.TheVariants.{Journal, New, Foreign};
+ghost use Rattle.dr_journal.specs.Meaning.Format.{header, IsJournal, IsNew, IsForeign, whole_length, records_from, coded, frame};
+ghost use Rattle.dr_journal.specs.Calls.Journals.{bytes_of};
 
 use std::alloc::{AllocError, Global};
+
+/// What a journal begins with.
+pub(crate) const HEADER: [u8; 8] = *b"DISRUPT1";
+
+pub(crate) const HEADER_LENGTH: usize = 8;
 
 const END_OF_RECORD: u8 = 1;
 
 const END_OF_BATCH: u8 = 2;
 
 const FOUR_LESS: u8 = 3;
+
+/// What a file is by its first bytes.
+#[derive(Clone, Copy, PartialEq, Eq)]
+pub(crate) enum Beginning {
+    Journal,
+    New,
+    Foreign,
+}
+
+/// How a file begins.
+pub(crate) fn beginning_of(bytes: &[u8]) -> Beginning
+    ensures journal { result ≡ Journal → IsJournal bytes.now }
+    ensures new { result ≡ New → IsNew bytes.now }
+    ensures foreign { result ≡ Foreign → IsForeign bytes.now }
+{
+    if bytes.starts_with(&HEADER) {
+        Beginning::Journal
+    } else if HEADER.starts_with(bytes) {
+        Beginning::New
+    } else {
+        Beginning::Foreign
+    }
+}
+
+/// What a new file of these bytes lacks of a header and a byte 0.
+pub(crate) fn rest_of_header(alloc: Global, bytes: &[u8]) -> Result<Vec<u8>, AllocError>
+    requires { length bytes.now ≤ 8 }
+    ensures { IfOk result (λ rest. rest.items ≡ drop (length bytes.now) header ++ 0 ∷ []) }
+{
+    let mut rest = HEADER[bytes.len()..].to_vec(alloc)?;
+    rest.push(0)?;
+    Ok(rest)
+}
 
 // Appends a record's bytes as they are written.
 fn push_coded(out: &mut Vec<u8>, bytes: &[u8]) -> Result<(), AllocError>
@@ -48,7 +88,7 @@ pub(crate) fn zeros(alloc: Global, n: usize) -> Result<Vec<u8>, AllocError>
 
 /// How many bytes there are up to the last end of a batch before the first 0.
 pub(crate) fn measure(bytes: &[u8]) -> usize
-    ensures end { result ≡ kept_length bytes.now }
+    ensures end { result ≡ whole_length bytes.now }
     ensures within { result ≤ length bytes.now }
 {
     let mut end = 0;

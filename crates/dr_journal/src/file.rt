@@ -1,15 +1,20 @@
-//! A real file. What it has, and what a crash may leave of it, is said by its calls, which contracts alone see: that
-//! a file does as they say is no clause.
-ghost use Rattle.std.specs.Prelude.{◌≡◌, IfOk, true, false, Ok, Err};
-ghost use Rattle.dr_journal.specs.Device.{Only};
-ghost use Rattle.dr_journal.specs.declared.device.DeviceError.TheVariants.{Failed};
+//! A real file. What it has, and what a crash may leave of it, is said by the calls made on it, which
+//! contracts alone see. No clause can say that the system does as they say: each method below has to be
+//! read, whether it makes the call that it notes.
 
-use crate::{Device, DeviceError};
+ghost use Rattle.std.specs.Prelude.{◌≡◌, ◌<◌, ◌^◌, length, IfOk, true, false, Ok, Err};
+ghost use Rattle.dr_journal.specs.Meaning.Disk.{Only};
+ghost use Rattle.dr_journal.specs.declared.fault.JournalFault.TheVariants.{Failed};
+
+use crate::{Device, JournalFault};
 use std::alloc::Global;
 use std::fs::File;
 use std::mem;
+use std::os::fd::AsRawFd;
 use std::os::unix::fs::FileExt;
 use std::snapshot::Snapshot;
+
+const MOST: u64 = 1 << 60;
 
 /// All calls so far, and whether they were answered: what the file had as it was opened, or those before the last one, and
 /// that.
@@ -22,7 +27,8 @@ pub(crate) enum Calls {
     Synced(Snapshot<Calls>, bool),
 }
 
-/// An open file.
+/// An open file of the operating system, which [`open`](crate::open) makes and locks. Once a call on it
+/// was not answered, it makes no other: what the kernel keeps of a failed sync, nobody knows.
 #[derive(Drop)]
 pub struct FileDevice {
     file: File,
@@ -32,42 +38,56 @@ pub struct FileDevice {
     calls: Snapshot<Calls>,
 }
 
-fn told(done: bool) -> Result<(), DeviceError>
+fn told(done: bool) -> Result<(), JournalFault>
     ensures ok { done ≡ true → result ≡ Ok tt }
     ensures err { done ≡ false → result ≡ Err Failed }
 {
     if done {
         Ok(())
     } else {
-        Err(DeviceError::Failed)
+        Err(JournalFault::Failed)
     }
 }
 
-fn read_all(alloc: Global, file: &File) -> Result<Vec<u8>, DeviceError> {
+// Puts what the file has on the disk, and drops the kernel's copies of it, which a failed sync of an
+// earlier process may have left other than the disk has them.
+fn settle(file: &File) -> Result<(), JournalFault> {
+    if file.sync_all().is_err() {
+        return Err(JournalFault::Failed);
+    }
+    match libc::posix_fadvise(file.as_raw_fd(), 0, 0, libc::POSIX_FADV_DONTNEED) {
+        0 => Ok(()),
+        _ => Err(JournalFault::Failed),
+    }
+}
+
+fn read_all(alloc: Global, file: &File) -> Result<Vec<u8>, JournalFault>
+    ensures { IfOk result (λ bytes. length bytes.items < 2 ^ 63) }
+{
     let Ok(metadata) = file.metadata() else {
-        return Err(DeviceError::Failed);
+        return Err(JournalFault::Failed);
     };
-    if metadata.len() > 1 << 60 {
-        return Err(DeviceError::Full);
+    if metadata.len() > MOST {
+        return Err(JournalFault::NoMemory);
     }
     let mut bytes = vec![in alloc; 0u8; metadata.len() as usize]?;
     match file.read_exact_at(&mut bytes, 0) {
         Ok(()) => Ok(bytes),
-        Err(_) => Err(DeviceError::Failed),
+        Err(_) => Err(JournalFault::Failed),
     }
 }
 
 impl FileDevice {
-    ghost use Rattle.dr_journal.specs.File.{seen_in, left_in};
+    ghost use Rattle.dr_journal.specs.Inside.File.{seen_in, left_in, moment_in};
 
     /// An open file, and the bytes that it has, all of them on the disk.
-    pub fn new(alloc: Global, file: File) -> Result<(FileDevice, Vec<u8>), DeviceError>
+    pub(crate) fn new(alloc: Global, file: File) -> Result<(FileDevice, Vec<u8>), JournalFault>
         ensures bytes { IfOk result (λ r. r.1.items ≡ seen_in r.0.calls.value) }
+        ensures small { IfOk result (λ r. length r.1.items < 2 ^ 63) }
         ensures durable { IfOk result (λ r. Only (seen_in r.0.calls.value) (left_in r.0.calls.value)) }
+        ensures moment { IfOk result (λ r. moment_in r.0.calls.value ≡ 0) }
     {
-        if file.sync_all().is_err() {
-            return Err(DeviceError::Failed);
-        }
+        settle(&file)?;
         let bytes = read_all(alloc, &file)?;
         let len = bytes.len() as u64;
         let calls = Snapshot::of(&Calls::Opened(Snapshot::of(&bytes)));
@@ -84,7 +104,7 @@ impl FileDevice {
 }
 
 impl Device for FileDevice {
-    ghost use Rattle.dr_journal.specs.File.{seen_in, left_in, moment_in, since_in, faults_in, now_counts, now_only};
+    ghost use Rattle.dr_journal.specs.Inside.File.{seen_in, left_in, moment_in, since_in, faults_in, now_counts, now_only};
 
     ghost seen = { λ f. seen_in f.calls.value };
 
@@ -100,7 +120,7 @@ impl Device for FileDevice {
 
     ghost only_now = { λ f c left. now_only f.calls.value c left };
 
-    fn overwrite(&mut self, at: usize, bytes: &Vec<u8>) -> Result<(), DeviceError> {
+    fn overwrite(&mut self, at: usize, bytes: &Vec<u8>) -> Result<(), JournalFault> {
         let done = !self.is_broken && self.file.write_all_at(bytes, at as u64).is_ok();
         self.is_broken = !done;
         let before = mem::replace(&mut self.calls, Snapshot::of(&Calls::Unopened));
@@ -108,7 +128,7 @@ impl Device for FileDevice {
         told(done)
     }
 
-    fn extend(&mut self, bytes: &Vec<u8>) -> Result<(), DeviceError> {
+    fn extend(&mut self, bytes: &Vec<u8>) -> Result<(), JournalFault> {
         let done = !self.is_broken && self.file.write_all_at(bytes, self.len).is_ok();
         self.is_broken = !done;
         self.len = self.len.saturating_add(bytes.len() as u64);
@@ -117,7 +137,7 @@ impl Device for FileDevice {
         told(done)
     }
 
-    fn sync(&mut self) -> Result<(), DeviceError> {
+    fn sync(&mut self) -> Result<(), JournalFault> {
         let done = !self.is_broken && self.file.sync_data().is_ok();
         self.is_broken = !done;
         let before = mem::replace(&mut self.calls, Snapshot::of(&Calls::Unopened));

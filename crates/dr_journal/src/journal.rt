@@ -1,13 +1,14 @@
-//! The journal over a device.
-ghost use Rattle.std.specs.Prelude.{◌≡◌, ◌≤◌, ◌<◌, ◌+◌, ◌^◌, ◌-◌, ◌++◌, List, ℕ, length, replicate, IfOk, IfErr, OnOk, IsErrOf};
-ghost use Rattle.dr_journal.specs.declared.device.DeviceError.TheVariants.{Failed, Full};
-ghost use Rattle.std.specs.List.{flat_map};
-ghost use Rattle.dr_journal.specs.Coding.{kept_length, kept, recovered, frame};
-ghost use Rattle.dr_journal.specs.Device.{Only, LeavesOnly};
-ghost use Rattle.dr_journal.specs.Journal.{IsSettled, IsBeforeOrAfter, HasBeginning, bytes_of, records_in};
+//! A journal: batches of records in a file, each on the disk before it is acknowledged.
 
-use crate::coding::{frame_of, measure, read_records, zeros};
-use crate::{Device, DeviceError};
+ghost use Rattle.std.specs.Prelude.{◌≡◌, ◌⊎◌, ◌≤◌, ◌<◌, ◌+◌, ◌^◌, ◌++◌, length, OnOk, IsErrOf};
+ghost use Rattle.dr_journal.specs.declared.fault.JournalFault.TheVariants.{NoMemory, Failed, Full};
+ghost use Rattle.dr_journal.specs.Meaning.Disk.{HasCause};
+ghost use Rattle.dr_journal.specs.Meaning.Format.{frame};
+ghost use Rattle.dr_journal.specs.Inside.Parts.{device_of, end_of, length_of};
+ghost use Rattle.dr_journal.specs.Calls.Journals.{IsAtRest, StandsFor, IsBeforeOrAfter, HasBeginning, IsRefused, IsTooLarge, HasTooLarge, CrashLeaves, bytes_of, file_of, records_of, first_of, faults_of};
+
+use crate::coding::{frame_of, zeros};
+use crate::{Device, JournalFault};
 use std::alloc::Global;
 
 const MOST: usize = 1 << 60;
@@ -15,40 +16,70 @@ const MOST: usize = 1 << 60;
 /// How many zeros are written ahead of the batches at once.
 const AHEAD: usize = 1 << 20;
 
-/// Batches of records over a device.
+/// Batches of records over a device. [`recover`](crate::recover) makes one, at rest. Between two
+/// calls it stays at rest until its disk fails; after that its file has to be opened again.
 #[derive(Drop)]
 pub struct Journal<D: Device> {
-    pub device: D,
+    pub(crate) device: D,
     // Where the next batch goes.
-    pub end: usize,
+    pub(crate) end: usize,
     // How many bytes the file has: zeros from `end` on.
-    pub len: usize,
+    pub(crate) len: usize,
 }
 
 impl<D: Device> Journal<D> {
-    /// Adds a batch of records. At `Ok` it is acknowledged: from then on each crash leaves a file that has it.
-    /// At `Err`, open the file again.
-    pub fn append(&mut self, alloc: Global, batch: &[Vec<u8>]) -> Result<(), DeviceError>
-        requires { IsSettled D.seen D.may_leave self.old }
-        ensures settled { OnOk result (IsSettled D.seen D.may_leave self.new) }
-        ensures acknowledged { OnOk result (recovered (D.seen self.new.device) ≡ recovered (D.seen self.old.device) ++ bytes_of batch.now) }
+    /// The device that it writes.
+    pub fn device(&self) -> &D
+        ensures { result.now ≡ device_of self.now }
+    {
+        &self.device
+    }
+
+    /// Its device, once it is done with.
+    pub fn into_device(self) -> D
+        ensures { result ≡ device_of self }
+    {
+        self.device
+    }
+
+    /// Adds a batch of records, with one sync, and two more where the file has to grow first. At
+    /// `Ok` the batch is acknowledged: from then on each crash leaves a file that has it. After
+    /// `Failed` whether the batch is there only an opening tells.
+    pub fn append(&mut self, alloc: Global, batch: &[Vec<u8>]) -> Result<(), JournalFault>
+        requires { IsAtRest D.seen D.may_leave self.old }
+        ensures at_rest { OnOk result (IsAtRest D.seen D.may_leave self.new) }
+        // The file stands for what it stood for and then the batch.
+        ensures acknowledged { OnOk result (records_of D.seen self.new ≡ records_of D.seen self.old ++ bytes_of batch.now) }
         // A crash at any moment of the call leaves the records from before it, with the whole batch or without it.
-        ensures any_moment { LeavesOnly D.moment D.left_since self.old.device self.new.device (IsBeforeOrAfter (recovered (D.seen self.old.device)) (bytes_of batch.now)) }
-        // It doesn't give up by itself.
-        ensures failed { IsErrOf result Failed → D.faults self.old.device < D.faults self.new.device }
+        ensures any_moment { CrashLeaves D.moment D.left_since self.old self.new (IsBeforeOrAfter (records_of D.seen self.old) (bytes_of batch.now)) }
+        // With no memory or no room it is at rest as before.
+        ensures refused { IsRefused result → IsAtRest D.seen D.may_leave self.new × (records_of D.seen self.new ≡ records_of D.seen self.old) }
+        // It does not give up by itself.
+        ensures faults { faults_of D.faults self.old ≤ faults_of D.faults self.new }
+        ensures failed { IsErrOf result Failed → faults_of D.faults self.old < faults_of D.faults self.new }
+        ensures full { IsErrOf result Full → (self.new ≡ self.old) × IsTooLarge (file_of D.seen self.old) (bytes_of batch.now) }
     {
         let bytes = frame_of(alloc, batch)?;
         self.reserve(alloc, bytes.len())?;
         self.write(&bytes, batch)
     }
 
-    /// Adds batches, one after another. A crash at any moment leaves the records from before, and those of some of the
-    /// first batches: none is skipped, and none is there in part.
-    pub fn append_all(&mut self, alloc: Global, batches: &[Vec<Vec<u8>>]) -> Result<(), DeviceError>
-        requires { IsSettled D.seen D.may_leave self.old }
-        ensures settled { OnOk result (IsSettled D.seen D.may_leave self.new) }
-        ensures acknowledged { OnOk result (recovered (D.seen self.new.device) ≡ recovered (D.seen self.old.device) ++ flat_map records_in batches.now) }
-        ensures any_moment { LeavesOnly D.moment D.left_since self.old.device self.new.device (HasBeginning (recovered (D.seen self.old.device)) batches.now) }
+    /// Adds batches, one after another, each as [`append`](Journal::append) does.
+    pub fn append_all(
+        &mut self,
+        alloc: Global,
+        batches: &[Vec<Vec<u8>>],
+    ) -> Result<(), JournalFault>
+        requires { IsAtRest D.seen D.may_leave self.old }
+        ensures at_rest { OnOk result (IsAtRest D.seen D.may_leave self.new) }
+        ensures acknowledged { OnOk result (records_of D.seen self.new ≡ records_of D.seen self.old ++ first_of batches.now (length batches.now)) }
+        // A crash at any moment leaves the records from before, and those of some first batches: none is skipped, and none is there in part.
+        ensures any_moment { CrashLeaves D.moment D.left_since self.old self.new (HasBeginning (records_of D.seen self.old) batches.now) }
+        // With no memory or no room it is at rest, and has some first batches.
+        ensures refused { IsRefused result → IsAtRest D.seen D.may_leave self.new × HasBeginning (records_of D.seen self.old) batches.now (file_of D.seen self.new) }
+        // It does not give up by itself.
+        ensures failed { IsErrOf result Failed → faults_of D.faults self.old < faults_of D.faults self.new }
+        ensures full { IsErrOf result Full → HasTooLarge (file_of D.seen self.new) batches.now }
     {
         for batch in batches {
             self.append(alloc, batch.as_slice())?;
@@ -57,153 +88,60 @@ impl<D: Device> Journal<D> {
     }
 
     // Makes room for so many bytes, and a zero behind them.
-    fn reserve(&mut self, alloc: Global, n: usize) -> Result<(), DeviceError>
-        requires { IsSettled D.seen D.may_leave self.old }
-        ensures settled { OnOk result (IsSettled D.seen D.may_leave self.new) }
-        ensures room { OnOk result (self.new.end + n < self.new.len) }
-        ensures same { OnOk result (recovered (D.seen self.new.device) ≡ recovered (D.seen self.old.device)) }
-        ensures any_moment { LeavesOnly D.moment D.left_since self.old.device self.new.device (λ c. recovered c ≡ recovered (D.seen self.old.device)) }
-        ensures faults { D.faults self.old.device ≤ D.faults self.new.device }
-        ensures failed { IsErrOf result Failed → D.faults self.old.device < D.faults self.new.device }
+    fn reserve(&mut self, alloc: Global, n: usize) -> Result<(), JournalFault>
+        requires { IsAtRest D.seen D.may_leave self.old }
+        ensures at_rest { OnOk result (IsAtRest D.seen D.may_leave self.new) }
+        ensures room { OnOk result (end_of self.new + n < length_of self.new) }
+        ensures same { OnOk result (records_of D.seen self.new ≡ records_of D.seen self.old) }
+        ensures any_moment { CrashLeaves D.moment D.left_since self.old self.new (StandsFor (records_of D.seen self.old)) }
+        ensures refused { IsRefused result → IsAtRest D.seen D.may_leave self.new × (records_of D.seen self.new ≡ records_of D.seen self.old) }
+        ensures faults { faults_of D.faults self.old ≤ faults_of D.faults self.new }
+        ensures failed { IsErrOf result Failed → faults_of D.faults self.old < faults_of D.faults self.new }
+        ensures full { IsErrOf result Full → (self.new ≡ self.old) × ((2 ^ 60 < length_of self.old) ⊎ (2 ^ 60 < n)) }
     {
         if self.len > MOST || n > MOST {
-            return Err(DeviceError::Full);
+            return Err(JournalFault::Full);
         }
         if n < self.len - self.end {
             return Ok(());
         }
-        let ahead = zeros(alloc, n + AHEAD)?;
+        self.grow(alloc, n + AHEAD)?;
+        Ok(())
+    }
+
+    // Writes so many zeros behind the file.
+    fn grow(&mut self, alloc: Global, n: usize) -> Result<(), JournalFault>
+        requires at_rest { IsAtRest D.seen D.may_leave self.old }
+        requires small { length_of self.old + n < 2 ^ 64 }
+        ensures at_rest { OnOk result (IsAtRest D.seen D.may_leave self.new) }
+        ensures end { OnOk result (end_of self.new ≡ end_of self.old) }
+        ensures len { OnOk result (length_of self.new ≡ length_of self.old + n) }
+        ensures same { OnOk result (records_of D.seen self.new ≡ records_of D.seen self.old) }
+        ensures any_moment { CrashLeaves D.moment D.left_since self.old self.new (StandsFor (records_of D.seen self.old)) }
+        ensures refused { IsErrOf result NoMemory → IsAtRest D.seen D.may_leave self.new × (records_of D.seen self.new ≡ records_of D.seen self.old) }
+        ensures cause { HasCause (faults_of D.faults self.old) (faults_of D.faults self.new) result }
+    {
+        let ahead = zeros(alloc, n)?;
         self.device.extend(&ahead)?;
         self.device.sync()?;
-        self.len += n + AHEAD;
+        self.len += n;
         Ok(())
     }
 
     // Writes a batch where there is room for it.
-    fn write(&mut self, bytes: &Vec<u8>, batch: &[Vec<u8>]) -> Result<(), DeviceError>
-        requires settled { IsSettled D.seen D.may_leave self.old }
-        requires room { self.old.end + length bytes.now.items < self.old.len }
+    fn write(&mut self, bytes: &Vec<u8>, batch: &[Vec<u8>]) -> Result<(), JournalFault>
+        requires at_rest { IsAtRest D.seen D.may_leave self.old }
+        requires room { end_of self.old + length bytes.now.items < length_of self.old }
         requires bytes { bytes.now.items ≡ frame (bytes_of batch.now) }
-        ensures settled { OnOk result (IsSettled D.seen D.may_leave self.new) }
-        ensures acknowledged { OnOk result (recovered (D.seen self.new.device) ≡ recovered (D.seen self.old.device) ++ bytes_of batch.now) }
-        ensures any_moment { LeavesOnly D.moment D.left_since self.old.device self.new.device (IsBeforeOrAfter (recovered (D.seen self.old.device)) (bytes_of batch.now)) }
-        ensures failed { IsErrOf result Failed → D.faults self.old.device < D.faults self.new.device }
+        ensures at_rest { OnOk result (IsAtRest D.seen D.may_leave self.new) }
+        ensures acknowledged { OnOk result (records_of D.seen self.new ≡ records_of D.seen self.old ++ bytes_of batch.now) }
+        ensures any_moment { CrashLeaves D.moment D.left_since self.old self.new (IsBeforeOrAfter (records_of D.seen self.old) (bytes_of batch.now)) }
+        ensures refused { IsErrOf result NoMemory → IsAtRest D.seen D.may_leave self.new × (records_of D.seen self.new ≡ records_of D.seen self.old) }
+        ensures cause { HasCause (faults_of D.faults self.old) (faults_of D.faults self.new) result }
     {
         self.device.overwrite(self.end, bytes)?;
         self.device.sync()?;
         self.end += bytes.len();
         Ok(())
     }
-}
-
-/// Reads the records of a file that a crash may have left, and repairs its end. It may crash too, at any moment.
-/// At `Err` the device comes back.
-pub fn recover<D: Device>(
-    alloc: Global,
-    device: D,
-    bytes: &[u8],
-) -> Result<(Journal<D>, Vec<Vec<u8>>), (DeviceError, D)>
-    // What the file has, and only this a crash leaves: after a restart, what is read is what is on the disk.
-    requires bytes { bytes.now ≡ D.seen device }
-    requires small { length bytes.now < 2 ^ 63 }
-    requires durable { Only (D.seen device) (D.may_leave device) }
-    ensures settled { IfOk result (λ r. IsSettled D.seen D.may_leave r.0) }
-    ensures records { IfOk result (λ r. bytes_of r.1.items ≡ recovered (D.seen device)) }
-    ensures same { IfOk result (λ r. recovered (D.seen r.0.device) ≡ recovered (D.seen device)) }
-    // A crash at any moment leaves the same records.
-    ensures any_moment { IfOk result (λ r. LeavesOnly D.moment D.left_since device r.0.device (λ c. recovered c ≡ recovered (D.seen device))) }
-    ensures any_moment_err { IfErr result (λ e. LeavesOnly D.moment D.left_since device e.1 (λ c. recovered c ≡ recovered (D.seen device))) }
-    ensures failed { IfErr result (λ e. e.0 ≡ Failed → D.faults device < D.faults e.1) }
-{
-    let mut device = device;
-    match repair(alloc, &mut device, bytes) {
-        Ok(repaired) => {
-            let Repaired { records, end, len } = repaired;
-            Ok((Journal { device, end, len }, records))
-        }
-        Err(error) => Err((error, device)),
-    }
-}
-
-// What a file had, and how many of its bytes.
-struct Repaired {
-    records: Vec<Vec<u8>>,
-    end: usize,
-    len: usize,
-}
-
-// Reads and repairs.
-fn repair<D: Device>(alloc: Global, device: &mut D, bytes: &[u8]) -> Result<Repaired, DeviceError>
-    requires bytes { bytes.now ≡ D.seen device.old }
-    requires small { length bytes.now < 2 ^ 63 }
-    requires durable { Only (D.seen device.old) (D.may_leave device.old) }
-    ensures records { IfOk result (λ r. bytes_of r.records.items ≡ recovered (D.seen device.old)) }
-    ensures settled { IfOk result (λ r. IsSettled D.seen D.may_leave (record { device = device.new; end = r.end; len = r.len })) }
-    ensures same { OnOk result (recovered (D.seen device.new) ≡ recovered (D.seen device.old)) }
-    ensures any_moment { LeavesOnly D.moment D.left_since device.old device.new (λ c. recovered c ≡ recovered (D.seen device.old)) }
-    ensures failed { IsErrOf result Failed → D.faults device.old < D.faults device.new }
-{
-    let end = measure(bytes);
-    let records = read_records(alloc, &bytes[..end])?;
-    let len = free(alloc, device, end, bytes.len())?;
-    Ok(Repaired { records, end, len })
-}
-
-// Leaves nothing but zeros behind whole batches, and one at least. It gives the file's length.
-fn free<D: Device>(
-    alloc: Global,
-    device: &mut D,
-    end: usize,
-    len: usize,
-) -> Result<usize, DeviceError>
-    requires durable { Only (D.seen device.old) (D.may_leave device.old) }
-    requires end { end ≡ kept_length (D.seen device.old) }
-    requires len { len ≡ length (D.seen device.old) }
-    requires small { len < 2 ^ 63 }
-    ensures freed { IfOk result (λ len. D.seen device.new ≡ kept (D.seen device.old) ++ replicate (len - end) 0) }
-    ensures room { IfOk result (λ len. end < len) }
-    ensures durable { OnOk result (Only (D.seen device.new) (D.may_leave device.new)) }
-    ensures any_moment { LeavesOnly D.moment D.left_since device.old device.new (λ c. recovered c ≡ recovered (D.seen device.old)) }
-    ensures failed { IsErrOf result Failed → D.faults device.old < D.faults device.new }
-{
-    if end < len {
-        clear(alloc, device, end, len)?;
-        Ok(len)
-    } else {
-        close(alloc, device)?;
-        Ok(end + 1)
-    }
-}
-
-// Writes zeros over what stands for nothing.
-fn clear<D: Device>(
-    alloc: Global,
-    device: &mut D,
-    end: usize,
-    len: usize,
-) -> Result<(), DeviceError>
-    requires durable { Only (D.seen device.old) (D.may_leave device.old) }
-    requires end { end ≡ kept_length (D.seen device.old) }
-    requires len { len ≡ length (D.seen device.old) }
-    ensures cleared { OnOk result (D.seen device.new ≡ kept (D.seen device.old) ++ replicate (len - end) 0) }
-    ensures durable { OnOk result (Only (D.seen device.new) (D.may_leave device.new)) }
-    ensures any_moment { LeavesOnly D.moment D.left_since device.old device.new (λ c. recovered c ≡ recovered (D.seen device.old)) }
-    ensures failed { IsErrOf result Failed → D.faults device.old < D.faults device.new }
-{
-    let nothing = zeros(alloc, len - end)?;
-    device.overwrite(end, &nothing)?;
-    device.sync()
-}
-
-// Writes a zero behind whole batches. Until it is there, a byte in its place adds no record.
-fn close<D: Device>(alloc: Global, device: &mut D) -> Result<(), DeviceError>
-    requires durable { Only (D.seen device.old) (D.may_leave device.old) }
-    requires whole { kept_length (D.seen device.old) ≡ length (D.seen device.old) }
-    ensures closed { OnOk result (D.seen device.new ≡ kept (D.seen device.old) ++ replicate 1 0) }
-    ensures durable { OnOk result (Only (D.seen device.new) (D.may_leave device.new)) }
-    ensures any_moment { LeavesOnly D.moment D.left_since device.old device.new (λ c. recovered c ≡ recovered (D.seen device.old)) }
-    ensures failed { IsErrOf result Failed → D.faults device.old < D.faults device.new }
-{
-    device.extend(&zeros(alloc, 1)?)?;
-    device.sync()
 }

@@ -1,41 +1,37 @@
-//! A journal: batches of records, each of them on the disk before it is acknowledged.
+//! A durable journal: batches of records in a file, each of them on the disk before it is
+//! acknowledged.
+//!
+//! Begin with `specs/Meaning/Format`: it says which records the bytes of a file stand for, and
+//! `specs/Meaning/Disk` what a crash may leave of a file. A crash at any moment of any call leaves the
+//! records from before, with the whole batch or without it, and once a batch is acknowledged, each
+//! crash leaves it ([`Journal::append`]). Opening a file may crash too ([`recover`], [`open`]).
+//! [`Journaling`] is a handler that journals events of any type that is [`AsRecord`].
+//!
+//! Trusted, for a real file ([`FileDevice`]): that each of its methods makes the call of the system
+//! that it notes; that after a crash the next opening finds one of the contents that the premise of
+//! [`Device`] allows; and that nobody writes the file but the journal, which locks it against others.
 #![tactic(auto)]
 
 mod coding;
 mod device;
+mod event;
+mod fault;
 mod file;
+mod handler;
 mod journal;
+mod lawful;
 mod memory;
-mod ready;
+mod opening;
+mod record;
+mod recovery;
 
-pub use device::{Device, DeviceError};
+pub use device::Device;
+pub use fault::{JournalFault, OpenFault};
 pub use file::FileDevice;
-pub use journal::{Journal, recover};
-pub use memory::Memory;
-
-#[cfg(test)]
-mod tests {
-    use super::*;
-    use std::test::Fail;
-
-    // A batch of two records, one of them empty and one with bytes 0 and 3, then a batch without its end, and what a
-    // crash left behind a hole.
-    const TORN: [u8; 12] = [1, 9, 3, 4, 3, 7, 1, 2, 9, 1, 0, 2];
-
-    #[test]
-    fn a_torn_batch_is_dropped(rt: HostRuntime) -> Result<(), Fail> {
-        let alloc = rt.alloc();
-        let file = Memory::new(alloc, TORN.to_vec(alloc)?);
-        let (journal, records) = match recover(alloc, file, TORN.as_slice()) {
-            Ok(recovered) => recovered,
-            Err((error, _file)) => return Err(error.into()),
-        };
-        assert_eq!(rt; records.len(), 2);
-        assert_eq!(rt; records[1].as_slice(), [9u8, 0, 3].as_slice());
-        assert_eq!(rt;
-            journal.device.bytes(),
-            [1u8, 9, 3, 4, 3, 7, 1, 2, 0, 0, 0, 0].as_slice()
-        );
-        Ok(())
-    }
-}
+pub use handler::Journaling;
+pub use journal::Journal;
+pub use lawful::batches_come_back;
+pub use memory::MemoryDevice;
+pub use opening::open;
+pub use record::{AsRecord, RecordFault, read_events};
+pub use recovery::recover;

@@ -1,32 +1,35 @@
-// A file in memory. Each call is done at once, so a crash leaves what is there. It keeps each past content.
+//! A file in memory, for tests: each call is done at once, so a crash leaves what is there.
+
 ghost use Rattle.std.specs.Prelude.{◌≡◌, ◌⊎◌, [], ◌∷◌, ◌++◌, length, drop, OnOk, OnErr};
 ghost use Rattle.std.proofs.Common.{inl};
-ghost use Rattle.dr_journal.specs.Past.{HadBeen, only_bytes};
+ghost use Rattle.dr_journal.specs.Inside.Past.{HadBeen, only_bytes};
 
-use crate::{Device, DeviceError};
+use crate::{Device, JournalFault};
 use std::alloc::{AllocError, Global};
 
+/// A file in memory. It keeps each past content, so that contracts can speak of each moment.
 #[derive(Drop)]
-pub struct Memory {
+pub struct MemoryDevice {
     alloc: Global,
     bytes: Vec<u8>,
     past: Vec<Vec<u8>>,
 }
 
-impl Memory {
-    ghost use Rattle.dr_journal.specs.Memory.{memory_bytes};
+impl MemoryDevice {
+    ghost use Rattle.dr_journal.specs.Inside.Memory.{memory_bytes};
 
     /// A file with these bytes, all of them on the disk.
     pub fn new(alloc: Global, bytes: Vec<u8>) -> Self
         ensures { memory_bytes result ≡ bytes.items }
     {
-        Memory {
+        MemoryDevice {
             alloc,
             bytes,
             past: Vec::new(alloc),
         }
     }
 
+    /// What the file has.
     pub fn bytes(&self) -> &[u8]
         ensures { result.now ≡ memory_bytes self.now }
     {
@@ -51,7 +54,7 @@ fn replace(
     Ok(())
 }
 
-impl Device for Memory {
+impl Device for MemoryDevice {
     ghost seen = { λ m. m.bytes.items };
 
     ghost may_leave = { λ m c. c ≡ m.bytes.items };
@@ -66,20 +69,20 @@ impl Device for Memory {
 
     ghost only_now = { λ m c left. only_bytes m.past.items m.bytes.items c left };
 
-    fn overwrite(&mut self, at: usize, bytes: &Vec<u8>) -> Result<(), DeviceError> {
+    fn overwrite(&mut self, at: usize, bytes: &Vec<u8>) -> Result<(), JournalFault> {
         let mut next = self.bytes[..at].to_vec(self.alloc)?;
         next.extend_from_slice(bytes)?;
         next.extend_from_slice(&self.bytes[at + bytes.len()..])?;
         Ok(replace(self.alloc, &mut self.bytes, &mut self.past, next)?)
     }
 
-    fn extend(&mut self, bytes: &Vec<u8>) -> Result<(), DeviceError> {
+    fn extend(&mut self, bytes: &Vec<u8>) -> Result<(), JournalFault> {
         let mut next = self.bytes.to_vec(self.alloc)?;
         next.extend_from_slice(bytes)?;
         Ok(replace(self.alloc, &mut self.bytes, &mut self.past, next)?)
     }
 
-    fn sync(&mut self) -> Result<(), DeviceError> {
+    fn sync(&mut self) -> Result<(), JournalFault> {
         Ok(())
     }
 }

@@ -1,5 +1,5 @@
 use Rattle.std.proofs.Common.{◌≡◌, ◌++◌, drop}
-use Rattle.dr_journal.specs.Coding.{coded}
+use Rattle.dr_journal.specs.Meaning.Format.{coded}
 use Rattle.dr_journal.proofs.coding.push_coded.Given as goal
 
 abbrev pub invariant-loop-byte : goal.invariant-loop-byte

@@ -1,6 +1,6 @@
 use Rattle.std.proofs.Common.{◌≡◌, ◌++◌, drop, []}
-use Rattle.dr_journal.specs.Coding.{records_from}
-use Rattle.dr_journal.specs.Journal.{bytes_of}
+use Rattle.dr_journal.specs.Meaning.Format.{records_from}
+use Rattle.dr_journal.specs.Calls.Journals.{bytes_of}
 use Rattle.dr_journal.proofs.coding.read_records.Given as goal
 
 abbrev pub invariant-loop-byte : goal.invariant-loop-byte
