@@ -10,7 +10,6 @@ use crate::{Device, JournalFault};
 use std::alloc::Global;
 use std::fs::File;
 use std::mem;
-use std::os::fd::AsRawFd;
 use std::os::unix::fs::FileExt;
 use std::snapshot::Snapshot;
 
@@ -49,18 +48,6 @@ fn told(done: bool) -> Result<(), JournalFault>
     }
 }
 
-// Puts what the file has on the disk, and drops the kernel's copies of it, which a failed sync of an
-// earlier process may have left other than the disk has them.
-fn settle(file: &File) -> Result<(), JournalFault> {
-    if file.sync_all().is_err() {
-        return Err(JournalFault::Failed);
-    }
-    match libc::posix_fadvise(file.as_raw_fd(), 0, 0, libc::POSIX_FADV_DONTNEED) {
-        0 => Ok(()),
-        _ => Err(JournalFault::Failed),
-    }
-}
-
 fn read_all(alloc: Global, file: &File) -> Result<Vec<u8>, JournalFault>
     ensures { IfOk result (λ bytes. length bytes.items < 2 ^ 63) }
 {
@@ -87,7 +74,9 @@ impl FileDevice {
         ensures durable { IfOk result (λ r. Only (seen_in r.0.calls.value) (left_in r.0.calls.value)) }
         ensures moment { IfOk result (λ r. moment_in r.0.calls.value ≡ 0) }
     {
-        settle(&file)?;
+        if file.sync_all().is_err() {
+            return Err(JournalFault::Failed);
+        }
         let bytes = read_all(alloc, &file)?;
         let len = bytes.len() as u64;
         let calls = Snapshot::of(&Calls::Opened(Snapshot::of(&bytes)));
