@@ -109,7 +109,8 @@ fn fill_by<I: InPlaceInlet, F: FnMut(&mut I::Event, u64)>(
     }
 }
 
-impl<R: Wait + Copy, I: InPlaceInlet> LiveSender<R, I> {
+// What waits for nothing: it has no `Wait` to do so by.
+impl<R: Copy, I: InPlaceInlet> LiveSender<R, I> {
     pub(crate) fn new(
         rt: R,
         end: I,
@@ -136,26 +137,6 @@ impl<R: Wait + Copy, I: InPlaceInlet> LiveSender<R, I> {
         self.sent
     }
 
-    /// Claims a sequence once there is room, has its event filled where it lies, and publishes it. What `fill` finds
-    /// there is what an earlier event left.
-    ///
-    /// It is refused with `Exhausted` after 2^62 events, or with `Halted`, and changes nothing then.
-    pub fn publish_with<F: FnOnce(&mut I::Event) + Drop>(&mut self, fill: F) -> Result<(), Refusal>
-        requires { F.IsAlwaysCallable fill }
-        // It is still the same ring's sender.
-        ensures kept { I.kept self.new ≡ I.kept self.old }
-        // What the closure left of what lay there is published behind all that was before.
-        ensures sent { OnOk result (SendsOne (λ was now. FnOnceReturnsAtMut F.FnOnce fill was tt now) (I.sending self.old).published (I.sending self.new).published) }
-        // A refused claim sends nothing, and is not refused for want of room.
-        ensures refused { IfErr result (λ r. IsRefused I.kept I.sending I.refuses 1 r self.old self.new) }
-    {
-        let Claimed { lo, hi } = claim(&self.rt, &mut self.end, &self.bell, self.strategy, 1)?;
-        self.end.update(lo, fill);
-        self.end.publish(lo, hi);
-        self.sent = counted(&self.bell, self.sent, 1);
-        Ok(())
-    }
-
     /// As [`LiveSender::publish_with`], but it waits for nothing: where there is no room it is refused with `NoRoom`,
     /// and with `Contended` where another sender claimed at the same moment.
     pub fn try_publish_with<F: FnOnce(&mut I::Event) + Drop>(
@@ -171,6 +152,43 @@ impl<R: Wait + Copy, I: InPlaceInlet> LiveSender<R, I> {
         ensures refused { IfErr result (λ fault. I.refuses self.old 1 fault self.new × (I.sending self.new ≡ I.sending self.old)) }
     {
         let Claimed { lo, hi } = self.end.try_claim(1)?;
+        self.end.update(lo, fill);
+        self.end.publish(lo, hi);
+        self.sent = counted(&self.bell, self.sent, 1);
+        Ok(())
+    }
+
+    // The end without its bell, which is rung where it changes what others look at.
+    pub(crate) fn into_end(self) -> (I, Arc<Bell, Global>)
+        ensures is { result.0 ≡ self }
+        ensures closed { (I.sending result.0).pending ≡ [] }
+    {
+        let LiveSender {
+            rt: _,
+            end,
+            bell,
+            strategy: _,
+            sent: _,
+        } = self;
+        (end, bell)
+    }
+}
+
+impl<R: Wait + Copy, I: InPlaceInlet> LiveSender<R, I> {
+    /// Claims a sequence once there is room, has its event filled where it lies, and publishes it. What `fill` finds
+    /// there is what an earlier event left.
+    ///
+    /// It is refused with `Exhausted` after 2^62 events, or with `Halted`, and changes nothing then.
+    pub fn publish_with<F: FnOnce(&mut I::Event) + Drop>(&mut self, fill: F) -> Result<(), Refusal>
+        requires { F.IsAlwaysCallable fill }
+        // It is still the same ring's sender.
+        ensures kept { I.kept self.new ≡ I.kept self.old }
+        // What the closure left of what lay there is published behind all that was before.
+        ensures sent { OnOk result (SendsOne (λ was now. FnOnceReturnsAtMut F.FnOnce fill was tt now) (I.sending self.old).published (I.sending self.new).published) }
+        // A refused claim sends nothing, and is not refused for want of room.
+        ensures refused { IfErr result (λ r. IsRefused I.kept I.sending I.refuses 1 r self.old self.new) }
+    {
+        let Claimed { lo, hi } = claim(&self.rt, &mut self.end, &self.bell, self.strategy, 1)?;
         self.end.update(lo, fill);
         self.end.publish(lo, hi);
         self.sent = counted(&self.bell, self.sent, 1);
@@ -198,8 +216,8 @@ impl<R: Wait + Copy, I: InPlaceInlet> LiveSender<R, I> {
     }
 
     /// Sends so many events, in claims of at most `cut` of them, each filled where it lies by `fill`, which is told its
-    /// number, from 0 on. It is refused as [`LiveSender::publish_with`] is, and with `BadCount` where `cut` is above the
-    /// ring's size. The events of the claims before were sent then.
+    /// number, from 0 on. It is refused as [`LiveSender::publish_with`] is, and the events of the claims before were sent
+    /// then. It is refused with `BadCount`, and sends nothing, where both `count` and `cut` are above the ring's size.
     pub fn publish_each<F: Fn(&mut I::Event, u64) + Drop>(
         &mut self,
         count: u64,
@@ -247,21 +265,6 @@ impl<R: Wait + Copy, I: InPlaceInlet> LiveSender<R, I> {
         self.end.publish(lo, hi);
         self.sent = counted(&self.bell, self.sent, n);
         Ok(())
-    }
-
-    // The end without its bell, which is rung where it changes what others look at.
-    pub(crate) fn into_end(self) -> (I, Arc<Bell, Global>)
-        ensures is { result.0 ≡ self }
-        ensures closed { (I.sending result.0).pending ≡ [] }
-    {
-        let LiveSender {
-            rt: _,
-            end,
-            bell,
-            strategy: _,
-            sent: _,
-        } = self;
-        (end, bell)
     }
 }
 
