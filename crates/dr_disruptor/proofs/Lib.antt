@@ -4,6 +4,7 @@ pub mod Stretches
 pub mod Scripts
 pub mod Ready
 pub mod Rounds
+pub mod Turns
 pub mod Owned
 pub mod Shown
 pub mod Merged
