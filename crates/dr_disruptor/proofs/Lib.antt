@@ -1,6 +1,7 @@
 pub mod Showing
 pub mod Through
 pub mod Stretches
+pub mod Claims
 pub mod Scripts
 pub mod Ready
 pub mod Rounds

@@ -5,7 +5,7 @@ ghost use Rattle.std.specs.Fn.{FnOnceReturnsAtMut};
 ghost use Rattle.dr_meaning.specs.Calls.Filling.{FillsFrom, FillsOne};
 ghost use Rattle.dr_meaning.specs.Calls.Ends.{IsStretch};
 ghost use Rattle.dr_meaning.specs.Calls.InPlaceInlets.{Opens};
-ghost use Rattle.dr_disruptor.specs.Sending.{Fills, FillsOn, FillsPart, IsNth, IsRefused, SendsAll, SendsOne, StopsAfter};
+ghost use Rattle.dr_disruptor.specs.Sending.{ClaimedAtOnce, ClaimedInCuts, Fills, FillsOn, FillsPart, IsNth, IsRefused, SendsAll, SendsOne, StopsAfter};
 ghost use Rattle.dr_plain_senders.specs.Calls.InPlace.{sending_of};
 ghost use Rattle.dr_plain_senders.specs.Calls.Sending.{HaltCall};
 ghost use Rattle.dr_plain_senders.specs.Calls.Ends.{sender_place};
@@ -206,6 +206,7 @@ impl<R: Wait + Copy, I: InPlaceInlet> LiveSender<R, I> {
         requires fits { first + n < 2 ^ 64 }
         ensures kept { I.kept self.new ≡ I.kept self.old }
         ensures sent { OnOk result (SendsAll (Fills (FillsOne F.Fn fill.now) first) n (I.sending self.old).published (I.sending self.new).published) }
+        ensures claims { OnOk result (ClaimedAtOnce I.kept I.sending (length (I.sending self.old).published) n self.old self.new) }
         ensures refused { IfErr result (λ r. IsRefused I.kept I.sending I.refuses n r self.old self.new) }
     {
         let Claimed { lo, hi } = claim(&self.rt, &mut self.end, &self.bell, self.strategy, n)?;
@@ -230,6 +231,8 @@ impl<R: Wait + Copy, I: InPlaceInlet> LiveSender<R, I> {
         ensures kept { I.kept self.new ≡ I.kept self.old }
         // So many events are published behind all that was before, each as the closure leaves it, by its number.
         ensures sent { OnOk result (SendsAll (Fills (FillsOne F.Fn fill) 0) count (I.sending self.old).published (I.sending self.new).published) }
+        // It claimed `cut` of them at once, again and again, and at last those that were left.
+        ensures claims { OnOk result (ClaimedInCuts I.kept I.sending cut count self.old self.new) }
         // The first claims were sent whole, and the next one was refused.
         ensures refused { IfErr result (λ r. StopsAfter (FillsOne F.Fn fill) I.kept I.sending I.refuses count cut r self.old self.new) }
     {
@@ -256,6 +259,8 @@ impl<R: Wait + Copy, I: InPlaceInlet> LiveSender<R, I> {
         ensures kept { I.kept self.new ≡ I.kept self.old }
         // So many events are published behind all that was before, each as the closure leaves it, which goes from state to state.
         ensures sent { OnOk result (SendsAll (λ events. FillsOn (FillsFrom F.FnMut) fill.old 0 events fill.new) n (I.sending self.old).published (I.sending self.new).published) }
+        // All of them were claimed at once.
+        ensures claims { OnOk result (ClaimedAtOnce I.kept I.sending (length (I.sending self.old).published) n self.old self.new) }
         // A refused claim sends nothing, and calls the closure for nothing.
         ensures refused { IfErr result (λ r. IsRefused I.kept I.sending I.refuses n r self.old self.new × (fill.new ≡ fill.old)) }
         ensures callable { F.IsAlwaysCallable fill.new }
@@ -277,6 +282,8 @@ impl<R: Wait + Copy, E: Copy, I: InPlaceInlet<Event = E>> LiveSender<R, I> {
         ensures kept { I.kept self.new ≡ I.kept self.old }
         // Just these events are published, behind all that was before.
         ensures sent { OnOk result ((I.sending self.new).published ≡ (I.sending self.old).published ++ events.now) }
+        // It claimed `cut` of them at once, again and again, and at last those that were left.
+        ensures claims { OnOk result (ClaimedInCuts I.kept I.sending cut (length events.now) self.old self.new) }
         // The first claims were sent whole, and the next one was refused.
         ensures refused { IfErr result (λ r. StopsAfter (IsNth events.now) I.kept I.sending I.refuses (length events.now) cut r self.old self.new) }
     {
