@@ -1,9 +1,11 @@
 pub mod Showing
 pub mod Through
 pub mod Stretches
+pub mod Claims
 pub mod Scripts
 pub mod Ready
 pub mod Rounds
+pub mod Turns
 pub mod Owned
 pub mod Shown
 pub mod Merged
