@@ -9,3 +9,4 @@ pub mod Shown
 pub mod Merged
 pub mod Merging
 pub mod ManyReady
+pub mod Along
