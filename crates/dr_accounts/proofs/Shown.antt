@@ -1,6 +1,6 @@
 -- What a handler holds after events that it was shown.
 use Rattle.std.proofs.Common.{◌≡◌, ◌≤◌, ◌<◌, ◌+◌, ℕ, zero, suc, Bool, true, false, ◌||◌, List, [], ◌∷◌, ◌++◌, length, refl, sym}
-use Rattle.std.proofs.Common.{ap, ◌∙◌, arith, inl, inr, add-zero, append-nil, append_assoc, flat_map, length-append}
+use Rattle.std.proofs.Common.{ap, ◌∙◌, subst, arith, inl, inr, add-zero, append-nil, append_assoc, flat_map, length-append}
 use Rattle.std.proofs.lemmas.Bool.{cases_Bool}
 use Rattle.std.proofs.lemmas.List.{get_or_append_left}
 use Rattle.std.proofs.lemmas.List.Concat.{flat_map-append}
@@ -8,6 +8,7 @@ use Rattle.std.proofs.lemmas.List.Folds.{list_any-append}
 use Rattle.std.proofs.Math.Seq.{get_or-append_seam}
 use Rattle.dr_seq.specs.declared.event.Event.{Event}
 use Rattle.dr_seq.specs.Event.{no_event}
+use Rattle.dr_meaning.specs.Calls.Handling.{GoesThrough, Relation, showings}
 use Rattle.dr_accounts.specs.declared.business.Business.{Business}
 use Rattle.dr_accounts.specs.declared.journal.Journal.{Journal}
 use Rattle.dr_accounts.specs.declared.replica.Replica.{Replica}
@@ -15,6 +16,16 @@ use Rattle.dr_accounts.specs.Accounts.{balance_by, balance_of, balances_after, i
 use Rattle.dr_accounts.specs.Handlers.{Books, Copies, Goes, IsBusinessOf, IsJournalOf, IsReplicaOf, Journals, balance_in, kept}
 use Rattle.dr_operations.specs.Operations.{movement_of}
 use Rattle.dr_accounts.specs.Report.{journal_from, journal_line, replica_line}
+
+-- what one call keeps, a batch keeps
+pub along : {A : Type 0} (goes : Relation Event A) (Has : A → List Event → Type 0)
+    → ((a b : A) (es : List Event) (e : Event) (s : ℕ) (end : Bool) → Has a es → goes a e s end b → Has b (es ++ e ∷ []))
+    → (a b : A) (es vs : List Event) (first : ℕ) (end : Bool) → Has a es → GoesThrough goes a (showings vs first end) b → Has b (es ++ vs)
+along goes Has one a b es [] first end has is = rw append-nil (subst (λ x. Has x es) is has)
+along goes Has one a b es (e ∷ []) first end has is = subst (λ x. Has x (es ++ e ∷ [])) is.2 (one a is.0 es e first end has is.1)
+along goes Has one a b es (e ∷ f ∷ vs) first end has is =
+    let shown = one a is.0 es e first false has is.1 in
+    subst (λ l. Has b l) (append_assoc es (e ∷ []) (f ∷ vs)) (along goes Has one is.0 b (es ++ e ∷ []) (f ∷ vs) (first + 1) end shown is.2)
 
 -- one that has not failed after a call had not failed before it
 took : {T : Type 0} (failed : T → Bool) (Takes : T → T → Type 0) (old new : T) → Goes T failed Takes old new → failed new ≡ false

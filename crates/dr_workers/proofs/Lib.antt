@@ -13,4 +13,3 @@ pub mod Untroubled
 pub mod Unrefused
 pub mod Biding
 pub mod Lent
-pub mod Along
