@@ -11,3 +11,4 @@ pub mod Shown
 pub mod Merged
 pub mod Merging
 pub mod ManyReady
+pub mod Along

@@ -27,6 +27,9 @@ pub struct LiveSender<R, I: InPlaceInlet> {
     sent: u64,
 }
 
+/// The sender of a closure of [`run_senders`](crate::run_senders).
+pub type FeedSender<R, E> = LiveSender<R, several::Sender<E>>;
+
 impl<R, I: InPlaceInlet> Model for LiveSender<R, I> {
     ghost use Rattle.std.specs.Prelude.{◌≡◌, ◌^◌, ◌-◌, [], length, min};
 
