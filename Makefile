@@ -42,7 +42,7 @@ into = $(DESTDIR)$(abspath $(PREFIX))
 # What programs in other languages link.
 lib: out/libdisruptor.a
 .DELETE_ON_ERROR:
-out/libdisruptor.a: crates.txt $(sources) $(shell find bindings include tools/library.sh tools/packages.sh -type f)
+out/libdisruptor.a: crates.txt $(sources) $(shell find bindings include tools/library.sh tools/packages.sh -type f -not -path '*/target/*')
 	@tools/prove.py --log $(log) dr_c
 	@tools/library.sh out $(abspath $(PREFIX))
 	@tools/packages.sh out
