@@ -1,5 +1,5 @@
 -- A round of turns, one handler after another.
-use Rattle.std.proofs.Common.{◌≡◌, ◌<◌, ◌≤◌, ◌^◌, ℕ, suc, List, length, set, Ok, inl, inr, refl, sym, ap, subst, ◌+◌, ◌∙◌, arith}
+use Rattle.std.proofs.Common.{◌≡◌, ◌<◌, ◌≤◌, ◌^◌, ℕ, List, length, set, Ok, inl, inr, refl, sym, ap, subst, ◌+◌, ◌∙◌, arith}
 use Rattle.std.proofs.lemmas.Bool.{cases_eq}
 use Rattle.std.proofs.lemmas.List.{length-set}
 use mathlib.Core.Option.{some}
