@@ -3,6 +3,7 @@ pub mod Through
 pub mod Stretches
 pub mod Scripts
 pub mod Ready
+pub mod NewEnds
 pub mod Rounds
 pub mod Owned
 pub mod Shown

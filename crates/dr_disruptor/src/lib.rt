@@ -10,6 +10,8 @@ mod fault;
 mod feed;
 mod feeds;
 mod here;
+pub mod laws;
+pub mod laws_sending;
 mod one_of;
 mod running;
 mod running_here;
