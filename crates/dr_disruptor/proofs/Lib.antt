@@ -10,3 +10,4 @@ pub mod Shown
 pub mod Merged
 pub mod Merging
 pub mod ManyReady
+pub mod NewEndsOfSeveral

@@ -11,6 +11,7 @@ mod feed;
 mod feeds;
 mod here;
 pub mod laws;
+pub mod laws_senders;
 pub mod laws_sending;
 mod one_of;
 mod running;
