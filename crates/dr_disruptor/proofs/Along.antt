@@ -43,7 +43,8 @@ module _ {E A : Type 0} (goes : Relation E A) (Has : A → List E → Type 0)
   along_run most start after events went none = subst (Has after) went.dealt (along_batches start after [] went.batches none went.through)
 
 -- as many events were sent as are counted
-pub sent_count : {E S T B : Type 0} {sends : S → B → S → Type 0} {sender_in : S → SenderEnd E} {went : ℕ → List E → T → T → Type 0} {most : ℕ} {shape : Ptr → Shape}
-    {events : List E} {handlers : T} {ran : Ran E T (Settled E) B} (r : IsRanBy sends sender_in went most shape events handlers ran)
+pub sent_count : {E S T A B : Type 0} {sends : S → B → S → Type 0} {sender_in : S → SenderEnd E} {goes : Relation E A} {listed : T → List A}
+    {went : ℕ → List E → T → T → Type 0} {most : ℕ} {shape : Ptr → Shape} {events : List E} {handlers : T} {ran : Ran E T (Settled E) B}
+    (r : IsRanBy sends sender_in goes listed went most shape events handlers ran)
     → ran.settled.published ≡ length (events_of (sender_in r.back).knows.published)
 sent_count {sender_in} r = r.settled.published ∙ ap length r.settled.sent ∙ sym (length-map (sender_in r.back).knows.published _)

@@ -4,6 +4,7 @@ pub mod Stretches
 pub mod Claims
 pub mod Scripts
 pub mod Ready
+pub mod NewEnds
 pub mod Rounds
 pub mod Turns
 pub mod Owned
@@ -11,4 +12,5 @@ pub mod Shown
 pub mod Merged
 pub mod Merging
 pub mod ManyReady
+pub mod NewEndsOfSeveral
 pub mod Along
