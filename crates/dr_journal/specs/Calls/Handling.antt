@@ -1,0 +1,30 @@
+-- What the handler does with an event: `seen`, `moment`, `left_since` and `faults` are its device's.
+use Rattle.std.specs.Prelude.{◌≡◌, ◌<◌, ℕ, Bool, true, Option, Some, None, IsSome, List, [], ◌∷◌, ◌++◌}
+use Rattle.dr_journal.specs.Calls.Journals.{IsBeforeOrAfter, IsTooLarge, CrashLeaves, file_of, records_of, faults_of}
+use Rattle.dr_journal.specs.declared.journal.Journal.{Journal}
+use Rattle.dr_journal.specs.declared.fault.JournalFault.{JournalFault}
+use Rattle.dr_journal.specs.declared.fault.JournalFault.TheVariants.{Failed, Full}
+
+-- a handler's journal, the records that wait for the end of their batch, and its fault, if it has failed
+pub record Writer (D : Type 0) : Type 0 where
+  pub journal : Journal D
+  pub waiting : List (List ℕ)
+  pub fault : Option JournalFault
+
+module _ {D : Type 0} (seen : D → List ℕ) (moment : D → ℕ) (left_since : D → ℕ → List ℕ → Type 0) (faults : D → ℕ) where
+  -- a handler that had not failed is shown an event of this record
+  pub record TakesRecord (old : Writer D) (bytes : List ℕ) (end : Bool) (new : Writer D) : Type 0 where
+    -- as long as it does not fail, what its file stands for and what waits are, together, all that it was shown
+    pub told : new.fault ≡ None → records_of seen new.journal ++ new.waiting ≡ records_of seen old.journal ++ (old.waiting ++ bytes ∷ [])
+    -- and at the end of a batch nothing waits
+    pub ended : new.fault ≡ None → end ≡ true → new.waiting ≡ []
+    -- a crash leaves what the file stood for before, with all that it was shown or with no more
+    pub any_moment : CrashLeaves moment left_since old.journal new.journal (IsBeforeOrAfter (records_of seen old.journal) (old.waiting ++ bytes ∷ []))
+    -- it fails only where the disk has failed since, or there was no room, or no memory
+    pub failed : new.fault ≡ Some Failed → faults_of faults old.journal < faults_of faults new.journal
+    pub full : new.fault ≡ Some Full → IsTooLarge (file_of seen old.journal) (old.waiting ++ bytes ∷ [])
+
+  -- once it has failed it does nothing more
+  pub record Journals (old : Writer D) (bytes : List ℕ) (end : Bool) (new : Writer D) : Type 0 where
+    pub takes : old.fault ≡ None → TakesRecord old bytes end new
+    pub silent : IsSome old.fault → new ≡ old
