@@ -4,15 +4,15 @@ ghost use Rattle.std.specs.Prelude.{◌≡◌, ◌<◌, [], All, IfOk, length};
 ghost use Rattle.dr_plain.specs.Calls.Ends.{receiver_place, received_of};
 ghost use Rattle.dr_plain.specs.Calls.Sending.{CloseCall};
 ghost use Rattle.dr_meaning.specs.Calls.Filling.{FillsOne};
-ghost use Rattle.dr_disruptor.specs.Here.{AreShown, HereEnd, sending_here};
+ghost use Rattle.dr_disruptor.specs.Here.{AreShown, HadTurns, HereEnd};
 ghost use Rattle.dr_plain.specs.Calls.InPlace.{SawPublished};
 ghost use Rattle.dr_disruptor.specs.Serving.{AreServed, IsIdle};
 
-use crate::served::{Served, serve, turn};
+use crate::served::{Served, serve};
 use crate::way::Way;
 use dr_meaning::{ClaimFault, Claimed, InPlaceHandler, InPlaceInlet, InPlaceOutlet, Refusal};
 use dr_plain::{Receiver, Sender};
-use dr_workers::{Bell, Spinning};
+use dr_workers::Bell;
 use std::alloc::{AllocError, Global};
 use std::marker::Model;
 use std::snapshot::Snapshot;
@@ -23,8 +23,6 @@ pub struct Here<E, H: InPlaceHandler<E>> {
     sender: Sender<E>,
     receivers: Vec<Receiver<E>>,
     handlers: Vec<H>,
-    // Nobody listens to it.
-    bell: Bell,
     way: Way,
     ends: Snapshot<Vec<Receiver<E>>>,
     starts: Snapshot<Vec<H>>,
@@ -38,31 +36,25 @@ impl<E, H: InPlaceHandler<E>> Model for Here<E, H> {
 
     ghost Value = { HereEnd E H };
 
-    ghost view = { λ here. record { sender = here.sender; ends = here.ends.value.items; starts = here.starts.value.items; batch = here.way.batch } };
+    ghost view = { λ here. record { sender = here.sender; ends = here.ends.value.items; starts = here.starts.value.items; receivers = here.receivers.items; handlers = here.handlers.items; batch = here.way.batch } };
 
     ghost invariant = { λ here. (0 < here.way.batch) × AreShown receiver_place received_of (λ e n. SawPublished e.knows n) H.goes here.way.batch here.ends.value.items here.starts.value.items here.receivers.items here.handlers.items };
 }
 
 // Gives each handler a turn, in the graph's order, over all that is there for it, at most a batch.
-fn round<O: InPlaceOutlet, H: InPlaceHandler<O::Event>>(
-    outlets: &mut [O],
-    handlers: &mut [H],
-    bell: &Bell,
-    batch: u64,
-)
-    requires many { length outlets.old ≡ length handlers.old }
-    requires idle { All (λ o. IsIdle (O.received o)) outlets.old }
+fn round<E, H: InPlaceHandler<E>>(receivers: &mut [Receiver<E>], handlers: &mut [H], batch: u64)
+    requires many { length receivers.old ≡ length handlers.old }
+    requires idle { All (λ e. IsIdle (received_of e)) receivers.old }
     requires batch { 0 < batch }
-    ensures { AreShown O.kept O.received O.saw H.goes batch outlets.old handlers.old outlets.new handlers.new }
+    ensures turns { HadTurns H.goes batch receivers.old handlers.old receivers.new handlers.new }
+    ensures shown { AreShown receiver_place received_of (λ e n. SawPublished e.knows n) H.goes batch receivers.old handlers.old receivers.new handlers.new }
 {
-    for h in 0..outlets.len() {
-        let _more = turn(
-            &mut outlets[h],
-            &mut handlers[h],
-            bell,
-            &mut Spinning,
-            batch,
-        );
+    for h in 0..receivers.len() {
+        let receiver = &mut receivers[h];
+        let Ok(_answer) = receiver.turn(&mut handlers[h], batch) else {
+            unreachable!();
+        };
+        let _taken = receiver.taken();
     }
 }
 
@@ -102,7 +94,7 @@ impl<E, H: InPlaceHandler<E>> Here<E, H> {
         requires many { length receivers.items ≡ length handlers.items }
         requires idle { All (λ e. IsIdle (received_of e)) receivers.items }
         requires batch { 0 < way.batch }
-        ensures { result ≡ record { sender = sender; ends = receivers.items; starts = handlers.items; batch = way.batch } }
+        ensures { result ≡ record { sender = sender; ends = receivers.items; starts = handlers.items; receivers = receivers.items; handlers = handlers.items; batch = way.batch } }
     {
         let ends = Snapshot::of(&receivers);
         let starts = Snapshot::of(&handlers);
@@ -110,7 +102,6 @@ impl<E, H: InPlaceHandler<E>> Here<E, H> {
             sender,
             receivers,
             handlers,
-            bell: Bell::new(),
             way,
             ends,
             starts,
@@ -132,13 +123,13 @@ impl<E: Drop, H: InPlaceHandler<E> + Drop> Here<E, H> {
             mut sender,
             receivers,
             handlers,
-            bell,
             way,
             ends: _,
             starts: _,
         } = self;
         let _closed = sender.close();
-        let served = serve_each(rt, alloc, receivers, handlers, &bell, way)?;
+        // Nobody listens to the bell.
+        let served = serve_each(rt, alloc, receivers, handlers, &Bell::new(), way)?;
         Ok((sender, served))
     }
 }
@@ -154,7 +145,7 @@ impl<E, H: InPlaceHandler<E>> InPlaceInlet for Here<E, H> {
 
     ghost sending = { sending_here };
 
-    ghost refuses = { refuses_here };
+    ghost refuses = { refuses_here H.goes };
 
     fn try_claim(&mut self, n: u64) -> Result<Claimed, ClaimFault> {
         match Sender::try_claim(&mut self.sender, n) {
@@ -163,7 +154,6 @@ impl<E, H: InPlaceHandler<E>> InPlaceInlet for Here<E, H> {
                 round(
                     self.receivers.as_mut_slice(),
                     self.handlers.as_mut_slice(),
-                    &self.bell,
                     self.way.batch,
                 );
                 Err(ClaimFault::Refused(Refusal::NoRoom))

@@ -221,7 +221,7 @@ pub fn run_senders<
     requires events { length events.items ≡ size }
     requires batch { 0 < way.batch }
     requires place { All (λ f. LeavesSender (FnOnceReturnsAtMut F.FnOnce f)) feeds.items }
-    ensures ran { IfOk result (IsRanByAll (FnOnceReturnsAtMut F.FnOnce) T.went way.batch (shape_of graph.now.upstreams size events.items (length feeds.items)) feeds.items handlers) }
+    ensures ran { IfOk result (IsRanByAll (FnOnceReturnsAtMut F.FnOnce) H.goes T.listed T.went way.batch (shape_of graph.now.upstreams size events.items (length feeds.items)) feeds.items handlers) }
     ensures many { IfOk result (λ _. length (T.listed handlers) ≡ length graph.now.upstreams) }
     ensures few { IfOk result (λ _. has_bad_producers (Multi (length feeds.items)) ≡ false) }
     ensures refused { IfErr result (λ e. e ≡ refusal_of (length graph.now.upstreams) (length (T.listed handlers)) (length feeds.items)) }

@@ -1,6 +1,7 @@
-use Rattle.std.proofs.Common.{subst, ◌∙◌}
+use Rattle.std.proofs.Common.{length, subst, ◌∙◌}
 use Rattle.dr_meaning.specs.Calls.Filling.{FillsOne}
-use Rattle.dr_disruptor.specs.Sending.{Fills, SendsAll}
+use Rattle.dr_disruptor.specs.Sending.{ClaimedAtOnce, Fills, SendsAll}
+use Rattle.dr_disruptor.proofs.Claims.{claimed_at_once}
 use Rattle.dr_disruptor.proofs.Stretches.{counted_all, filled_none, is_whole, sends}
 use Rattle.dr_disruptor.proofs.sender.LiveSender.publish_part.Goals as goal
 
@@ -35,3 +36,13 @@ returns-clause-sent g c =
     (sends fills c.args.n c.in_ok-lo.field-0.lo (g.I.InPlaceInlet.sending c.self.inside.end) (g.I.InPlaceInlet.sending c.claim.new.end)
     (g.I.InPlaceInlet.sending c.fill_each.new.end) (g.I.InPlaceInlet.sending c.publish.new.self) c.in_ok-lo.ensures.opens c.fill_each.ensures.filled
     c.publish.ensures.publishes)
+
+pub returns-clause-claims : goal.returns-clause-claims
+returns-clause-claims g c =
+    let kept = g.I.InPlaceInlet.kept in
+    let sending = g.I.InPlaceInlet.sending in
+    let fills = Fills (FillsOne g.F.Fn c.args.fill.now) c.args.first in
+    subst (λ (e : g.row.I.Denot). ClaimedAtOnce kept sending (length (sending e).published) c.args.n e c.publish.new.self) c.self.view_is
+    (claimed_at_once kept sending c.args.n c.in_ok-lo.field-0.lo c.self.inside.end c.claim.new.end c.publish.new.self fills c.in_ok-lo.ensures.kept c.in_ok-lo.ensures.opens
+    (sends fills c.args.n c.in_ok-lo.field-0.lo (sending c.self.inside.end) (sending c.claim.new.end) (sending c.fill_each.new.end) (sending c.publish.new.self)
+    c.in_ok-lo.ensures.opens c.fill_each.ensures.filled c.publish.ensures.publishes))
