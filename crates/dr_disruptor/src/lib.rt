@@ -37,7 +37,7 @@ pub use one_of::OneOf;
 pub use running::{Ran, run};
 pub use running_here::run_here;
 pub use running_senders::run_senders;
-pub use sender::{FeedSender, LiveSender};
+pub use sender::{LiveSender, SeveralSender};
 pub use served::{Served, ServesPromise, serve};
 pub use team::Team;
 pub use way::Way;

@@ -28,7 +28,7 @@ pub struct LiveSender<R, I: InPlaceInlet> {
 }
 
 /// The sender of a closure of [`run_senders`](crate::run_senders).
-pub type FeedSender<R, E> = LiveSender<R, several::Sender<E>>;
+pub type SeveralSender<R, E> = LiveSender<R, several::Sender<E>>;
 
 impl<R, I: InPlaceInlet> Model for LiveSender<R, I> {
     ghost use Rattle.std.specs.Prelude.{◌≡◌, ◌^◌, ◌-◌, [], length, min};
@@ -201,21 +201,21 @@ impl<R: Wait + Copy, I: InPlaceInlet> LiveSender<R, I> {
     // One claim of `publish_each`.
     fn publish_part<F: Fn(&mut I::Event, u64)>(
         &mut self,
-        n: u64,
+        part: u64,
         first: u64,
         fill: &F,
     ) -> Result<(), Refusal>
         requires callable { F.IsAlwaysCallable fill.now }
-        requires fits { first + n < 2 ^ 64 }
+        requires fits { first + part < 2 ^ 64 }
         ensures kept { I.kept self.new ≡ I.kept self.old }
-        ensures sent { OnOk result (SendsAll (Fills (FillsOne F.Fn fill.now) first) n (I.sending self.old).published (I.sending self.new).published) }
-        ensures claims { OnOk result (ClaimedAtOnce I.kept I.sending (length (I.sending self.old).published) n self.old self.new) }
-        ensures refused { IfErr result (λ r. IsRefused I.kept I.sending I.refuses n r self.old self.new) }
+        ensures sent { OnOk result (SendsAll (Fills (FillsOne F.Fn fill.now) first) part (I.sending self.old).published (I.sending self.new).published) }
+        ensures claims { OnOk result (ClaimedAtOnce I.kept I.sending (length (I.sending self.old).published) part self.old self.new) }
+        ensures refused { IfErr result (λ r. IsRefused I.kept I.sending I.refuses part r self.old self.new) }
     {
-        let Claimed { lo, hi } = claim(&self.rt, &mut self.end, &self.bell, self.strategy, n)?;
-        fill_each(&mut self.end, lo, n, first, fill);
+        let Claimed { lo, hi } = claim(&self.rt, &mut self.end, &self.bell, self.strategy, part)?;
+        fill_each(&mut self.end, lo, part, first, fill);
         self.end.publish(lo, hi);
-        self.sent = counted(&self.bell, self.sent, n);
+        self.sent = counted(&self.bell, self.sent, part);
         Ok(())
     }
 
@@ -267,6 +267,8 @@ impl<R: Wait + Copy, I: InPlaceInlet> LiveSender<R, I> {
         // A refused claim sends nothing, and calls the closure for nothing.
         ensures refused { IfErr result (λ r. IsRefused I.kept I.sending I.refuses n r self.old self.new × (fill.new ≡ fill.old)) }
         ensures callable { F.IsAlwaysCallable fill.new }
+        // A batch of none is refused.
+        ensures some { OnOk result (0 < n) }
     {
         let Claimed { lo, hi } = claim(&self.rt, &mut self.end, &self.bell, self.strategy, n)?;
         fill_by(&mut self.end, lo, n, fill);

@@ -2,7 +2,7 @@
 #![tactic(auto)]
 
 use dr_disruptor::{
-    FeedSender, InPlaceHandler, Refusal, RunFault, WaitStrategy, Way, new_events, run_senders,
+    InPlaceHandler, Refusal, RunFault, SeveralSender, WaitStrategy, Way, new_events, run_senders,
 };
 use dr_graph::GraphBuilder;
 use dr_seq::Size;
@@ -74,7 +74,7 @@ fn main(rt: HostRuntime) -> Result<(), RunFault> {
     );
     let mut feeds = Vec::new(alloc);
     for account in [1u64, 2] {
-        feeds.push(move |sender: &mut FeedSender<HostRuntime, Order>| {
+        feeds.push(move |sender: &mut SeveralSender<HostRuntime, Order>| {
             sender.publish_each(500, 8, |order: &mut Order, k| {
                 order.account = account;
                 order.quantity = 1 + k % 9;

@@ -1,4 +1,4 @@
-use Rattle.std.proofs.Common.{length, refl, subst, ◌∙◌}
+use Rattle.std.proofs.Common.{arith, length, refl, subst, ◌∙◌}
 use Rattle.dr_meaning.specs.Calls.Filling.{FillsFrom}
 use Rattle.dr_disruptor.specs.Sending.{ClaimedAtOnce, FillsOn, SendsAll}
 use Rattle.dr_disruptor.proofs.Claims.{claimed_at_once}
@@ -47,3 +47,6 @@ returns-clause-claims g c =
     (claimed_at_once kept sending c.args.n c.in_ok-lo.field-0.lo c.self.inside.end c.claim.new.end c.publish.new.self (λ events. FillsOn (FillsFrom g.F.FnMut) c.args.fill.now 0 events c.fill_by.new.fill) c.in_ok-lo.ensures.kept c.in_ok-lo.ensures.opens
     (sends (λ events. FillsOn (FillsFrom g.F.FnMut) c.args.fill.now 0 events c.fill_by.new.fill) c.args.n c.in_ok-lo.field-0.lo (sending c.self.inside.end) (sending c.claim.new.end) (sending c.fill_by.new.end) (sending c.publish.new.self)
     c.in_ok-lo.ensures.opens c.fill_by.ensures.filled c.publish.ensures.publishes))
+
+pub returns-clause-some : goal.returns-clause-some
+returns-clause-some g c = let (low, long, limit) = c.in_ok-lo.ensures.stretch in omega arith
