@@ -1,5 +1,5 @@
 -- What handlers went through, whose ends began anew and came to the same events.
-use Rattle.std.proofs.Common.{◌≡◌, ℕ, ◌≤◌, Bool, true, List, [], ◌++◌, length, map, sym, subst, ap, ◌∙◌, arith}
+use Rattle.std.proofs.Common.{◌≡◌, ℕ, ◌≤◌, Bool, true, List, [], ◌++◌, length, map, refl, sym, subst, ap, ◌∙◌, arith}
 use mathlib.Core.Option.{some, some-injective}
 use lib.ListN.{get_elem?, length-map}
 use Rattle.dr_meaning.specs.Calls.Ends.{Received}
@@ -71,6 +71,24 @@ module _ {O A K E : Type 0} (kept : O → K) (received : O → Received E) (told
         ap (λ (l : List O). get_elem? l h) back.ends_back ∙ map_there (λ (s : Served O A). s.outlet) back.served h b.0 b.1,
         at_given,
         subst (λ (a : A). Shows kept received saw goes room a b.0.handler given b.0.outlet) is serving.shows,
+      )
+
+  -- of ends that began with nothing it went through just what the end at its place handed out, where no end saw more
+  pub shown_from_none : (ends : List O) (starts : List A) (outlets : List O) (handlers : List A) (place : ℕ → K)
+      → ((h : ℕ) (given : O) → get_elem? ends h ≡ some given → (kept given ≡ place h) × ((received given).events ≡ []))
+      → ((h : ℕ) (e : O) → get_elem? outlets h ≡ some e → (n : ℕ) → saw e n → n ≤ length (received e).events)
+      → CameBackServed kept received told saw goes room ends starts outlets handlers → (h : ℕ) (start : A) → get_elem? starts h ≡ some start
+      → (after : A) × (end : O) × (get_elem? handlers h ≡ some after) × (get_elem? outlets h ≡ some end) × (kept end ≡ place h)
+      × WentThrough goes room start after (received end).events
+  shown_from_none ends starts outlets handlers place new most back h start at =
+      let (after, end, given, at_after, at_end, at_given, shows) = served_at ends starts outlets handlers back h start at in
+      let (stands, none) = new h given at_given in (
+        after,
+        end,
+        at_after,
+        at_end,
+        shows.place ∙ stands,
+        went start after given end (received end).events shows none refl (most h end at_end),
       )
 
   module _ (ends : List O) (starts : List A) (served : List (Served O A)) (are : AreServed kept received told saw goes room ends starts served) where

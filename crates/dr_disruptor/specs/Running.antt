@@ -1,5 +1,5 @@
 -- What came of a run: what each handler went through, and the run of the ring.
-use Rattle.std.specs.Prelude.{◌≡◌, ℕ, ◌==◌, ◌^◌, if◌then◌else◌, List, length, map, Some, Result}
+use Rattle.std.specs.Prelude.{◌≡◌, ℕ, ◌==◌, ◌^◌, if◌then◌else◌, List, length, map, false, Some, Result}
 use denote.RawPtr.{Ptr}
 use mathlib.Core.Option.{some}
 use lib.ListN.{get_elem?}
@@ -51,7 +51,8 @@ pub record AreSettled {E : Type 0} (back : SenderEnd E) (settled : Settled E) (v
   pub run : HasRun settled.sender.value settled.receivers.value.items settled.halter.value
   pub lists : Settles settled.sender.value.knows (map (λ e. e.knows) settled.receivers.value.items)
   pub whole : (h : ℕ) (e : ReceiverEnd E) → get_elem? settled.receivers.value.items h ≡ some e → HasAll settled.sender.value e
-  -- nobody but the closure halted it
+  -- the ring's halter never halted it, and the sender found no halt before its own
+  pub halter : settled.halter.value.knows.halted ≡ false
   pub unhalted : FoundUnhalted settled.sender.value.knows
   -- these are counted
   pub claims : settled.claimed ≡ claimed settled.sender.value.knows

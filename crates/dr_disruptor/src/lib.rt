@@ -12,8 +12,6 @@ mod feed;
 mod feeds;
 mod here;
 pub mod laws;
-pub mod laws_senders;
-pub mod laws_sending;
 mod one_of;
 mod running;
 mod running_here;

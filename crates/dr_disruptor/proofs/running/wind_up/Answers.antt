@@ -66,4 +66,4 @@ returns-clause-settled g c =
     let one = end_back receiver_place received_of is_told saw_by goes c.args.batch (map given_end workers) (map given_handler workers) served are h e
     (ap (λ (l : List (ReceiverEnd g.row.E.Denot)). get_elem? l h) (sym c.in_ok-outlets.ensures.outlets) ∙ at) in
     has_all sender back done.lists h e at one.3 one.4)
-    (done.unhalted c.requires.unhalted) (done.claimed, done.published, done.handlers, done.events)
+    (c.requires.unhalted, done.unhalted c.requires.unhalted) (done.claimed, done.published, done.handlers, done.events)

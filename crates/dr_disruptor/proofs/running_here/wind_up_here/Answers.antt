@@ -74,4 +74,4 @@ returns-clause-settled g c =
     let one = end_back receiver_place received_of is_told saw_by goes here.batch here.ends here.starts c.in_ok-sender.served.items
     c.in_ok-sender.ensures.served h e (ap (λ (l : List (ReceiverEnd g.row.E.Denot)). get_elem? l h) (sym c.in_ok-outlets.ensures.outlets) ∙ at) in
     has_all sender back done.lists h e at one.3 one.4)
-    (done.unhalted c.requires.unhalted) (done.claimed, done.published, done.handlers, done.events))
+    (c.requires.unhalted, done.unhalted c.requires.unhalted) (done.claimed, done.published, done.handlers, done.events))

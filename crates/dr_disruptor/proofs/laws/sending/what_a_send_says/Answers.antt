@@ -1,4 +1,4 @@
-use Rattle.dr_disruptor.proofs.laws_sending.what_a_send_says.Goals as goal
+use Rattle.dr_disruptor.proofs.laws.sending.what_a_send_says.Goals as goal
 
 pub returns-clause-sends : goal.returns-clause-sends
 returns-clause-sends g c fill old new sends = sends
@@ -12,5 +12,5 @@ returns-clause-stops g c fill n cut r old new is = (is.some, is.place, (is.sent.
 pub returns-clause-stops_refused : goal.returns-clause-stops_refused
 returns-clause-stops_refused g c fill n cut r old new is = is.refused
 
-pub returns-clause-claims : goal.returns-clause-claims
-returns-clause-claims g c e e' n r refuses = refuses
+pub returns-clause-refuses_of_one_sender : goal.returns-clause-refuses_of_one_sender
+returns-clause-refuses_of_one_sender g c e e' n r refuses = refuses

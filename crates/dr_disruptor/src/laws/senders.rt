@@ -1,5 +1,4 @@
-//! What the contract of a run with several senders says, by fields. This function does nothing when it runs: its
-//! contract is the law.
+//! What the contract of a run with several senders says.
 
 ghost use Rattle.std.specs.Prelude.{◌≡◌, ◌∷◌, [], ℕ, List, length, map};
 ghost use Rattle.std.specs.Fn.{FnOnceReturnsAtMut};

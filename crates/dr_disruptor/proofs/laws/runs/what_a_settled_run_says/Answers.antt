@@ -11,7 +11,7 @@ use Rattle.dr_plain.specs.Calls.Settling.{handler_counts}
 use Rattle.dr_plain.specs.Meaning.Records.{events_of}
 use Rattle.dr_plain.specs.Meaning.Shape.{Shape, ring_setup}
 use Rattle.dr_disruptor.specs.Running.{AreSettled}
-use Rattle.dr_disruptor.proofs.laws.what_a_settled_run_says.Goals as goal
+use Rattle.dr_disruptor.proofs.laws.runs.what_a_settled_run_says.Goals as goal
 
 -- each receiver took and completed all that was published, and so it is counted
 completes_all : {E : Type 0} (back : SenderEnd E) (settled : Settled E) (values : List E) → AreSettled back settled values → (h : ℕ) (e : ReceiverEnd E)
@@ -41,7 +41,7 @@ returns-clause-counts g c send most shape events handlers ran is =
     )
 
 pub returns-clause-unhalted : goal.returns-clause-unhalted
-returns-clause-unhalted g c send most shape events handlers ran is = is.settled.unhalted
+returns-clause-unhalted g c send most shape events handlers ran is = (is.settled.halter, is.settled.unhalted)
 
 pub returns-clause-runs : goal.returns-clause-runs
 returns-clause-runs g c send most shape events handlers ran is =

@@ -1,5 +1,4 @@
-//! What the contracts of a run's sender say, by fields. This function does nothing when it runs: its contract is the
-//! law.
+//! What the contracts of a run's sender say.
 
 ghost use Rattle.std.specs.Prelude.{◌≡◌, ◌≢◌, ◌∷◌, ◌++◌, [], ℕ, ◌-◌, ◌<◌, Err, List, length, min};
 ghost use Rattle.std.specs.Fn.{FnOnceReturnsAtMut};
@@ -25,5 +24,5 @@ pub fn what_a_send_says<E, I: InPlaceInlet<Event = E>, F: FnOnce(&mut E), G: Fn(
     // The claim that was refused is of what was left, but at most of a cut.
     ensures stops_refused { (fill : G) (n cut : ℕ) (r : Refusal) (old new : I) → (is : StopsAfter (FillsOne G.Fn fill) I.kept I.sending I.refuses n cut r old new) → IsRefused I.kept I.sending I.refuses (min (n - is.done) cut) r is.between new }
     // Of the only sender of a ring, a refused claim is that ring's, with its cause.
-    ensures claims { (e e' : SenderEnd E) (n : ℕ) (r : Refusal) → RefusesClaim e n (Refused r) e' → ClaimCall e n e' (Err r) }
+    ensures refuses_of_one_sender { (e e' : SenderEnd E) (n : ℕ) (r : Refusal) → RefusesClaim e n (Refused r) e' → ClaimCall e n e' (Err r) }
 {}

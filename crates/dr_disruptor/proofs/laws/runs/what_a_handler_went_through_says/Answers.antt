@@ -1,4 +1,4 @@
-use Rattle.dr_disruptor.proofs.laws.what_a_handler_went_through_says.Goals as goal
+use Rattle.dr_disruptor.proofs.laws.runs.what_a_handler_went_through_says.Goals as goal
 
 pub returns-clause-goes : goal.returns-clause-goes
 returns-clause-goes g c most start after events is = (is.through, is.order, is.dealt)

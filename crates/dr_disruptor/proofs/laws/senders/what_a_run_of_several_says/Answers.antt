@@ -17,7 +17,7 @@ use Rattle.dr_plain_senders.specs.Meaning.Shape.{Shape, ring_setup}
 use Rattle.dr_disruptor.specs.Merging.{AreServedBack, AreSettled, new_receivers}
 use Rattle.dr_disruptor.proofs.NewEndsOfSeveral.{new_at}
 use Rattle.dr_disruptor.proofs.Through.{served_at}
-use Rattle.dr_disruptor.proofs.laws_senders.what_a_run_of_several_says.Goals as goal
+use Rattle.dr_disruptor.proofs.laws.senders.what_a_run_of_several_says.Goals as goal
 
 pub returns-clause-begins : goal.returns-clause-begins
 returns-clause-begins g c most k feeds handlers ran is = (

@@ -1,5 +1,5 @@
 use Rattle.std.proofs.Common.{refl}
-use Rattle.dr_disruptor.proofs.laws.what_a_team_says.Goals as goal
+use Rattle.dr_disruptor.proofs.laws.runs.what_a_team_says.Goals as goal
 
 pub returns-clause-list : goal.returns-clause-list
 returns-clause-list g c most events team after went = (went.many, went.each)
