@@ -55,7 +55,7 @@ module _ {E : Type 0} where
     pub fills : Are events
     pub published : new ≡ old ++ events
 
-  -- n sequences were claimed at once: when the first of what is published now were published, so many, all n of them were open, and none had an event
+  -- n sequences were claimed at once: there is a state of this end in which just the first `at` events of now were published, and n sequences were open, none filled
   pub record ClaimedAtOnce {I K : Type 0} (kept : I → K) (sending : I → Sending E) (at n : ℕ) (old new : I) : Type 0 where
     pub claimed : I
     pub place : kept claimed ≡ kept old

@@ -50,7 +50,7 @@ fn wind_up_here<R: Wait + Copy, E: Drop, H: InPlaceHandler<E> + Drop>(
 }
 
 /// As [`run`](crate::run), on this thread alone: where a claim finds no room, each handler has a turn, in the graph's
-/// order, over all that is there for it. It starts no thread, and nobody waits, so the strategy of the way is not used.
+/// order: one poll, of at most a batch. It starts no thread, and nobody waits, so the strategy of the way is not used.
 /// Its sender is of a type that depends on the handlers', so `send` is a [`Feed`] in place of a closure.
 ///
 /// It is refused with `Handlers` where there are not as many handlers as the graph has, and with `Memory` where there

@@ -129,6 +129,7 @@ fn fed<
     bell: &Arc<Bell, Global>,
     strategy: WaitStrategy,
 ) -> Result<(Halter<E>, Vec<Worker<Receiver<E>, H>>, Vec<Sent<E, A>>), AllocError>
+    // The closures send before this run halts the ring.
     requires before { ends.0.stored ≡ [] }
     requires many { length senders.items ≡ length feeds.items }
     requires callable { All (λ f. F.callable f) feeds.items }
