@@ -1,5 +1,5 @@
 -- What came of a run with several senders, once its ends came together.
-use Rattle.std.proofs.Common.{◌≡◌, ℕ, suc, ◌+◌, ◌<◌, true, Bool, List, [], ◌∷◌, cond, length, map, inl, inr, refl, sym, subst, ap, ◌∙◌, arith}
+use Rattle.std.proofs.Common.{◌≤◌, ◌≡◌, ℕ, suc, ◌+◌, ◌<◌, true, Bool, List, [], ◌∷◌, cond, length, map, inl, inr, refl, sym, subst, ap, ◌∙◌, arith}
 use Rattle.std.specs.Prelude.{is_some}
 use Rattle.std.specs.Global.{Vec}
 use Rattle.std.specs.List.{filter_map, take_while}
@@ -197,9 +197,14 @@ module _ {E A B F : Type 0} (goes : Relation E A) (room : ℕ) (k : Shape E) (bl
   in_order =
       ap (λ (ts : List (Stage E)). records.events_of (filter_map (λ t. t.lent) ts)) (taken_whole blank w.stages all_out) ∙ all_lent blank w.stages all_out
 
+  saw_within : (h : ℕ) (e : ReceiverEnd E) → get_elem? outlets h ≡ some e → (n : ℕ) → SawSome e n → n ≤ length events
+  saw_within h e at n saw =
+      let many : length events ≡ length w.stages = length-map w.stages (shown blank) in
+      let most = saw_most k w h e (drained h e at).plan_is (at_world h e at) K within n saw in
+      omega arith
+
   pub all_through : AllWentThrough goes room events starts handlers
   all_through =
-      let many : length events ≡ length w.stages = length-map w.stages (shown blank) in
       subst (λ (l : List A). AllWentThrough goes room events starts l) (sym wound.handled)
       (subst (λ (l : List A). AllWentThrough goes room events l (map (λ (s : Served (ReceiverEnd E) A). s.handler) served)) begun
       (all_went receiver_place received_by is_told SawSome goes room (map given_end ws) (map given_handler ws) served wound.kept events
@@ -207,7 +212,7 @@ module _ {E A B F : Type 0} (goes : Relation E A) (room : ℕ) (k : Shape E) (bl
       (λ h e at.
       let d = drained h e at in (
         ap (λ (ls : List (Lent E)). records.events_of ls) d.events_are ∙ in_order,
-        λ n saw. (let most = saw_most k w h e d.plan_is (at_world h e at) K within n saw in omega arith),
+        saw_within h e at,
       ))))
 
   -- what each sender published
@@ -264,5 +269,6 @@ module _ {E A B F : Type 0} (goes : Relation E A) (room : ℕ) (k : Shape E) (bl
     order = sym in_order;
     through = record { merge = merge; through = go events all_through };
     claimed = claimed_all;
+    seen = saw_within;
     back = subst (λ (q : Shape E). GivesBack q settled.claimed (map (λ s. s.sender) sent) values) plan wound.back;
   }

@@ -1,5 +1,5 @@
 -- What came of a run with several senders: what each handler went through, and the run of the ring.
-use Rattle.std.specs.Prelude.{◌≡◌, ℕ, ◌==◌, ◌^◌, if◌then◌else◌, List, [], length, map}
+use Rattle.std.specs.Prelude.{◌≡◌, ℕ, ◌≤◌, ◌==◌, ◌^◌, if◌then◌else◌, List, [], length, map}
 use denote.RawPtr.{Ptr}
 use mathlib.Core.Option.{some}
 use lib.ListN.{get_elem?}
@@ -112,6 +112,8 @@ module _ {E : Type 0} where
     pub order : events ≡ events_of (published_events ends.run.world)
     pub through : AllWentThroughMerge went most (map (λ s. (sending_of s.sender).published) senders) events handlers ran.handlers
     pub claimed : ran.settled.claimed ≡ length events
+    -- no receiver saw that more was published
+    pub seen : (h : ℕ) (e : ReceiverEnd E) → get_elem? receivers h ≡ some e → (n : ℕ) → SawSome e n → n ≤ length events
     -- and the events are what lay in the cells at last
     pub back : GivesBack k ran.settled.claimed (map (λ s. s.sender) senders) ran.events
 

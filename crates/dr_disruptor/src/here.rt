@@ -1,10 +1,13 @@
 //! A ring's sender with its handlers on one thread.
 
-ghost use Rattle.std.specs.Prelude.{◌≡◌, ◌<◌, [], All, IfOk, length};
+ghost use Rattle.std.specs.Prelude.{◌≡◌, ◌<◌, [], All, IfErr, IfOk, length};
+ghost use Rattle.std.specs.Fn.{FnOnceReturnsAtMut};
 ghost use Rattle.dr_plain.specs.Calls.Ends.{receiver_place, received_of};
 ghost use Rattle.dr_plain.specs.Calls.Sending.{CloseCall};
-ghost use Rattle.dr_meaning.specs.Calls.Filling.{FillsOne};
-ghost use Rattle.dr_disruptor.specs.Here.{AreShown, HadTurns, HereEnd};
+ghost use Rattle.dr_meaning.specs.Calls.Ends.{IsStretch};
+ghost use Rattle.dr_meaning.specs.Calls.Filling.{FillsFrom, FillsOne};
+ghost use Rattle.dr_meaning.specs.Calls.InPlaceInlets.{Changes, IsOpen, IsWhole, Opens, Publishes};
+ghost use Rattle.dr_disruptor.specs.Here.{AreShown, HadTurns, HereEnd, here_place, refuses_here, sending_here};
 ghost use Rattle.dr_plain.specs.Calls.InPlace.{SawPublished};
 ghost use Rattle.dr_disruptor.specs.Serving.{AreServed, IsIdle};
 
@@ -54,6 +57,7 @@ fn round<E, H: InPlaceHandler<E>>(receivers: &mut [Receiver<E>], handlers: &mut 
         let Ok(_answer) = receiver.turn(&mut handlers[h], batch) else {
             unreachable!();
         };
+        // That a number tells how many it took: the proof needs it of the receiver after its turn.
         let _taken = receiver.taken();
     }
 }
@@ -147,7 +151,15 @@ impl<E, H: InPlaceHandler<E>> InPlaceInlet for Here<E, H> {
 
     ghost refuses = { refuses_here H.goes };
 
-    fn try_claim(&mut self, n: u64) -> Result<Claimed, ClaimFault> {
+    fn try_claim(&mut self, n: u64) -> Result<Claimed, ClaimFault>
+        requires closed { (sending_here self.old).pending ≡ [] }
+        ensures kept { here_place self.new ≡ here_place self.old }
+        ensures stretch { IfOk result (IsStretch n) }
+        ensures opens { IfOk result (λ c. Opens c.lo n (sending_here self.old) (sending_here self.new)) }
+        ensures refused { IfErr result (λ fault. refuses_here H.goes self.old n fault self.new × (sending_here self.new ≡ sending_here self.old)) }
+        // Where there was room, no handler has a turn.
+        ensures turns { IfOk result (λ _. (self.new.receivers ≡ self.old.receivers) × (self.new.handlers ≡ self.old.handlers)) }
+    {
         match Sender::try_claim(&mut self.sender, n) {
             Ok(claimed) => Ok(claimed),
             Err(Refusal::NoRoom) => {
@@ -162,19 +174,47 @@ impl<E, H: InPlaceHandler<E>> InPlaceInlet for Here<E, H> {
         }
     }
 
-    fn update<F: FnOnce(&mut E) + Drop>(&mut self, s: u64, change: F) {
+    fn update<F: FnOnce(&mut E) + Drop>(&mut self, s: u64, change: F)
+        requires callable { F.IsAlwaysCallable change }
+        requires within { IsOpen (sending_here self.old) s }
+        ensures kept { here_place self.new ≡ here_place self.old }
+        ensures changes { Changes (λ was now. FnOnceReturnsAtMut F.FnOnce change was tt now) s (sending_here self.old) (sending_here self.new) }
+        // No handler has a turn.
+        ensures turns { (self.new.receivers ≡ self.old.receivers) × (self.new.handlers ≡ self.old.handlers) }
+    {
         InPlaceInlet::update(&mut self.sender, s, change)
     }
 
-    fn update_at<F: Fn(&mut E, u64)>(&mut self, s: u64, fill: &F, number: u64) {
+    fn update_at<F: Fn(&mut E, u64)>(&mut self, s: u64, fill: &F, number: u64)
+        requires callable { F.IsAlwaysCallable fill.now }
+        requires within { IsOpen (sending_here self.old) s }
+        ensures kept { here_place self.new ≡ here_place self.old }
+        ensures changes { Changes (FillsOne F.Fn fill.now number) s (sending_here self.old) (sending_here self.new) }
+        // No handler has a turn.
+        ensures turns { (self.new.receivers ≡ self.old.receivers) × (self.new.handlers ≡ self.old.handlers) }
+    {
         self.sender.update_at(s, fill, number)
     }
 
-    fn update_by<F: FnMut(&mut E, u64)>(&mut self, s: u64, fill: &mut F, number: u64) {
+    fn update_by<F: FnMut(&mut E, u64)>(&mut self, s: u64, fill: &mut F, number: u64)
+        requires callable { F.IsAlwaysCallable fill.old }
+        requires within { IsOpen (sending_here self.old) s }
+        ensures kept { here_place self.new ≡ here_place self.old }
+        ensures changes { Changes (λ was now. FillsFrom F.FnMut fill.old number was fill.new now) s (sending_here self.old) (sending_here self.new) }
+        ensures callable { F.IsAlwaysCallable fill.new }
+        // No handler has a turn.
+        ensures turns { (self.new.receivers ≡ self.old.receivers) × (self.new.handlers ≡ self.old.handlers) }
+    {
         InPlaceInlet::update_by(&mut self.sender, s, fill, number)
     }
 
-    fn publish(&mut self, lo: u64, hi: u64) {
+    fn publish(&mut self, lo: u64, hi: u64)
+        requires whole { IsWhole lo hi (sending_here self.old) }
+        ensures kept { here_place self.new ≡ here_place self.old }
+        ensures publishes { Publishes (sending_here self.old) (sending_here self.new) }
+        // No handler has a turn.
+        ensures turns { (self.new.receivers ≡ self.old.receivers) × (self.new.handlers ≡ self.old.handlers) }
+    {
         InPlaceInlet::publish(&mut self.sender, lo, hi)
     }
 }

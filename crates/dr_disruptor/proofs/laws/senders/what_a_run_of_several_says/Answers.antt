@@ -1,12 +1,9 @@
-use Rattle.std.proofs.Common.{◌≡◌, ℕ, List, [], ◌++◌, length, map, sym, subst, ap, ◌∙◌}
+use Rattle.std.proofs.Common.{◌≡◌, ℕ, List, length, map, sym, subst, ap, ◌∙◌, arith}
 use mathlib.Core.Option.{some}
 use lib.ListN.{get_elem?, length-map}
-use Rattle.atomic_table.specs.Seated.{TableId}
-use Rattle.dr_meaning.specs.Calls.Handling.{GoesThrough, Relation}
 use Rattle.dr_meaning.specs.Meaning.Laws.{Laws}
 use Rattle.dr_runs.specs.declared.counts.HandlerCounts.{HandlerCounts}
 use Rattle.dr_runs.proofs.Lists.{map_there}
-use Rattle.dr_workers.specs.Meaning.Work.{Dealt, dealt_events, shown_of}
 use Rattle.dr_plain_senders.specs.declared.settled.Settled.{Settled}
 use Rattle.dr_plain_senders.specs.Calls.Ends.{HalterStand, ReceiverEnd, SenderEnd, receiver_place, received_of}
 use Rattle.dr_plain_senders.specs.Calls.InPlace.{SawSome}
@@ -14,9 +11,9 @@ use Rattle.dr_plain_senders.specs.Calls.Settling.{handler_counts}
 use Rattle.dr_plain_senders.specs.Meaning.Records.{events_of}
 use Rattle.dr_plain_senders.specs.Meaning.Settling.{published_events}
 use Rattle.dr_plain_senders.specs.Meaning.Shape.{Shape, ring_setup}
-use Rattle.dr_disruptor.specs.Merging.{AreServedBack, AreSettled, new_receivers}
+use Rattle.dr_disruptor.specs.Merging.{AreSettled, new_receivers}
 use Rattle.dr_disruptor.proofs.NewEndsOfSeveral.{new_at}
-use Rattle.dr_disruptor.proofs.Through.{served_at}
+use Rattle.dr_disruptor.proofs.Through.{shown_from_none}
 use Rattle.dr_disruptor.proofs.laws.senders.what_a_run_of_several_says.Goals as goal
 
 pub returns-clause-begins : goal.returns-clause-begins
@@ -29,30 +26,6 @@ returns-clause-begins g c most k feeds handlers ran is = (
 
 pub returns-clause-halts : goal.returns-clause-halts
 returns-clause-halts g c most k feeds handlers ran is = let halts = is.halts.1 in (halts.0.0, halts.0.1, halts.4)
-
--- the handler at a place was shown just what the receiver of that place took
-shown_its_own : {E A : Type 0} (goes : Relation E A) (most : ℕ) (t : TableId) (k : Shape E) (starts : List A) (outlets : List (ReceiverEnd E)) (handlers : List A)
-    → AreServedBack goes most (new_receivers t k) starts outlets handlers → (h : ℕ) (start : A) → get_elem? starts h ≡ some start
-    → (after : A) × (end : ReceiverEnd E) × (batches : List (Dealt E)) × (get_elem? handlers h ≡ some after) × (get_elem? outlets h ≡ some end)
-    × (receiver_place end ≡ (t, k, h)) × GoesThrough goes start (shown_of batches) after × (dealt_events batches ≡ (received_of end.knows).events)
-shown_its_own {E} goes most t k starts outlets handlers back h start at =
-    let (after, end, given, at_after, at_end, at_given, shows) =
-    served_at receiver_place (λ e. received_of e.knows) (λ e. e.knows.told) SawSome goes most (new_receivers t k) starts outlets handlers back h start at in
-    let new = new_at t k h given at_given in
-    let none : (received_of given.knows).events ≡ [] = ap (λ (e : ReceiverEnd E). (received_of e.knows).events) new in (
-      after,
-      end,
-      shows.batches,
-      at_after,
-      at_end,
-      shows.place ∙ ap receiver_place new,
-      shows.works.through,
-      sym (shows.works.handed.0 ∙ ap (λ (l : List E). l ++ dealt_events shows.batches) none),
-    )
-
-pub returns-clause-serves : goal.returns-clause-serves
-returns-clause-serves g c most k feeds handlers ran is =
-    shown_its_own g.H.InPlaceHandler.goes most is.ring k (g.T.Team.listed handlers) is.receivers (g.T.Team.listed ran.handlers) is.serving
 
 pub returns-clause-merges : goal.returns-clause-merges
 returns-clause-merges g c most k feeds handlers ran is = (is.through.merge, is.through.through, is.claimed)
@@ -78,6 +51,19 @@ completes_all {E} settled ss rs t ends events order claimed h e at =
 pub returns-clause-completes : goal.returns-clause-completes
 returns-clause-completes g c most k feeds handlers ran is =
     completes_all ran.settled (map (λ s. s.sender) is.senders) is.receivers is.halter is.ends is.events is.order is.claimed
+
+pub returns-clause-serves : goal.returns-clause-serves
+returns-clause-serves g c most k feeds handlers ran is =
+    shown_from_none receiver_place (λ e. received_of e.knows) (λ e. e.knows.told) SawSome g.H.InPlaceHandler.goes most (new_receivers is.ring k)
+    (g.T.Team.listed handlers) is.receivers (g.T.Team.listed ran.handlers) (λ h. (is.ring, k, h))
+    (λ h given at.
+    let new = new_at is.ring k h given at in
+    (ap receiver_place new, ap (λ (e : ReceiverEnd g.row.E.Denot). (received_of e.knows).events) new))
+    (λ h e at n saw.
+    let most = is.seen h e at n saw in
+    let all = completes_all ran.settled (map (λ s. s.sender) is.senders) is.receivers is.halter is.ends is.events is.order is.claimed h e at in
+    let many : length (received_of e.knows).events ≡ length is.events = ap length all.0 in omega arith)
+    is.serving
 
 pub returns-clause-runs : goal.returns-clause-runs
 returns-clause-runs g c most k feeds handlers ran is =
