@@ -4,6 +4,7 @@
 
 ghost use Rattle.std.specs.Prelude.{◌≡◌, ◌<◌, ◌^◌, length, IfOk, true, false, Ok, Err};
 ghost use Rattle.dr_journal.specs.Meaning.Disk.{Only};
+ghost use Rattle.dr_journal.specs.Inside.File.{seen_in, faults_in};
 ghost use Rattle.dr_journal.specs.declared.fault.JournalFault.TheVariants.{Failed};
 
 use crate::{Device, JournalFault};
@@ -22,7 +23,7 @@ pub(crate) enum Calls {
     Unopened,
     Opened(Snapshot<Vec<u8>>),
     Overwritten(Snapshot<Calls>, usize, Snapshot<Vec<u8>>, bool),
-    Extended(Snapshot<Calls>, Snapshot<Vec<u8>>, bool),
+    Extended(Snapshot<Calls>, u64, Snapshot<Vec<u8>>, bool),
     Synced(Snapshot<Calls>, bool),
 }
 
@@ -35,6 +36,10 @@ pub struct FileDevice {
     // A call was not answered: no other is made.
     is_broken: bool,
     calls: Snapshot<Calls>,
+    // Where the next byte goes.
+    ghost ends: { len ≡ length (seen_in calls.value) },
+    // A call after one that was not answered is not made.
+    ghost works: { is_broken ≡ false → faults_in calls.value ≡ 0 },
 }
 
 fn told(done: bool) -> Result<(), JournalFault>
@@ -65,7 +70,7 @@ fn read_all(alloc: Global, file: &File) -> Result<Vec<u8>, JournalFault>
 }
 
 impl FileDevice {
-    ghost use Rattle.dr_journal.specs.Inside.File.{seen_in, left_in, moment_in};
+    ghost use Rattle.dr_journal.specs.Inside.File.{left_in, moment_in};
 
     /// An open file, and the bytes that it has, all of them on the disk.
     pub(crate) fn new(alloc: Global, file: File) -> Result<(FileDevice, Vec<u8>), JournalFault>
@@ -93,7 +98,7 @@ impl FileDevice {
 }
 
 impl Device for FileDevice {
-    ghost use Rattle.dr_journal.specs.Inside.File.{seen_in, left_in, moment_in, since_in, faults_in, now_counts, now_only};
+    ghost use Rattle.dr_journal.specs.Inside.File.{left_in, moment_in, since_in, now_counts, now_only};
 
     ghost seen = { λ f. seen_in f.calls.value };
 
@@ -118,11 +123,16 @@ impl Device for FileDevice {
     }
 
     fn extend(&mut self, bytes: &Vec<u8>) -> Result<(), JournalFault> {
-        let done = !self.is_broken && self.file.write_all_at(bytes, self.len).is_ok();
+        let at = self.len;
+        let end = at.checked_add(bytes.len() as u64);
+        let done = !self.is_broken && end.is_some() && self.file.write_all_at(bytes, at).is_ok();
         self.is_broken = !done;
-        self.len = self.len.saturating_add(bytes.len() as u64);
+        self.len = match end {
+            Some(end) if done => end,
+            _ => at,
+        };
         let before = mem::replace(&mut self.calls, Snapshot::of(&Calls::Unopened));
-        self.calls = Snapshot::of(&Calls::Extended(before, Snapshot::of(bytes), done));
+        self.calls = Snapshot::of(&Calls::Extended(before, at, Snapshot::of(bytes), done));
         told(done)
     }
 
