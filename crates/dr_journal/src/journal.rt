@@ -56,6 +56,8 @@ impl<D: Device> Journal<D> {
         ensures refused { IsRefused result → IsAtRest D.seen D.may_leave self.new × (records_of D.seen self.new ≡ records_of D.seen self.old) }
         // It does not give up by itself.
         ensures faults { faults_of D.faults self.old ≤ faults_of D.faults self.new }
+        // A failure of the disk is told: none is tried again in silence.
+        ensures reliable { OnOk result (faults_of D.faults self.new ≡ faults_of D.faults self.old) }
         ensures failed { IsErrOf result Failed → faults_of D.faults self.old < faults_of D.faults self.new }
         ensures full { IsErrOf result Full → (self.new ≡ self.old) × IsTooLarge (file_of D.seen self.old) (bytes_of batch.now) }
     {
@@ -77,7 +79,8 @@ impl<D: Device> Journal<D> {
         ensures any_moment { CrashLeaves D.moment D.left_since self.old self.new (HasBeginning (records_of D.seen self.old) batches.now) }
         // With no memory or no room it is at rest, and has some first batches.
         ensures refused { IsRefused result → IsAtRest D.seen D.may_leave self.new × HasBeginning (records_of D.seen self.old) batches.now (file_of D.seen self.new) }
-        // It does not give up by itself.
+        // It does not give up by itself, and a failure of the disk is told.
+        ensures reliable { OnOk result (faults_of D.faults self.new ≡ faults_of D.faults self.old) }
         ensures failed { IsErrOf result Failed → faults_of D.faults self.old < faults_of D.faults self.new }
         ensures full { IsErrOf result Full → HasTooLarge (file_of D.seen self.new) batches.now }
     {
@@ -96,6 +99,7 @@ impl<D: Device> Journal<D> {
         ensures any_moment { CrashLeaves D.moment D.left_since self.old self.new (StandsFor (records_of D.seen self.old)) }
         ensures refused { IsRefused result → IsAtRest D.seen D.may_leave self.new × (records_of D.seen self.new ≡ records_of D.seen self.old) }
         ensures faults { faults_of D.faults self.old ≤ faults_of D.faults self.new }
+        ensures reliable { OnOk result (faults_of D.faults self.new ≡ faults_of D.faults self.old) }
         ensures failed { IsErrOf result Failed → faults_of D.faults self.old < faults_of D.faults self.new }
         ensures full { IsErrOf result Full → (self.new ≡ self.old) × ((2 ^ 60 < length_of self.old) ⊎ (2 ^ 60 < n)) }
     {

@@ -38,7 +38,8 @@ pub fn recover<D: Device>(
     ensures foreign { IsForeign (D.seen device) → IfErr result (λ e. e.0 ≡ NotAJournal) }
     ensures opened { IfOk result (λ _. IsForeign (D.seen device) → ⊥) }
     ensures untouched { IfErr result (λ e. e.0 ≡ NotAJournal → (e.1 ≡ device) × IsForeign (D.seen device)) }
-    // It does not give up by itself.
+    // It does not give up by itself, and a failure of the disk is told.
+    ensures reliable { IfOk result (λ r. D.faults (device_of r.0) ≡ D.faults device) }
     ensures failed { IfErr result (λ e. e.0 ≡ JournalFailed Failed → D.faults device < D.faults e.1) }
     ensures full { IfErr result (λ e. e.0 ≡ JournalFailed Full → ⊥) }
     ensures free { IfErr result (λ e. e.0 ≡ InUse → ⊥) }
@@ -71,6 +72,7 @@ fn prepare<D: Device>(alloc: Global, device: &mut D, bytes: &[u8]) -> Result<Pre
     ensures any_moment { LeavesOnly D.moment D.left_since device.old device.new (StandsForTheSame (D.seen device.old)) }
     ensures foreign { IsForeign (D.seen device.old) → IsErrOf result NotAJournal }
     ensures untouched { IsErrOf result NotAJournal → (device.new ≡ device.old) × IsForeign (D.seen device.old) }
+    ensures reliable { OnOk result (D.faults device.new ≡ D.faults device.old) }
     ensures failed { IsErrOf result (JournalFailed Failed) → D.faults device.old < D.faults device.new }
     ensures full { IsErrOf result (JournalFailed Full) → ⊥ }
     ensures free { IsErrOf result InUse → ⊥ }

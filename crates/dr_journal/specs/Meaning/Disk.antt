@@ -1,5 +1,5 @@
 -- What the calls of a device do to its file, and what a crash may do to it between two syncs.
-use Rattle.std.specs.Prelude.{◌<◌, ◌≡◌, ◌⊎◌, ℕ, ◌+◌, ◌≤◌, List, [], ◌∷◌, ◌++◌, length, take, drop, Result, IsErrOf}
+use Rattle.std.specs.Prelude.{◌<◌, ◌≡◌, ◌⊎◌, ℕ, ◌+◌, ◌≤◌, List, [], ◌∷◌, ◌++◌, length, take, drop, Result, IsErrOf, OnOk}
 use Rattle.dr_journal.specs.declared.fault.JournalFault.{JournalFault}
 use Rattle.dr_journal.specs.declared.fault.JournalFault.TheVariants.{Failed, Full}
 
@@ -47,8 +47,9 @@ pub record LeavesOnly {D : Type 0} (moment : D → ℕ) (left_since : D → ℕ 
   -- for a run that began earlier
   pub before : (t : ℕ) (c : List ℕ) → t ≤ moment old → left_since new t c → left_since old t c ⊎ P c
 
--- `Failed` is told only where the disk has failed since, and `Full` is not told
+-- `Failed` is told only where the disk has failed since, a call that succeeds met no failure, and `Full` is not told
 pub record HasCause {T : Type 0} (before now : ℕ) (result : Result T JournalFault) : Type 0 where
   pub later : before ≤ now
+  pub ok : OnOk result (now ≡ before)
   pub failed : IsErrOf result Failed → before < now
   pub not_full : IsErrOf result Full → ⊥

@@ -32,8 +32,12 @@ loop-batch-preserved g c =
       at_rest = c.in_ok-append.ensures.at_rest;
       so_far = c.in_ok-append.ensures.acknowledged ∙ ap (λ b. before ++ bytes_of b) c.as_slice.ensures.value ∙ and_batch c.args.batches.now c.loop-batch.batch-index c.batch-item.result within c.batch-item.is first before s.so_far;
       moments = and_then d.moment d.left_since c.args.self.now.device was.device c.append.new.self.device (HasBeginning first c.args.batches.now) _ s.moments step (begins c.args.batches.now c.loop-batch.batch-index c.batch-item.result within c.batch-item.is first before s.so_far);
+      reliable = c.in_ok-append.ensures.reliable ∙ s.reliable;
       faults = omega (arith, s.faults, c.append.ensures.faults);
     }
+
+pub returns-clause-reliable : goal.returns-clause-reliable
+returns-clause-reliable g c = c.loop-batch.invariant.reliable
 
 pub returns-in_err-append-clause-full : goal.returns-in_err-append-clause-full
 returns-in_err-append-clause-full g c =
