@@ -1,7 +1,7 @@
 //! The handler that journals: each batch is on the disk before its last event is handled, and so
 //! before a worker that shows a whole batch completes it.
 
-ghost use Rattle.std.specs.Prelude.{◌≡◌, ◌<◌, ◌++◌, ◌∷◌, [], true, OnOk, None, Some, IsErrOf};
+ghost use Rattle.std.specs.Prelude.{◌≡◌, ◌<◌, ◌++◌, ◌∷◌, [], true, false, OnOk, None, Some, IsErrOf};
 ghost use Rattle.dr_journal.specs.declared.fault.JournalFault.TheVariants.{Failed, Full};
 ghost use Rattle.dr_journal.specs.Calls.Journals.{IsAtRest, IsBeforeOrAfter, IsTooLarge, CrashLeaves, bytes_of, file_of, records_of, faults_of};
 
@@ -82,6 +82,7 @@ fn take_event<D: Device, E: AsRecord>(
     ensures at_rest { OnOk result (IsAtRest D.seen D.may_leave journal.new) }
     ensures told { OnOk result (records_of D.seen journal.new ++ bytes_of waiting.new.items ≡ records_of D.seen journal.old ++ (bytes_of waiting.old.items ++ E.record_of (E.value event.now) ∷ [])) }
     ensures end { OnOk result (end ≡ true → waiting.new.items ≡ []) }
+    ensures waits { end ≡ false → journal.new ≡ journal.old }
     ensures comes_back { OnOk result (E.value_in (E.record_of (E.value event.now)) ≡ Some (E.value event.now)) }
     ensures any_moment { CrashLeaves D.moment D.left_since journal.old journal.new (IsBeforeOrAfter (records_of D.seen journal.old) (bytes_of waiting.old.items ++ E.record_of (E.value event.now) ∷ [])) }
     ensures failed { IsErrOf result Failed → faults_of D.faults journal.old < faults_of D.faults journal.new }
@@ -100,7 +101,7 @@ impl<D: Device, E: AsRecord> InPlaceHandler<E> for Journaling<D> {
     ghost use Rattle.dr_journal.specs.Calls.Handling.{Journals};
     ghost use Rattle.dr_journal.specs.Inside.Handler.{writer_of};
 
-    ghost goes = { λ old event s end new. Journals D.seen D.moment D.left_since D.faults (writer_of old) (E.record_of (E.value event)) end (writer_of new) × ((writer_of new).fault ≡ None → E.value_in (E.record_of (E.value event)) ≡ Some (E.value event)) };
+    ghost goes = { λ old event s end new. Journals D.seen D.may_leave D.moment D.left_since D.faults (writer_of old) (E.record_of (E.value event)) end (writer_of new) × ((writer_of new).fault ≡ None → E.value_in (E.record_of (E.value event)) ≡ Some (E.value event)) };
 
     fn on_event_in_place(&mut self, event: &E, _s: u64, end: bool) {
         if self.fault.is_some() {

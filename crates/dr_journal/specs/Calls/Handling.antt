@@ -1,6 +1,6 @@
--- What the handler does with an event: `seen`, `moment`, `left_since` and `faults` are its device's.
-use Rattle.std.specs.Prelude.{◌≡◌, ◌<◌, ℕ, Bool, true, Option, Some, None, IsSome, List, [], ◌∷◌, ◌++◌}
-use Rattle.dr_journal.specs.Calls.Journals.{IsBeforeOrAfter, IsTooLarge, CrashLeaves, file_of, records_of, faults_of}
+-- What the handler does with an event: `seen`, `may_leave`, `moment`, `left_since` and `faults` are its device's.
+use Rattle.std.specs.Prelude.{◌≡◌, ◌<◌, ℕ, Bool, true, false, Option, Some, None, IsSome, List, [], ◌∷◌, ◌++◌}
+use Rattle.dr_journal.specs.Calls.Journals.{IsAtRest, IsBeforeOrAfter, IsTooLarge, CrashLeaves, file_of, records_of, faults_of}
 use Rattle.dr_journal.specs.declared.journal.Journal.{Journal}
 use Rattle.dr_journal.specs.declared.fault.JournalFault.{JournalFault}
 use Rattle.dr_journal.specs.declared.fault.JournalFault.TheVariants.{Failed, Full}
@@ -11,13 +11,17 @@ pub record Writer (D : Type 0) : Type 0 where
   pub waiting : List (List ℕ)
   pub fault : Option JournalFault
 
-module _ {D : Type 0} (seen : D → List ℕ) (moment : D → ℕ) (left_since : D → ℕ → List ℕ → Type 0) (faults : D → ℕ) where
+module _ {D : Type 0} (seen : D → List ℕ) (may_leave : D → List ℕ → Type 0) (moment : D → ℕ) (left_since : D → ℕ → List ℕ → Type 0) (faults : D → ℕ) where
   -- a handler that had not failed is shown an event of this record
   pub record TakesRecord (old : Writer D) (bytes : List ℕ) (end : Bool) (new : Writer D) : Type 0 where
     -- as long as it does not fail, what its file stands for and what waits are, together, all that it was shown
     pub told : new.fault ≡ None → records_of seen new.journal ++ new.waiting ≡ records_of seen old.journal ++ (old.waiting ++ bytes ∷ [])
     -- and at the end of a batch nothing waits
     pub ended : new.fault ≡ None → end ≡ true → new.waiting ≡ []
+    -- before that nothing is written: a batch is not split
+    pub waits : end ≡ false → new.journal ≡ old.journal
+    -- what is written is on the disk, and a crash leaves it
+    pub rests : new.fault ≡ None → IsAtRest seen may_leave new.journal
     -- a crash leaves what the file stood for before, with all that it was shown or with no more
     pub any_moment : CrashLeaves moment left_since old.journal new.journal (IsBeforeOrAfter (records_of seen old.journal) (old.waiting ++ bytes ∷ []))
     -- it fails only where the disk has failed since, or there was no room, or no memory
