@@ -9,8 +9,10 @@ use crate::JournalFault;
 /// A file that a journal writes. It is read once, as it is opened, so there is no call that reads.
 ///
 /// The premise on a disk is in `overwrite` and `extend`: a write that a crash cuts short leaves each
-/// byte *within* the file old or new, and may leave any bytes past its old end. `moment` is a clock,
-/// so that a contract can speak of a crash at each moment of a call.
+/// byte *within* the file old or new, and may leave any bytes past its old end. Bytes that it does not
+/// write stay as they are, also those of the same sector or page: a disk that tears a sector so that the
+/// bytes beside the write are lost breaks the premise. `moment` is a clock, so that a contract can speak
+/// of a crash at each moment of a call.
 pub trait Device {
     /// The bytes that the file has.
     ghost seen: { Self → List ℕ };
@@ -30,7 +32,9 @@ pub trait Device {
     /// Writes over what is there. Until a sync, a crash leaves each byte as it was or as it is
     /// written.
     fn overwrite(&mut self, at: usize, bytes: &Vec<u8>) -> Result<(), JournalFault>
-        requires { at + length bytes.now.items ≤ length (seen self.old) }
+        requires within { at + length bytes.now.items ≤ length (seen self.old) }
+        // Whatever a crash leaves of the file now has these bytes too, so that no write over them makes it longer.
+        requires left { (c : List ℕ) → may_leave self.old c → at + length bytes.now.items ≤ length c }
         ensures written { OnOk result (seen self.new ≡ written at bytes.now.items (seen self.old)) }
         ensures crash { Follows (Mixed at bytes.now.items) (may_leave self.old) (may_leave self.new) }
         ensures time { Elapses (moment self.old) (moment self.new) (left_since self.old) (left_since self.new) (may_leave self.new) }

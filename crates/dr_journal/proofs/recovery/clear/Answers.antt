@@ -9,10 +9,15 @@ use Rattle.dr_journal.proofs.recovery.clear.Goals as goal
 pub overflow_sub-len : goal.overflow_sub-len
 overflow_sub-len g c = omega (arith, c.requires.end, c.requires.len, ends_within (g.D.Device.seen c.args.device.now) c.requires.journal)
 
-pub overwrite-requires : goal.overwrite-requires
-overwrite-requires g c =
+pub overwrite-requires-clause-within : goal.overwrite-requires-clause-within
+overwrite-requires-clause-within g c =
     let size = ap length c.in_ok-nothing.ensures in
     omega (arith, c.requires.end, c.requires.len, ends_within (g.D.Device.seen c.args.device.now) c.requires.journal, size, length-replicate {A = ℕ} (c.args.len - c.args.end) 0)
+
+pub overwrite-requires-clause-left : goal.overwrite-requires-clause-left
+overwrite-requires-clause-left g c f left =
+    let size = ap length c.in_ok-nothing.ensures in
+    omega (arith, ap length (c.requires.durable f left), c.requires.end, c.requires.len, ends_within (g.D.Device.seen c.args.device.now) c.requires.journal, size, length-replicate {A = ℕ} (c.args.len - c.args.end) 0)
 
 pub returns-in_err-nothing-clause-any_moment : goal.returns-in_err-nothing-clause-any_moment
 returns-in_err-nothing-clause-any_moment g c =

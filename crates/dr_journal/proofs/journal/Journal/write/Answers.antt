@@ -1,9 +1,14 @@
-use Rattle.std.proofs.Common.{rules, ◌≡◌, ◌+◌, ◌∙◌, length, refl, sym, ap, inl, subst}
+use Rattle.std.proofs.Common.{arith, rules, ◌≡◌, ◌+◌, ◌∙◌, length, refl, sym, ap, inl, subst}
 use Rattle.dr_journal.specs.Meaning.Disk.{Only}
 use Rattle.dr_journal.specs.Calls.Journals.{IsBeforeOrAfter, records_of, bytes_of}
 use Rattle.dr_journal.proofs.Crash.{stays, write_crash, written_rests}
 use Rattle.dr_journal.proofs.Moments.{one_write, write_and_sync}
 use Rattle.dr_journal.proofs.journal.Journal.write.Goals as goal
+
+pub overwrite-requires-clause-left : goal.overwrite-requires-clause-left
+overwrite-requires-clause-left g c f left =
+    let s = c.requires in
+    omega (arith, ap length (s.at_rest.durable f left), s.at_rest.len, s.room)
 
 pub returns-in_err-overwrite-clause-any_moment : goal.returns-in_err-overwrite-clause-any_moment
 returns-in_err-overwrite-clause-any_moment g c =

@@ -17,18 +17,18 @@ left_new : (file bytes new : List ℕ) (n : ℕ) → n + length bytes ≤ length
 left_new file bytes new n le done c is = (file, refl, subst (λ f. Mixed n bytes file f) (sym (is ∙ done)) (mix_new file (written n bytes file) (length-written n bytes file le)))
 
 pub returns-in_err-next-clause-crash : goal.returns-in_err-next-clause-crash
-returns-in_err-next-clause-crash c = left_old c.args.self.now.bytes.items c.args.bytes.now.items c.args.at c.requires
+returns-in_err-next-clause-crash c = left_old c.args.self.now.bytes.items c.args.bytes.now.items c.args.at c.requires.within
 
 pub returns-in_err-extend_from_slice-clause-crash : goal.returns-in_err-extend_from_slice-clause-crash
-returns-in_err-extend_from_slice-clause-crash c = left_old c.args.self.now.bytes.items c.args.bytes.now.items c.args.at c.requires
+returns-in_err-extend_from_slice-clause-crash c = left_old c.args.self.now.bytes.items c.args.bytes.now.items c.args.at c.requires.within
 
 pub returns-in_err-extend_from_slice-2-clause-crash : goal.returns-in_err-extend_from_slice-2-clause-crash
-returns-in_err-extend_from_slice-2-clause-crash c = left_old c.args.self.now.bytes.items c.args.bytes.now.items c.args.at c.requires
+returns-in_err-extend_from_slice-2-clause-crash c = left_old c.args.self.now.bytes.items c.args.bytes.now.items c.args.at c.requires.within
 
 pub returns-in_err-replace-clause-crash : goal.returns-in_err-replace-clause-crash
-returns-in_err-replace-clause-crash c = λ f is. left_old c.args.self.now.bytes.items c.args.bytes.now.items c.args.at c.requires f (is ∙ c.in_err-replace.ensures.err)
+returns-in_err-replace-clause-crash c = λ f is. left_old c.args.self.now.bytes.items c.args.bytes.now.items c.args.at c.requires.within f (is ∙ c.in_err-replace.ensures.err)
 
 pub returns-clause-crash : goal.returns-clause-crash
 returns-clause-crash c =
     let done : c.replace.new.bytes.items ≡ written c.args.at c.args.bytes.now.items c.args.self.now.bytes.items = grind (arith, common_steps) in
-    left_new c.args.self.now.bytes.items c.args.bytes.now.items c.replace.new.bytes.items c.args.at c.requires done
+    left_new c.args.self.now.bytes.items c.args.bytes.now.items c.replace.new.bytes.items c.args.at c.requires.within done
