@@ -42,7 +42,7 @@ impl<D: Device> Journal<D> {
         self.device
     }
 
-    /// Adds a batch of records, with one sync, and two more where the file has to grow first. At
+    /// Adds a batch of records, with one sync, and one more where the file has to grow first. At
     /// `Ok` the batch is acknowledged: from then on each crash leaves a file that has it. After
     /// `Failed` whether the batch is there only an opening tells.
     pub fn append(&mut self, alloc: Global, batch: &[Vec<u8>]) -> Result<(), JournalFault>

@@ -18,6 +18,11 @@ use std::alloc::Global;
 /// Reads the records of a file that a crash may have left, and repairs its end, or gives a new file
 /// its header. It may crash at any moment too. A file that is no journal is left untouched. At `Err`
 /// the device comes back.
+///
+/// The whole file and its records are in memory at once. Behind a byte that is damaged in the middle of
+/// the file nothing is read, and this overwrites what was there with zeros: of a disk that may lose bytes
+/// which it had synced, keep a copy of the file first. The calls are the write, if one is wanted, and then
+/// its sync.
 pub fn recover<D: Device>(
     alloc: Global,
     device: D,
