@@ -10,5 +10,6 @@ mod Mixes
 mod Moments
 mod Repair
 mod Runs
+mod Shown
 mod Values
 mod Words

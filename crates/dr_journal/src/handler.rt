@@ -2,7 +2,7 @@
 //! before a worker that shows a whole batch completes it.
 
 ghost use Rattle.std.specs.Prelude.{◌≡◌, ◌<◌, ◌++◌, ◌∷◌, [], true, false, OnOk, None, Some, IsErrOf};
-ghost use Rattle.dr_journal.specs.declared.fault.JournalFault.TheVariants.{Failed, Full};
+ghost use Rattle.dr_journal.specs.declared.fault.JournalFault.TheVariants.{NoMemory, Failed, Full};
 ghost use Rattle.dr_journal.specs.Calls.Journals.{IsAtRest, IsBeforeOrAfter, IsTooLarge, CrashLeaves, bytes_of, file_of, records_of, faults_of};
 
 use crate::{AsRecord, Device, Journal, JournalFault};
@@ -46,7 +46,15 @@ impl<D: Device> Journaling<D> {
         self.fault
     }
 
-    /// Its journal, which is at rest unless the handler has failed.
+    /// The records of the batch whose end it was not shown yet: they are in no file.
+    pub fn waiting(&self) -> &[Vec<u8>]
+        ensures { bytes_of result.now ≡ (writer_of self.now).waiting }
+    {
+        &self.waiting
+    }
+
+    /// Its journal, which is at rest unless the handler has failed: then [`InPlaceHandler::goes`] says
+    /// how it is, at rest too where memory or room was short. What [waits](Journaling::waiting) is dropped.
     pub fn into_journal(self) -> Journal<D>
         ensures value { result ≡ (writer_of self).journal }
         ensures at_rest { (writer_of self).fault ≡ None → IsAtRest D.seen D.may_leave result }
@@ -85,6 +93,8 @@ fn take_event<D: Device, E: AsRecord>(
     ensures waits { end ≡ false → journal.new ≡ journal.old }
     ensures comes_back { OnOk result (E.value_in (E.record_of (E.value event.now)) ≡ Some (E.value event.now)) }
     ensures any_moment { CrashLeaves D.moment D.left_since journal.old journal.new (IsBeforeOrAfter (records_of D.seen journal.old) (bytes_of waiting.old.items ++ E.record_of (E.value event.now) ∷ [])) }
+    ensures no_memory { IsErrOf result NoMemory → IsAtRest D.seen D.may_leave journal.new × (records_of D.seen journal.new ≡ records_of D.seen journal.old) }
+    ensures no_room { IsErrOf result Full → IsAtRest D.seen D.may_leave journal.new × (records_of D.seen journal.new ≡ records_of D.seen journal.old) }
     ensures failed { IsErrOf result Failed → faults_of D.faults journal.old < faults_of D.faults journal.new }
     ensures full { IsErrOf result Full → IsTooLarge (file_of D.seen journal.old) (bytes_of waiting.old.items ++ E.record_of (E.value event.now) ∷ []) }
 {

@@ -30,7 +30,7 @@ pub use fault::{JournalFault, OpenFault};
 pub use file::FileDevice;
 pub use handler::Journaling;
 pub use journal::Journal;
-pub use lawful::batches_come_back;
+pub use lawful::{batches_come_back, what_was_shown_is_kept};
 pub use memory::MemoryDevice;
 pub use opening::open;
 pub use record::{AsRecord, RecordFault, read_events};

@@ -1,7 +1,7 @@
-use Rattle.std.proofs.Common.{rules, ◌++◌, ◌∷◌, [], ◌∙◌, List, ℕ, inl, ap, subst}
+use Rattle.std.proofs.Common.{rules, refl, inr, ◌++◌, ◌∷◌, [], ◌∙◌, List, ℕ, inl, ap, subst}
 use Rattle.std.specs.Prelude.{IsErrOf}
 use Rattle.std.proofs.lemmas.List.{append-nil}
-use Rattle.dr_journal.specs.declared.fault.JournalFault.TheVariants.{Full}
+use Rattle.dr_journal.specs.declared.fault.JournalFault.TheVariants.{NoMemory, Full}
 use Rattle.dr_journal.specs.Calls.Journals.{IsBeforeOrAfter, IsTooLarge, CrashLeaves, bytes_of, file_of, records_of}
 use Rattle.dr_journal.proofs.Crash.{stays}
 use Rattle.dr_journal.proofs.Moments.{no_call}
@@ -38,6 +38,21 @@ returns-in_err-append-clause-full g c =
     λ is.
     let told : IsErrOf c.append.result Full = search rules in
     subst (λ l. IsTooLarge (file_of d.seen was) l) (ap (λ l. bytes_of l) c.as_slice.ensures.value ∙ c.in_ok-push_event.ensures.added) (c.append.ensures.full told).1
+
+pub returns-in_err-push_event-clause-no_memory : goal.returns-in_err-push_event-clause-no_memory
+returns-in_err-push_event-clause-no_memory g c = λ is. (c.requires, refl)
+
+pub returns-in_err-append-clause-no_memory : goal.returns-in_err-append-clause-no_memory
+returns-in_err-append-clause-no_memory g c =
+    λ is.
+    let told : IsErrOf c.append.result NoMemory = search rules in
+    c.append.ensures.refused (inl told)
+
+pub returns-in_err-append-clause-no_room : goal.returns-in_err-append-clause-no_room
+returns-in_err-append-clause-no_room g c =
+    λ is.
+    let told : IsErrOf c.append.result Full = search rules in
+    c.append.ensures.refused (inr told)
 
 pub returns-clause-told : goal.returns-clause-told
 returns-clause-told g c =
