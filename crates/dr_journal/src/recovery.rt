@@ -1,9 +1,9 @@
 //! How a file becomes a journal at rest: after a crash, or for the first time.
 
 ghost use Rattle.std.specs.Prelude.{◌≡◌, ◌≤◌, ◌<◌, ◌+◌, ◌^◌, ◌-◌, ◌++◌, [], length, replicate, IfOk, IfErr, OnOk, OnErr, IsErrOf};
-ghost use Rattle.dr_journal.specs.declared.fault.JournalFault.TheVariants.{Failed, Full};
+ghost use Rattle.dr_journal.specs.declared.fault.JournalFault.TheVariants.{NoMemory, Failed, Full};
 ghost use Rattle.dr_journal.specs.declared.fault.OpenFault.TheVariants.{NotAJournal, InUse, Journal as JournalFailed};
-ghost use Rattle.dr_journal.specs.Meaning.Disk.{Only, LeavesOnly, HasCause};
+ghost use Rattle.dr_journal.specs.Meaning.Disk.{Only, LeavesOnly, HasCause, IsUntouched};
 ghost use Rattle.dr_journal.specs.Meaning.Format.{header, IsJournal, IsNew, IsForeign, behind_header, whole_length, whole_batches, recovered};
 ghost use Rattle.dr_journal.specs.Inside.Parts.{device_of};
 ghost use Rattle.dr_journal.specs.Calls.Journals.{IsAtRest, StandsFor, bytes_of, records_of};
@@ -46,6 +46,8 @@ pub fn recover<D: Device>(
     // It does not give up by itself, and a failure of the disk is told.
     ensures reliable { IfOk result (λ r. D.faults (device_of r.0) ≡ D.faults device) }
     ensures failed { IfErr result (λ e. e.0 ≡ JournalFailed Failed → D.faults device < D.faults e.1) }
+    // It asks for memory before it writes: with none the file is as it was, and the call may be made again.
+    ensures no_memory { IfErr result (λ e. e.0 ≡ JournalFailed NoMemory → IsUntouched (D.seen device) (D.seen e.1) (D.may_leave device) (D.may_leave e.1)) }
     ensures full { IfErr result (λ e. e.0 ≡ JournalFailed Full → ⊥) }
     ensures free { IfErr result (λ e. e.0 ≡ InUse → ⊥) }
 {
@@ -79,6 +81,7 @@ fn prepare<D: Device>(alloc: Global, device: &mut D, bytes: &[u8]) -> Result<Pre
     ensures untouched { IsErrOf result NotAJournal → (device.new ≡ device.old) × IsForeign (D.seen device.old) }
     ensures reliable { OnOk result (D.faults device.new ≡ D.faults device.old) }
     ensures failed { IsErrOf result (JournalFailed Failed) → D.faults device.old < D.faults device.new }
+    ensures no_memory { IsErrOf result (JournalFailed NoMemory) → IsUntouched (D.seen device.old) (D.seen device.new) (D.may_leave device.old) (D.may_leave device.new) }
     ensures full { IsErrOf result (JournalFailed Full) → ⊥ }
     ensures free { IsErrOf result InUse → ⊥ }
 {
@@ -99,6 +102,7 @@ fn begin<D: Device>(alloc: Global, device: &mut D, bytes: &[u8]) -> Result<Prepa
     ensures records { IfOk result (λ r. bytes_of r.records.items ≡ recovered (D.seen device.old)) }
     ensures any_moment { LeavesOnly D.moment D.left_since device.old device.new (StandsForTheSame (D.seen device.old)) }
     ensures cause { HasCause (D.faults device.old) (D.faults device.new) result }
+    ensures no_memory { IsErrOf result NoMemory → IsUntouched (D.seen device.old) (D.seen device.new) (D.may_leave device.old) (D.may_leave device.new) }
 {
     let rest = rest_of_header(alloc, bytes)?;
     device.extend(&rest)?;
@@ -121,6 +125,7 @@ fn repair<D: Device>(alloc: Global, device: &mut D, bytes: &[u8]) -> Result<Prep
     ensures records { IfOk result (λ r. bytes_of r.records.items ≡ recovered (D.seen device.old)) }
     ensures any_moment { LeavesOnly D.moment D.left_since device.old device.new (StandsForTheSame (D.seen device.old)) }
     ensures cause { HasCause (D.faults device.old) (D.faults device.new) result }
+    ensures no_memory { IsErrOf result NoMemory → IsUntouched (D.seen device.old) (D.seen device.new) (D.may_leave device.old) (D.may_leave device.new) }
 {
     let behind = &bytes[HEADER_LENGTH..];
     let whole = measure(behind);
@@ -147,6 +152,7 @@ fn free<D: Device>(
     ensures durable { OnOk result (Only (D.seen device.new) (D.may_leave device.new)) }
     ensures any_moment { LeavesOnly D.moment D.left_since device.old device.new (StandsFor (recovered (D.seen device.old))) }
     ensures cause { HasCause (D.faults device.old) (D.faults device.new) result }
+    ensures no_memory { IsErrOf result NoMemory → IsUntouched (D.seen device.old) (D.seen device.new) (D.may_leave device.old) (D.may_leave device.new) }
 {
     if end < len {
         clear(alloc, device, end, len)?;
@@ -172,6 +178,7 @@ fn clear<D: Device>(
     ensures durable { OnOk result (Only (D.seen device.new) (D.may_leave device.new)) }
     ensures any_moment { LeavesOnly D.moment D.left_since device.old device.new (StandsFor (recovered (D.seen device.old))) }
     ensures cause { HasCause (D.faults device.old) (D.faults device.new) result }
+    ensures no_memory { IsErrOf result NoMemory → IsUntouched (D.seen device.old) (D.seen device.new) (D.may_leave device.old) (D.may_leave device.new) }
 {
     let nothing = zeros(alloc, len - end)?;
     device.overwrite(end, &nothing)?;
@@ -188,6 +195,7 @@ fn close<D: Device>(alloc: Global, device: &mut D) -> Result<(), JournalFault>
     ensures durable { OnOk result (Only (D.seen device.new) (D.may_leave device.new)) }
     ensures any_moment { LeavesOnly D.moment D.left_since device.old device.new (StandsFor (recovered (D.seen device.old))) }
     ensures cause { HasCause (D.faults device.old) (D.faults device.new) result }
+    ensures no_memory { IsErrOf result NoMemory → IsUntouched (D.seen device.old) (D.seen device.new) (D.may_leave device.old) (D.may_leave device.new) }
 {
     let zero = zeros(alloc, 1)?;
     device.extend(&zero)?;
