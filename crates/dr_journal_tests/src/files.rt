@@ -8,6 +8,8 @@ const PATH: &str = "dr_journal_test";
 
 const OTHER: &str = "dr_journal_test_other";
 
+const LARGE: &str = "dr_journal_test_large";
+
 #[test]
 fn a_journal_is_found_again(rt: HostRuntime) -> Result<(), Fail> {
     let alloc = rt.alloc();
@@ -21,6 +23,25 @@ fn a_journal_is_found_again(rt: HostRuntime) -> Result<(), Fail> {
     assert_eq!(rt; records.len(), 2);
     check_bytes(&rt, records[1].as_slice(), &[9, 0, 3]);
     fs::remove_file(&rt, PATH)?;
+    Ok(())
+}
+
+// Each batch is longer than the zeros that the one before leaves.
+#[test]
+fn a_file_that_grew_twice_has_all_batches(rt: HostRuntime) -> Result<(), Fail> {
+    let alloc = rt.alloc();
+    let _ = fs::remove_file(&rt, LARGE);
+    let (mut journal, _none) = open(&rt, LARGE)?;
+    let mut batch = Vec::new(alloc);
+    batch.push(vec![in alloc; 9u8; 1 << 20]?)?;
+    journal.append(alloc, &batch)?;
+    journal.append(alloc, &batch)?;
+    drop(journal);
+    let (_journal, records) = open(&rt, LARGE)?;
+    assert_eq!(rt; records.len(), 2);
+    check_bytes(&rt, records[0].as_slice(), batch[0].as_slice());
+    check_bytes(&rt, records[1].as_slice(), batch[0].as_slice());
+    fs::remove_file(&rt, LARGE)?;
     Ok(())
 }
 
