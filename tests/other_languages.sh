@@ -1,6 +1,6 @@
 #!/usr/bin/env bash
 # Builds and runs programs in C and C++ over libdisruptor, in a new folder, and compares what they print: C also under the sanitizers
-# of addresses, of undefined behaviour and of threads, where the compiler has them. Among them are LMAX's own tests, of `tests/lmax`. Then it builds and tests each package of `bindings`, without a
+# of addresses, of undefined behaviour and of threads, where the compiler has them. Among them are tests after LMAX's own, of `tests/lmax`. Then it builds and tests each package of `bindings`, without a
 # network, and runs the programs of `examples` over it. A language whose compiler is not here is skipped, and named. It prints a line
 # for each failure, and then a count; its status is 0 where none failed.
 #
