@@ -4,3 +4,4 @@ pub mod Moving
 pub mod Parts
 pub mod Reports
 pub mod Shown
+pub mod Answering

@@ -13,7 +13,7 @@ use Rattle.dr_accounts.specs.declared.business.Business.{Business}
 use Rattle.dr_accounts.specs.declared.journal.Journal.{Journal}
 use Rattle.dr_accounts.specs.declared.replica.Replica.{Replica}
 use Rattle.dr_accounts.specs.Accounts.{balance_by, balance_of, balances_after, is_account, movement_at, names, refusal_by, refusals_after, refusals_of}
-use Rattle.dr_accounts.specs.Handlers.{Books, Copies, Goes, IsBusinessOf, IsJournalOf, IsReplicaOf, Journals, balance_in, kept}
+use Rattle.dr_accounts.specs.Handlers.{Booked, Books, Copies, Goes, HasBusiness, IsBusinessOf, IsJournalOf, IsReplicaOf, Journals, balance_in, kept}
 use Rattle.dr_operations.specs.Operations.{movement_of}
 use Rattle.dr_accounts.specs.Report.{journal_from, journal_line, replica_line}
 
@@ -28,14 +28,14 @@ along goes Has one a b es (e ∷ f ∷ vs) first end has is =
     subst (λ l. Has b l) (append_assoc es (e ∷ []) (f ∷ vs)) (along goes Has one is.0 b (es ++ e ∷ []) (f ∷ vs) (first + 1) end shown is.2)
 
 -- one that has not failed after a call had not failed before it
-took : {T : Type 0} (failed : T → Bool) (Takes : T → T → Type 0) (old new : T) → Goes T failed Takes old new → failed new ≡ false
+pub took : {T : Type 0} (failed : T → Bool) (Takes : T → T → Type 0) (old new : T) → Goes T failed Takes old new → failed new ≡ false
     → (failed old ≡ false) × Takes old new
 took failed Takes old new goes fine = elim (cases_Bool (failed old)) [
   | inl gone ↦ let clash : true ≡ false = sym gone ∙ ap failed (sym (goes.stays gone)) ∙ fine in absurd (let no_way : ⊥ = cc in no_way)
   | inr was ↦ (was, goes.takes was fine)
 ]
 
-one_longer : (es : List Event) (e : Event) → length (es ++ e ∷ []) ≡ length es + 1
+pub one_longer : (es : List Event) (e : Event) → length (es ++ e ∷ []) ≡ length es + 1
 one_longer es e = length-append es (e ∷ [])
 
 journal_from-push : (s : ℕ) (es : List Event) (e : Event) → journal_from s (es ++ e ∷ []) ≡ journal_from s es ++ journal_line (s + length es) e
@@ -71,10 +71,10 @@ replica_goes a b es e s end has goes = λ fine.
 
 -- events that come later change nothing of what came before them
 
-front_movement : (es fs : List Event) (k : ℕ) → k < length es → movement_at (es ++ fs) k ≡ movement_at es k
+pub front_movement : (es fs : List Event) (k : ℕ) → k < length es → movement_at (es ++ fs) k ≡ movement_at es k
 front_movement es fs k l = ap movement_of (get_or_append_left es fs no_event k l)
 
-front_balances : (es fs : List Event) (k : ℕ) → k ≤ length es → balances_after (es ++ fs) k ≡ balances_after es k
+pub front_balances : (es fs : List Event) (k : ℕ) → k ≤ length es → balances_after (es ++ fs) k ≡ balances_after es k
 unfolding balances_after
 front_balances es fs zero l = refl
 front_balances es fs (suc k) l =
@@ -92,7 +92,7 @@ front_refusals es fs (suc k) l =
     ∙ ap (λ m. λ a. refusals_after es k a + refusal_by m (balances_after (es ++ fs) k) a) (front_movement es fs k less)
     ∙ ap (λ b. λ a. refusals_after es k a + refusal_by (movement_at es k) b a) (front_balances es fs k within)
 
-last_movement : (es : List Event) (e : Event) → movement_at (es ++ e ∷ []) (length es) ≡ movement_of e
+pub last_movement : (es : List Event) (e : Event) → movement_at (es ++ e ∷ []) (length es) ≡ movement_of e
 last_movement es e = ap movement_of (get_or-append_seam es e [] no_event)
 
 succ_length : (es : List Event) (e : Event) → length (es ++ e ∷ []) ≡ suc (length es)
@@ -121,16 +121,19 @@ or_none false = refl
 pub is_account-push : (es : List Event) (e : Event) (a : ℕ) → is_account (es ++ e ∷ []) a ≡ (is_account es a || names (movement_of e) a)
 is_account-push es e a = list_any-append (λ x. names (movement_of x) a) es (e ∷ []) ∙ ap (λ b. is_account es a || b) (or_none (names (movement_of e) a))
 
+pub booked_goes : (a b : Business) (es : List Event) (e : Event) → HasBusiness a es → Booked e a b → HasBusiness b (es ++ e ∷ [])
+booked_goes a b es e h booked =
+    let before : (λ x. balance_in (kept a x)) ≡ balance_of es = (λ i. λ x. h.balances x i) in
+    record {
+      balances = λ x. (booked.moved x).balance ∙ ap (λ f. balance_by (movement_of e) f x) before ∙ ap (λ f. f x) (sym (balance_of-push es e));
+      refusals = λ x. (booked.moved x).refused ∙ ap (λ n. n + refusal_by (movement_of e) (λ y. balance_in (kept a y)) x) (h.refusals x)
+          ∙ ap (λ f. refusals_of es x + refusal_by (movement_of e) f x) before ∙ sym (refusals_of-push es e x);
+      named = λ x. (booked.moved x).named ∙ ap (λ b. b || names (movement_of e) x) (h.named x) ∙ sym (is_account-push es e x);
+      count = booked.count ∙ ap (λ n. n + 1) h.count ∙ sym (one_longer es e);
+    }
+
 pub business_goes : (a b : Business) (es : List Event) (e : Event) (s : ℕ) (end : Bool)
     → IsBusinessOf a es → Books a e b → IsBusinessOf b (es ++ e ∷ [])
 business_goes a b es e s end has goes = λ fine.
     let t = took (λ x. x.failed) _ a b goes fine in
-    let h = has t.0 in
-    let before : (λ x. balance_in (kept a x)) ≡ balance_of es = (λ i. λ x. h.balances x i) in
-    record {
-      balances = λ x. (t.1.moved x).balance ∙ ap (λ f. balance_by (movement_of e) f x) before ∙ ap (λ f. f x) (sym (balance_of-push es e));
-      refusals = λ x. (t.1.moved x).refused ∙ ap (λ n. n + refusal_by (movement_of e) (λ y. balance_in (kept a y)) x) (h.refusals x)
-          ∙ ap (λ f. refusals_of es x + refusal_by (movement_of e) f x) before ∙ sym (refusals_of-push es e x);
-      named = λ x. (t.1.moved x).named ∙ ap (λ b. b || names (movement_of e) x) (h.named x) ∙ sym (is_account-push es e x);
-      count = t.1.count ∙ ap (λ n. n + 1) h.count ∙ sym (one_longer es e);
-    }
+    booked_goes a b es e (has t.0) t.1

@@ -3,6 +3,7 @@
 ghost use Rattle.std.specs.Prelude.{◌≡◌, ◌+◌, ◌++◌, [], false, IfOk, OnOk, nat_lt, not, string_bytes};
 ghost use Rattle.std.specs.BTreeMap.{IsOrdered};
 ghost use Rattle.std.specs.Ordering.{nat_cmp};
+ghost use Rattle.dr_accounts.specs.Accounts.{is_refused};
 ghost use Rattle.dr_accounts.specs.Handlers.{Booked, IsBusinessOf, Moved, Puts, account_lines, added, balance_in, business_text, kept, taken};
 ghost use Rattle.dr_accounts.specs.Report.{account_line};
 
@@ -119,7 +120,36 @@ impl Business {
         }
     }
 
-    fn book(&mut self, event: Event) -> Result<(), AllocError>
+    /// How many events it has taken.
+    pub(crate) fn count(&self) -> u64
+        ensures { result ≡ self.now.count }
+    {
+        self.count
+    }
+
+    /// The balance of an account, which is 0 until an event names it.
+    pub fn balance(&self, number: u16) -> u128
+        ensures { result ≡ balance_in (kept self.now number) }
+    {
+        match self.accounts.get(&number) {
+            Some(account) => account.balance,
+            None => 0,
+        }
+    }
+
+    /// Whether a movement takes more than an account has.
+    pub(crate) fn refuses(&self, movement: Movement) -> bool
+        ensures { result ≡ is_refused movement (λ a. balance_in (kept self.now a)) }
+    {
+        match movement {
+            Movement::Deposit { .. } => false,
+            Movement::Withdraw { account, amount } => self.balance(account) < amount as u128,
+            Movement::Transfer { from, amount, .. } => self.balance(from) < amount as u128,
+        }
+    }
+
+    // Takes an event through the accounts.
+    pub(crate) fn book(&mut self, event: Event) -> Result<(), AllocError>
         ensures booked { OnOk result (Booked event self.old self.new) }
         ensures failed { self.new.failed ≡ self.old.failed }
     {

@@ -1,15 +1,13 @@
 //! The journal: each event's record, under its sequence.
 
-ghost use Rattle.std.specs.Prelude.{◌≡◌, ◌+◌, ◌++◌, [], false, IfOk, OnOk, decimal, string_bytes};
+ghost use Rattle.std.specs.Prelude.{◌≡◌, ◌+◌, ◌++◌, [], false, IfOk, OnOk, string_bytes};
 ghost use Rattle.dr_accounts.specs.Handlers.{IsJournalOf, journal_text};
-ghost use Rattle.dr_operations.specs.Operations.{movement_text, operation_text};
 ghost use Rattle.dr_accounts.specs.Report.{journal_line};
 
 use crate::heading::headed;
 use dr_meaning::Handler;
-use dr_operations::{Movement, Operation};
+use dr_operations::{Operation, push_number, push_operation};
 use dr_seq::Event;
-use itoa::Buffer;
 use std::alloc::{AllocError, Global};
 
 /// A handler that writes a line for each event. Once it finds no memory it has failed, and takes no
@@ -62,52 +60,6 @@ impl Journal {
     {
         headed(alloc, "journal", self.count, self.lines)
     }
-}
-
-// Appends a number in decimal digits.
-fn push_number(line: &mut String, number: u64) -> Result<(), AllocError>
-    ensures { OnOk result (string_bytes line.new ≡ string_bytes line.old ++ decimal number) }
-{
-    let mut buffer = Buffer::new();
-    line.push_str(buffer.format(number))
-}
-
-// Appends a text, and then a number.
-fn push_field(line: &mut String, before: &str, number: u64) -> Result<(), AllocError>
-    ensures { OnOk result (string_bytes line.new ≡ string_bytes line.old ++ before.now ++ decimal number) }
-{
-    line.push_str(before)?;
-    push_number(line, number)
-}
-
-// Appends a movement in the words of the event file.
-fn push_movement(line: &mut String, movement: Movement) -> Result<(), AllocError>
-    ensures { OnOk result (string_bytes line.new ≡ string_bytes line.old ++ movement_text movement) }
-{
-    match movement {
-        Movement::Deposit { account, amount } => {
-            push_field(line, "deposit,", account as u64)?;
-            push_field(line, ",", amount as u64)
-        }
-        Movement::Withdraw { account, amount } => {
-            push_field(line, "withdraw,", account as u64)?;
-            push_field(line, ",", amount as u64)
-        }
-        Movement::Transfer { from, to, amount } => {
-            push_field(line, "transfer,", from as u64)?;
-            push_field(line, ",", to as u64)?;
-            push_field(line, ",", amount)
-        }
-    }
-}
-
-// Appends an operation, as the event file has it.
-fn push_operation(line: &mut String, operation: Operation) -> Result<(), AllocError>
-    ensures { OnOk result (string_bytes line.new ≡ string_bytes line.old ++ operation_text operation) }
-{
-    push_number(line, operation.producer as u64)?;
-    line.push_str(",")?;
-    push_movement(line, operation.movement)
 }
 
 impl Handler<Event> for Journal {

@@ -4,6 +4,7 @@ ghost use Rattle.std.specs.Prelude.{◌≡◌, ◌<◌, ◌-◌, ◌^◌, IfSome
 ghost use Rattle.csv.specs.Records.{fields_of};
 ghost use Rattle.dr_files.specs.Counting.{faults_of, inner_of};
 ghost use Rattle.dr_files.specs.Outcome.{CountsFaults};
+ghost use Rattle.dr_operations.specs.Bytes.{IsOfFile};
 ghost use Rattle.dr_operations.specs.EventFile.{deposit as deposit_in, events_of as events_in, is_kind as is_kind_in, number_below as number_in, operation_in, transfer as transfer_in, withdraw as withdraw_in};
 ghost use Rattle.dr_operations.specs.Operations.{IsOperation};
 ghost use Rattle.dr_operations.specs.Reading.{FileIs, ReadsAs};
@@ -49,6 +50,7 @@ fn is_kind(row: &ByteRecord, kind: &[u8], count: usize) -> bool
 fn deposit(row: &ByteRecord) -> Option<Operation>
     ensures value { result ≡ deposit_in (fields_of row.now) }
     ensures fits { IfSome result IsOperation }
+    ensures filed { IfSome result IsOfFile }
 {
     let producer = number_below(row, 0, PRODUCERS)? as u8;
     let account = number_below(row, 2, ACCOUNTS)? as u16;
@@ -60,6 +62,7 @@ fn deposit(row: &ByteRecord) -> Option<Operation>
 fn withdraw(row: &ByteRecord) -> Option<Operation>
     ensures value { result ≡ withdraw_in (fields_of row.now) }
     ensures fits { IfSome result IsOperation }
+    ensures filed { IfSome result IsOfFile }
 {
     let producer = number_below(row, 0, PRODUCERS)? as u8;
     let account = number_below(row, 2, ACCOUNTS)? as u16;
@@ -71,6 +74,7 @@ fn withdraw(row: &ByteRecord) -> Option<Operation>
 fn transfer(row: &ByteRecord) -> Option<Operation>
     ensures value { result ≡ transfer_in (fields_of row.now) }
     ensures fits { IfSome result IsOperation }
+    ensures filed { IfSome result IsOfFile }
 {
     let producer = number_below(row, 0, PRODUCERS)? as u8;
     let from = number_below(row, 2, ACCOUNTS)? as u16;
@@ -81,9 +85,10 @@ fn transfer(row: &ByteRecord) -> Option<Operation>
 }
 
 // The operation of a record, if it is one.
-fn operation_of(row: &ByteRecord) -> Option<Operation>
+pub(crate) fn operation_of(row: &ByteRecord) -> Option<Operation>
     ensures value { result ≡ operation_in (fields_of row.now) }
     ensures fits { IfSome result IsOperation }
+    ensures filed { IfSome result IsOfFile }
 {
     if is_kind(row, b"deposit".as_slice(), 4) {
         deposit(row)

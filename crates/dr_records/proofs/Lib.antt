@@ -1,2 +1,3 @@
 pub mod FieldAt
 pub mod RowsLeft
+pub mod Resumed

@@ -52,7 +52,7 @@ takes cfg s (c ∷ rest) p e = elim (cases_Bool (is_end (step cfg s c).1)) [
       inl (omega arith)
 ]
 
-stopped : (cfg : Config) (n : ℕ) (s : State) (xs : List ℕ) → next_record cfg s [] [] xs ≡ None → records_from cfg n s xs ≡ []
+pub stopped : (cfg : Config) (n : ℕ) (s : State) (xs : List ℕ) → next_record cfg s [] [] xs ≡ None → records_from cfg n s xs ≡ []
 unfolding records_from
 stopped cfg zero s xs none = refl
 stopped cfg (suc n) s xs none = rw none refl
@@ -73,7 +73,7 @@ same_records cfg (suc n) (suc m) s xs less less2 = by (next_record cfg s [] [] x
     ]))
 
 -- the first record, and those of the bytes after it
-first_record : (cfg : Config) (n : ℕ) (s : State) (xs : List ℕ) (p : Read) → length xs < n → next_record cfg s [] [] xs ≡ Some p
+pub first_record : (cfg : Config) (n : ℕ) (s : State) (xs : List ℕ) (p : Read) → length xs < n → next_record cfg s [] [] xs ≡ Some p
     → records_from cfg n s xs ≡ p.0 ∷ records_from cfg (length p.2 + 1) p.1 p.2
 unfolding records_from
 first_record cfg zero s xs p less is = absurd (omega arith)

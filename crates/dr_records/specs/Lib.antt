@@ -1,3 +1,5 @@
 pub mod Records
 pub mod Rows
 pub mod TextReader
+pub mod Resuming
+pub mod Stream
