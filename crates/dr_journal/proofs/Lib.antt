@@ -1,0 +1,15 @@
+mod Batches
+mod Beginnings
+mod Codes
+mod Crash
+mod Frames
+mod Headers
+mod Kept
+mod Laws
+mod Mixes
+mod Moments
+mod Repair
+mod Runs
+mod Shown
+mod Values
+mod Words

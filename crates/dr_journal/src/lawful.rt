@@ -1,0 +1,21 @@
+//! What the format of a journal's file and the handler's meaning promise by themselves.
+
+ghost use Rattle.std.specs.Prelude.{◌≡◌, ◌<◌, List, ℕ, [], ◌∷◌, ◌++◌, length, take};
+ghost use Rattle.dr_journal.specs.Meaning.Format.{whole_batches, records_in, frame};
+ghost use Rattle.dr_journal.specs.Calls.Handling.{KeepsAll};
+
+use crate::Device;
+
+/// A batch that is written behind others is read as it was, and one that breaks off at a byte that is
+/// not written yet stands for nothing, whatever comes behind it.
+pub fn batches_come_back()
+    ensures alone { (batch : List (List ℕ)) → records_in (frame batch) ≡ batch }
+    ensures behind { (bytes : List ℕ) (batch : List (List ℕ)) → records_in (whole_batches bytes ++ frame batch) ≡ records_in bytes ++ batch }
+    ensures broken { (batch : List (List ℕ)) (at : ℕ) (rest : List ℕ) → at < length (frame batch) → records_in (take at (frame batch) ++ 0 ∷ rest) ≡ [] }
+{}
+
+/// What a handler was shown, up to an event that is marked as an end, is in its file, and each crash
+/// leaves it, as long as the handler has not failed.
+pub fn what_was_shown_is_kept<D: Device>()
+    ensures { KeepsAll D.seen D.may_leave D.moment D.left_since D.faults }
+{}
