@@ -1,11 +1,16 @@
 pub mod Showing
 pub mod Through
 pub mod Stretches
+pub mod Claims
 pub mod Scripts
 pub mod Ready
+pub mod NewEnds
 pub mod Rounds
+pub mod Turns
 pub mod Owned
 pub mod Shown
 pub mod Merged
 pub mod Merging
 pub mod ManyReady
+pub mod NewEndsOfSeveral
+pub mod Along

@@ -3,7 +3,7 @@ use Rattle.std.proofs.Common.{◌≡◌, ℕ, zero, suc, ◌<◌, All, Bool, tru
 use Rattle.std.specs.Prelude.{◌&&◌, nat_lt}
 use Rattle.std.proofs.lemmas.Bool.{and_from, eq-eqb, lt-ltb}
 use Rattle.std.proofs.lemmas.List.Elements.{All-cons, All-nil}
-use mathlib.Core.Option.{some-injective}
+use mathlib.Core.Option.{some, some-injective}
 use lib.ListN.{get_elem?, length-map}
 use Rattle.atomic_table.specs.Seated.{TableId}
 use Rattle.atomic_table.proofs.Lists.{at_map}
@@ -16,13 +16,14 @@ use Rattle.dr_plain_senders.specs.Meaning.Moments.{fresh_receivers, fresh_sender
 use Rattle.dr_plain_senders.specs.Meaning.Shape.{Shape, handlers_of}
 use Rattle.dr_plain_senders.specs.Calls.Ends.{HalterStand, ReceiverEnd, SenderEnd, receiver_place, received_of, sender_place}
 use Rattle.dr_plain_senders.specs.Calls.Making.{receiver_at, sender_at}
-use Rattle.dr_plain_senders.specs.Calls.Settling.{AreAllEnds}
+use Rattle.dr_plain_senders.specs.Calls.Settling.{AreAllEnds, HasRun}
+use Rattle.dr_plain_senders.specs.declared.record.ReceiverRecord.{ReceiverRecord}
 use Rattle.dr_disruptor.specs.declared.fault.RunFault.TheVariants as fault
 use Rattle.dr_disruptor.specs.declared.feeds.Sent.{Sent}
 use Rattle.dr_disruptor.specs.declared.served.Served.{Served}
 use Rattle.dr_disruptor.specs.Feeding.{AreGiven, AreSent, Feeder, IsUnsent, LeavesClosed, fed_sender, given_feed}
 use Rattle.dr_plain_senders.specs.Calls.InPlace.{SawSome, has_one_stretch}
-use Rattle.dr_disruptor.specs.Merging.{HaltsOnly, LeavesSender, refusal_of}
+use Rattle.dr_disruptor.specs.Merging.{HaltsOnly, HasAll, LeavesSender, refusal_of}
 use Rattle.dr_disruptor.specs.Serving.{AreServed, IsIdle}
 use Rattle.dr_disruptor.proofs.Through.{end_back, many_back}
 
@@ -83,6 +84,14 @@ module _ {E : Type 0} where
         let (given, at_given, same, told, idle) = end_back receiver_place received_by is_told SawSome goes room ends starts served kept h e at in
         same ∙ all.each_receiver h given at_given;
   }
+
+  -- who was told that the ring drained took and completed all that is published
+  pub has_all : (ss : List (SenderEnd E)) (rs : List (ReceiverEnd E)) (t : HalterStand E) (n : ℕ) (on : Bool) (run : HasRun ss rs t n on)
+      → (h : ℕ) (e : ReceiverEnd E) → get_elem? rs h ≡ some e → e.knows.told ≡ true → IsIdle (received_by e) → HasAll run.world e
+  has_all ss rs t n on run h e at told idle =
+      let at_world = ap (λ (l : List (ReceiverRecord E)). get_elem? l h) run.receivers ∙ at_map (λ (x : ReceiverEnd E). x.knows) rs h e at in
+      let all = (run.settles.each h e.knows at_world).drained told in
+      (all.0, idle ∙ length-map e.knows.received (λ l. l.event) ∙ ap length all.0)
 
   -- a halted ring's ends are those that they were
   pub halted_back : (ss : List (SenderEnd E)) (rs : List (ReceiverEnd E)) (t t' : HalterStand E) → HaltsOnly t t' → AreAllEnds ss rs t → AreAllEnds ss rs t'

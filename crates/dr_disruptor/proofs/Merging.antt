@@ -1,5 +1,5 @@
 -- What came of a run with several senders, once its ends came together.
-use Rattle.std.proofs.Common.{◌≡◌, ℕ, suc, ◌+◌, ◌<◌, true, Bool, List, [], ◌∷◌, cond, length, map, inl, inr, refl, sym, subst, ap, ◌∙◌, arith}
+use Rattle.std.proofs.Common.{◌≤◌, ◌≡◌, ℕ, suc, ◌+◌, ◌<◌, true, Bool, List, [], ◌∷◌, cond, length, map, inl, inr, refl, sym, subst, ap, ◌∙◌, arith}
 use Rattle.std.specs.Prelude.{is_some}
 use Rattle.std.specs.Global.{Vec}
 use Rattle.std.specs.List.{filter_map, take_while}
@@ -36,8 +36,8 @@ use Rattle.dr_disruptor.specs.declared.served.Served.{Served}
 use Rattle.dr_disruptor.specs.Feeding.{AreSent, LeavesClosed}
 use Rattle.dr_disruptor.specs.Handlers.{AllWentThrough}
 use Rattle.dr_plain_senders.specs.Calls.InPlace.{SawSome, events_in, has_one_stretch, sending_of}
-use Rattle.dr_disruptor.specs.Merging.{HaltsOnly, IsRanOver, IsWoundUp, new_sender}
-use Rattle.dr_disruptor.specs.Serving.{Worker, given_end, given_handler}
+use Rattle.dr_disruptor.specs.Merging.{HaltsOnly, IsRanOver, IsWoundUp, new_receivers, new_sender}
+use Rattle.dr_disruptor.specs.Serving.{AreServed, Worker, given_end, given_handler}
 use Rattle.dr_plain_senders.proofs.InPlaceReceiving.{saw_most}
 use Rattle.dr_plain_senders.proofs.MarksFound.{MarksWithin, marks_within}
 use Rattle.dr_disruptor.proofs.Merged.{merged}
@@ -146,6 +146,13 @@ module _ {E A B F : Type 0} (goes : Relation E A) (room : ℕ) (k : Shape E) (bl
       sym from.2 ∙ ap (receiver_at t.ring k) (receiver_fresh 0 (handlers_of k) h from.0 from.1 ∙ ap fresh_receiver z)
       ∙ ap (λ (r : TableId). receiver_at r k (fresh_receiver h)) same_ring
 
+  -- and the end of each handler is that of its place
+  served_at_places : (given : List A) → given ≡ starts → AreServed receiver_place received_by is_told SawSome goes room (new_receivers ring k) given served
+  served_at_places given same =
+      let of_ends = ends ∙ fresh.receivers ∙ ap (λ (r : TableId). new_receivers r k) same_ring in
+      subst (λ (l : List (ReceiverEnd E)). AreServed receiver_place received_by is_told SawSome goes room l given served) of_ends
+      (subst (λ (l : List A). AreServed receiver_place received_by is_told SawSome goes room (map given_end ws) l served) (begun ∙ sym same) wound.kept)
+
   many_served : length served ≡ handlers_of k
   many_served =
       wound.kept.many ∙ ap length (ends ∙ fresh.receivers)
@@ -190,9 +197,14 @@ module _ {E A B F : Type 0} (goes : Relation E A) (room : ℕ) (k : Shape E) (bl
   in_order =
       ap (λ (ts : List (Stage E)). records.events_of (filter_map (λ t. t.lent) ts)) (taken_whole blank w.stages all_out) ∙ all_lent blank w.stages all_out
 
+  saw_within : (h : ℕ) (e : ReceiverEnd E) → get_elem? outlets h ≡ some e → (n : ℕ) → SawSome e n → n ≤ length events
+  saw_within h e at n saw =
+      let many : length events ≡ length w.stages = length-map w.stages (shown blank) in
+      let most = saw_most k w h e (drained h e at).plan_is (at_world h e at) K within n saw in
+      omega arith
+
   pub all_through : AllWentThrough goes room events starts handlers
   all_through =
-      let many : length events ≡ length w.stages = length-map w.stages (shown blank) in
       subst (λ (l : List A). AllWentThrough goes room events starts l) (sym wound.handled)
       (subst (λ (l : List A). AllWentThrough goes room events l (map (λ (s : Served (ReceiverEnd E) A). s.handler) served)) begun
       (all_went receiver_place received_by is_told SawSome goes room (map given_end ws) (map given_handler ws) served wound.kept events
@@ -200,7 +212,7 @@ module _ {E A B F : Type 0} (goes : Relation E A) (room : ℕ) (k : Shape E) (bl
       (λ h e at.
       let d = drained h e at in (
         ap (λ (ls : List (Lent E)). records.events_of ls) d.events_are ∙ in_order,
-        λ n saw. (let most = saw_most k w h e d.plan_is (at_world h e at) K within n saw in omega arith),
+        saw_within h e at,
       ))))
 
   -- what each sender published
@@ -236,10 +248,10 @@ module _ {E A B F : Type 0} (goes : Relation E A) (room : ℕ) (k : Shape E) (bl
   halts_new = subst (λ (e : HalterStand E). HaltsOnly e wound.after) (fresh.halter ∙ ap (λ (r : TableId). at_ring r k record { looks = [] }) same_ring) wound.halts
 
   -- so the run is over a new ring of this shape
-  pub ran_over : {T : Type 0} (went : ℕ → List E → T → T → Type 0) (team after : T) (list : Vec B) → list.items ≡ answers → length feeds ≡ k.senders
-      → ((through : List E) → AllWentThrough goes room through starts handlers → went room through team after)
-      → IsRanOver gives went room k feeds team (record { handlers = after; settled = settled; events = values; sent = list })
-  ran_over went team after list same many go = record {
+  pub ran_over : {T : Type 0} (listed : T → List A) (went : ℕ → List E → T → T → Type 0) (team after : T) (list : Vec B) → list.items ≡ answers → length feeds ≡ k.senders
+      → listed team ≡ starts → listed after ≡ handlers → ((through : List E) → AllWentThrough goes room through starts handlers → went room through team after)
+      → IsRanOver gives goes listed went room k feeds team (record { handlers = after; settled = settled; events = values; sent = list })
+  ran_over listed went team after list same many team_is after_is go = record {
     senders = sent;
     ring = ring;
     many = many_senders ∙ sym many;
@@ -252,9 +264,11 @@ module _ {E A B F : Type 0} (goes : Relation E A) (room : ℕ) (k : Shape E) (bl
     halter = wound.after;
     halts = halts_new;
     ends = wound.ends;
+    serving = record { served = served; are = served_at_places (listed team) team_is; ends_back = refl; handlers_back = after_is ∙ wound.handled };
     events = events;
     order = sym in_order;
     through = record { merge = merge; through = go events all_through };
     claimed = claimed_all;
+    seen = saw_within;
     back = subst (λ (q : Shape E). GivesBack q settled.claimed (map (λ s. s.sender) sent) values) plan wound.back;
   }

@@ -1,5 +1,5 @@
 -- The ends of a new ring, and the ends of a ring that come together.
-use Rattle.std.proofs.Common.{◌≡◌, ℕ, zero, suc, ◌≤◌, Bool, true, List, [], All, length, map, Result, Ok, Err, refl, sym, ap, subst, ◌∙◌, arith, inl, inr, ⊎_elim}
+use Rattle.std.proofs.Common.{◌≡◌, ℕ, zero, suc, ◌≤◌, Bool, true, false, List, [], All, length, map, Result, Ok, Err, refl, sym, ap, subst, ◌∙◌, arith, inl, inr, ⊎_elim}
 use Rattle.std.specs.Prelude.{Some}
 use Rattle.std.proofs.lemmas.Bool.{eq-eqb}
 use Rattle.std.proofs.lemmas.List.{length-map}
@@ -126,7 +126,7 @@ module _ {E : Type 0} where
       → (answer : Result (Unit {0}) Refusal) × CloseCall back s answer
       → (settled.sender.value ≡ s) × (settled.receivers.value.items ≡ outlets) × (settled.halter.value ≡ t)
       → HasRun s outlets t → Settles s.knows (map (λ (e : ReceiverEnd E). e.knows) outlets)
-      → ((h : ℕ) (e : ReceiverEnd E) → get_elem? outlets h ≡ some e → HasAll s e) → FoundUnhalted s.knows
+      → ((h : ℕ) (e : ReceiverEnd E) → get_elem? outlets h ≡ some e → HasAll s e) → (t.knows.halted ≡ false) × FoundUnhalted s.knows
       → (settled.claimed ≡ claimed s.knows) × (settled.published ≡ length s.knows.published)
       × (settled.handlers.items ≡ map (λ (e : ReceiverEnd E). handler_counts e.knows) outlets) × (map (λ (event : E). Some event) values ≡ s.cells)
       → AreSettled back settled values
@@ -141,7 +141,8 @@ module _ {E : Type 0} where
         lists = subst (λ (l : List (ReceiverEnd E)). Settles settled.sender.value.knows (map (λ (e : ReceiverEnd E). e.knows) l)) received
             (subst (λ (x : SenderEnd E). Settles x.knows (map (λ (e : ReceiverEnd E). e.knows) outlets)) sent lists);
         whole = λ h e at. subst (λ (x : SenderEnd E). HasAll x e) sent (whole h e (ap (λ (l : List (ReceiverEnd E)). get_elem? l h) received ∙ at));
-        unhalted = subst (λ (x : SenderEnd E). FoundUnhalted x.knows) sent unhalted;
+        halter = ap (λ (x : HalterStand E). x.knows.halted) ends.2 ∙ unhalted.0;
+        unhalted = subst (λ (x : SenderEnd E). FoundUnhalted x.knows) sent unhalted.1;
         claims = counts.0 ∙ ap (λ (x : SenderEnd E). claimed x.knows) sent;
         published = counts.1 ∙ ap (λ (x : SenderEnd E). length x.knows.published) sent;
         counts = counts.2 ∙ ap (map (λ (e : ReceiverEnd E). handler_counts e.knows)) received;

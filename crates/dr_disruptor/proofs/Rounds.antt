@@ -14,7 +14,7 @@ use Rattle.dr_disruptor.specs.Serving.{AreServed, IsIdle, Serving, Shows}
 use Rattle.dr_disruptor.proofs.Showing.{shows_more, shows_none}
 
 -- a list that is set at a place has this there
-at_same : {X : Type 0} (l : List X) (h : ℕ) (g a : X) → get_elem? (set l h g) h ≡ some a → g ≡ a
+pub at_same : {X : Type 0} (l : List X) (h : ℕ) (g a : X) → get_elem? (set l h g) h ≡ some a → g ≡ a
 at_same l h g a at = elim (at_set l h h g a at) [ inl same ↦ same.1 | inr other ↦ absurd (other.0 refl) ]
 
 -- a list with one more behind it

@@ -59,5 +59,6 @@ module _ {E : Type 0} (all : List E) where
           some = h.some;
           place = h.place;
           sent = sends_as h.done (sending old).published (sending h.between).published (omega arith) h.sent;
+          claims = h.claims;
           refused = h.refused;
         })

@@ -1,16 +1,16 @@
 -- What handlers went through, whose ends began anew and came to the same events.
-use Rattle.std.proofs.Common.{◌≡◌, ℕ, ◌≤◌, Bool, true, List, [], ◌++◌, length, map, sym, subst, ap, ◌∙◌}
+use Rattle.std.proofs.Common.{◌≡◌, ℕ, ◌≤◌, Bool, true, List, [], ◌++◌, length, map, refl, sym, subst, ap, ◌∙◌, arith}
 use mathlib.Core.Option.{some, some-injective}
 use lib.ListN.{get_elem?, length-map}
 use Rattle.dr_meaning.specs.Calls.Ends.{Received}
 use Rattle.dr_meaning.specs.Calls.Handling.{Relation}
 use Rattle.dr_workers.specs.Meaning.Work.{FollowFrom, dealt_events}
-use Rattle.dr_runs.proofs.Elements.{at_below, value_at}
+use Rattle.dr_runs.proofs.Elements.{at_below, there, value_at}
 use Rattle.dr_runs.proofs.Lists.{at_map, map_there}
 use Rattle.dr_disruptor.specs.declared.served.Served.{Served}
 use Rattle.dr_disruptor.specs.Handlers.{AllWentThrough, WentThrough}
 use Rattle.dr_disruptor.proofs.Showing.{weaken}
-use Rattle.dr_disruptor.specs.Serving.{AreInBatches, AreServed, GaveBack, IsIdle, Serving, Shows, Worker, given_end, given_handler}
+use Rattle.dr_disruptor.specs.Serving.{AreInBatches, AreServed, CameBackServed, GaveBack, IsIdle, Serving, Shows, Worker, given_end, given_handler}
 
 module _ {O A K E : Type 0} (kept : O → K) (received : O → Received E) (told : O → Bool) (saw : O → ℕ → Type 0) (goes : Relation E A) (room : ℕ) where
   -- over an end that handed out nothing before
@@ -40,6 +40,56 @@ module _ {O A K E : Type 0} (kept : O → K) (received : O → Received E) (told
           subst (λ (n : ℕ). Serving kept received told saw goes n (given_handler w) (given_end w) back) polls_so serving,
         );
   }
+
+  -- what came back so also came back of lists that are the same
+  pub served_as : (ends ends' : List O) (starts starts' : List A) (outlets outlets' : List O) (handlers handlers' : List A)
+      → ends ≡ ends' → starts ≡ starts' → outlets ≡ outlets' → handlers ≡ handlers'
+      → CameBackServed kept received told saw goes room ends starts outlets handlers → CameBackServed kept received told saw goes room ends' starts' outlets' handlers'
+  served_as ends ends' starts starts' outlets outlets' handlers handlers' of_ends of_starts of_outlets of_handlers back = record {
+    served = back.served;
+    are = subst (λ (l : List O). AreServed kept received told saw goes room l starts' back.served) of_ends
+        (subst (λ (l : List A). AreServed kept received told saw goes room ends l back.served) of_starts back.are);
+    ends_back = sym of_outlets ∙ back.ends_back;
+    handlers_back = sym of_handlers ∙ back.handlers_back;
+  }
+
+  -- the handler at a place was shown what the end at that place handed out
+  pub served_at : (ends : List O) (starts : List A) (outlets : List O) (handlers : List A)
+      → CameBackServed kept received told saw goes room ends starts outlets handlers → (h : ℕ) (start : A) → get_elem? starts h ≡ some start
+      → (after : A) × (outlet : O) × (given : O) × (get_elem? handlers h ≡ some after) × (get_elem? outlets h ≡ some outlet) × (get_elem? ends h ≡ some given)
+      × Shows kept received saw goes room start after given outlet
+  served_at ends starts outlets handlers back h start at =
+      let inside = at_below starts h start at in
+      let many = back.are.handlers in
+      let b = there back.served h (omega arith) in
+      let (given, begun, at_given, at_begun, serving) = back.are.each h b.0 b.1 in
+      let is : begun ≡ start = some-injective begun start (sym at_begun ∙ at) in (
+        b.0.handler,
+        b.0.outlet,
+        given,
+        ap (λ (l : List A). get_elem? l h) back.handlers_back ∙ map_there (λ (s : Served O A). s.handler) back.served h b.0 b.1,
+        ap (λ (l : List O). get_elem? l h) back.ends_back ∙ map_there (λ (s : Served O A). s.outlet) back.served h b.0 b.1,
+        at_given,
+        subst (λ (a : A). Shows kept received saw goes room a b.0.handler given b.0.outlet) is serving.shows,
+      )
+
+  -- of ends that began with nothing it went through just what the end at its place handed out, where no end saw more
+  pub shown_from_none : (ends : List O) (starts : List A) (outlets : List O) (handlers : List A) (place : ℕ → K)
+      → ((h : ℕ) (given : O) → get_elem? ends h ≡ some given → (kept given ≡ place h) × ((received given).events ≡ []))
+      → ((h : ℕ) (e : O) → get_elem? outlets h ≡ some e → (n : ℕ) → saw e n → n ≤ length (received e).events)
+      → CameBackServed kept received told saw goes room ends starts outlets handlers → (h : ℕ) (start : A) → get_elem? starts h ≡ some start
+      → (after : A) × (end : O) × (get_elem? handlers h ≡ some after) × (get_elem? outlets h ≡ some end) × (kept end ≡ place h)
+      × WentThrough goes room start after (received end).events
+  shown_from_none ends starts outlets handlers place new most back h start at =
+      let (after, end, given, at_after, at_end, at_given, shows) = served_at ends starts outlets handlers back h start at in
+      let (stands, none) = new h given at_given in (
+        after,
+        end,
+        at_after,
+        at_end,
+        shows.place ∙ stands,
+        went start after given end (received end).events shows none refl (most h end at_end),
+      )
 
   module _ (ends : List O) (starts : List A) (served : List (Served O A)) (are : AreServed kept received told saw goes room ends starts served) where
     abbrev outlets : List O

@@ -1,5 +1,5 @@
 -- What came of a run with several senders: what each handler went through, and the run of the ring.
-use Rattle.std.specs.Prelude.{◌≡◌, ℕ, ◌==◌, ◌^◌, if◌then◌else◌, List, [], length, map}
+use Rattle.std.specs.Prelude.{◌≡◌, ℕ, ◌≤◌, ◌==◌, ◌^◌, if◌then◌else◌, List, [], length, map}
 use denote.RawPtr.{Ptr}
 use mathlib.Core.Option.{some}
 use lib.ListN.{get_elem?}
@@ -11,12 +11,13 @@ use Rattle.dr_meaning.specs.Calls.OpenFault.{has_bad_producers}
 use Rattle.dr_workers.specs.Meaning.Merge.{IsMerge}
 use Rattle.dr_plain_senders.specs.declared.record.Step.TheVariants.{HalterHalts}
 use Rattle.dr_plain_senders.specs.declared.settled.Settled.{Settled}
-use Rattle.dr_plain_senders.specs.Meaning.Moments.{fresh_sender}
+use Rattle.dr_plain_senders.specs.Meaning.Moments.{fresh_receivers, fresh_sender}
 use Rattle.dr_plain_senders.specs.Meaning.Records.{events_of, halter_halted}
+use Rattle.dr_plain_senders.specs.Meaning.Rule.{World}
 use Rattle.dr_plain_senders.specs.Meaning.Settling.{published_events}
-use Rattle.dr_plain_senders.specs.Meaning.Shape.{Shape}
+use Rattle.dr_plain_senders.specs.Meaning.Shape.{Shape, handlers_of}
 use Rattle.dr_plain_senders.specs.Calls.Ends.{HalterStand, HasStored, ReceiverEnd, SenderEnd, receiver_place, received_of, sender_place}
-use Rattle.dr_plain_senders.specs.Calls.Making.{at_ring, sender_at}
+use Rattle.dr_plain_senders.specs.Calls.Making.{at_ring, receiver_at, sender_at}
 use Rattle.dr_plain_senders.specs.Calls.Settling.{GivesBack, HasRun, handler_counts}
 use Rattle.dr_disruptor.specs.declared.fault.RunFault.{RunFault}
 use Rattle.dr_disruptor.specs.declared.fault.RunFault.TheVariants.{Handlers, Memory, Senders}
@@ -25,7 +26,7 @@ use Rattle.dr_disruptor.specs.declared.running.Ran.{Ran}
 use Rattle.dr_disruptor.specs.declared.served.Served.{Served}
 use Rattle.dr_disruptor.specs.Feeding.{LeavesClosed}
 use Rattle.dr_plain_senders.specs.Calls.InPlace.{SawSome, sending_of}
-use Rattle.dr_disruptor.specs.Serving.{AreServed, Worker, given_end, given_handler}
+use Rattle.dr_disruptor.specs.Serving.{AreServed, CameBackServed, Worker, given_end, given_handler}
 
 -- of a graph of so many handlers, where so many handlers and closures were given: that the handlers differ, then that no ring has so many senders, and else a lack of memory or of a thread
 abbrev pub refusal_of : ℕ → ℕ → ℕ → RunFault
@@ -41,6 +42,19 @@ module _ {E : Type 0} where
   abbrev pub new_sender : TableId → Shape E → ℕ → SenderEnd E
   new_sender ring k p = sender_at ring k (fresh_sender p)
 
+  -- its receivers as they were made, in the graph's order
+  abbrev pub new_receivers : TableId → Shape E → List (ReceiverEnd E)
+  new_receivers ring k = map (receiver_at ring k) (fresh_receivers 0 (handlers_of k))
+
+  -- each handler was shown what the receiver at its place took, in polls with so much room, and came back at its place
+  abbrev pub AreServedBack : {A : Type 0} → Relation E A → ℕ → List (ReceiverEnd E) → List A → List (ReceiverEnd E) → List A → Type 0
+  AreServedBack goes most ends starts outlets handlers =
+      CameBackServed receiver_place (λ e. received_of e.knows) (λ e. e.knows.told) SawSome goes most ends starts outlets handlers
+
+  -- a receiver took and completed all that is published
+  abbrev pub HasAll : World E → ReceiverEnd E → Type 0
+  HasAll w e = (e.knows.received ≡ published_events w) × (e.knows.completed ≡ length (published_events w))
+
   -- what a closure sends leaves the sender at its ring, with its number
   abbrev pub LeavesSender : {A : Type 0} → (SenderEnd E → A → SenderEnd E → Type 0) → Type 0
   LeavesSender {A} gives = (given : SenderEnd E) (answer : A) (back : SenderEnd E) → gives given answer back → sender_place back ≡ sender_place given
@@ -54,8 +68,9 @@ module _ {E : Type 0} where
     pub senders : settled.senders.value.items ≡ ss
     pub receivers : settled.receivers.value.items ≡ rs
     pub halter : settled.halter.value ≡ t
-    -- one run of the ring, which has the five laws, came to all of them
+    -- one run of the ring, which has the five laws, came to all of them, and each receiver took and completed all that is published
     pub run : HasRun ss rs t settled.claimed settled.is_halted
+    pub whole : (h : ℕ) (e : ReceiverEnd E) → get_elem? rs h ≡ some e → HasAll run.world e
     pub counts : settled.handlers.items ≡ map (λ e. handler_counts e.knows) rs
 
   -- what the handlers' workers gave back, once the ring was halted, and how all ends came together
@@ -66,8 +81,8 @@ module _ {E : Type 0} where
     pub after : HalterStand E
     pub halts : HaltsOnly halter after
     pub ends : AreSettled settled (map (λ s. s.sender) sent) (map (λ s. s.outlet) served) after
-    pub back : GivesBack after.plan settled.claimed (map (λ s. s.sender) sent) values
     pub handled : handlers ≡ map (λ s. s.handler) served
+    pub back : GivesBack after.plan settled.claimed (map (λ s. s.sender) sent) values
     pub answered : answers ≡ map (λ s. s.answer) sent
 
   -- all handlers went through one list of events, which is a merge of these lists
@@ -76,8 +91,8 @@ module _ {E : Type 0} where
     pub through : went most events handlers after
 
   -- what came of a new ring of this shape, over which each of these closures sent by a sender of its own
-  pub record IsRanOver {F T B : Type 0} (gives : F → SenderEnd E → B → SenderEnd E → Type 0) (went : ℕ → List E → T → T → Type 0) (most : ℕ) (k : Shape E) (feeds : List F)
-      (handlers : T) (ran : Ran E T (Settled E) (Vec B)) : Type 0 where
+  pub record IsRanOver {F T A B : Type 0} (gives : F → SenderEnd E → B → SenderEnd E → Type 0) (goes : Relation E A) (listed : T → List A)
+      (went : ℕ → List E → T → T → Type 0) (most : ℕ) (k : Shape E) (feeds : List F) (handlers : T) (ran : Ran E T (Settled E) (Vec B)) : Type 0 where
     -- what the senders' threads gave back: each closure was given the new sender at its place, and all that it claimed is published
     pub senders : List (Sent E B)
     pub ring : TableId
@@ -90,15 +105,19 @@ module _ {E : Type 0} where
     pub halter : HalterStand E
     pub halts : HaltsOnly (at_ring ring k record { looks = [] }) halter
     pub ends : AreSettled ran.settled (map (λ s. s.sender) senders) receivers halter
+    -- each handler was shown what the receiver at its place of the graph took
+    pub serving : AreServedBack goes most (new_receivers ring k) (listed handlers) receivers (listed ran.handlers)
     -- all handlers went through what was published, in the order of its sequences; it is a merge of what each sender published, and nothing else was claimed
     pub events : List E
     pub order : events ≡ events_of (published_events ends.run.world)
     pub through : AllWentThroughMerge went most (map (λ s. (sending_of s.sender).published) senders) events handlers ran.handlers
     pub claimed : ran.settled.claimed ≡ length events
+    -- no receiver saw that more was published
+    pub seen : (h : ℕ) (e : ReceiverEnd E) → get_elem? receivers h ≡ some e → (n : ℕ) → SawSome e n → n ≤ length events
     -- and the events are what lay in the cells at last
     pub back : GivesBack k ran.settled.claimed (map (λ s. s.sender) senders) ran.events
 
 -- so it is of a new ring of this shape, whose events lie somewhere
-abbrev pub IsRanByAll : {E F T B : Type 0} → (F → SenderEnd E → B → SenderEnd E → Type 0) → (ℕ → List E → T → T → Type 0) → ℕ → (Ptr → Shape E) → List F → T
-    → Ran E T (Settled E) (Vec B) → Type 0
-IsRanByAll gives went most shape feeds handlers ran = (strip : Ptr) × IsRanOver gives went most (shape strip) feeds handlers ran
+abbrev pub IsRanByAll : {E F T A B : Type 0} → (F → SenderEnd E → B → SenderEnd E → Type 0) → Relation E A → (T → List A) → (ℕ → List E → T → T → Type 0) → ℕ
+    → (Ptr → Shape E) → List F → T → Ran E T (Settled E) (Vec B) → Type 0
+IsRanByAll gives goes listed went most shape feeds handlers ran = (strip : Ptr) × IsRanOver gives goes listed went most (shape strip) feeds handlers ran

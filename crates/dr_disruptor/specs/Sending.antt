@@ -1,5 +1,5 @@
 -- What a run's sender has filled and published.
-use Rattle.std.specs.Prelude.{◌≡◌, ◌≢◌, ℕ, ◌+◌, ◌-◌, ◌<◌, min, List, [], ◌∷◌, ◌++◌, Some, None, length, map, replicate}
+use Rattle.std.specs.Prelude.{◌≡◌, ◌≢◌, ℕ, ◌+◌, ◌-◌, ◌<◌, min, List, [], ◌∷◌, ◌++◌, Some, None, length, map, replicate, take}
 use mathlib.Core.Option.{some}
 use lib.ListN.{get_elem?}
 use Rattle.dr_meaning.specs.declared.refusal.Refusal.{Refusal}
@@ -7,6 +7,7 @@ use Rattle.dr_meaning.specs.declared.refusal.Refusal.TheVariants.{NoRoom}
 use Rattle.dr_meaning.specs.declared.claim_fault.ClaimFault.{ClaimFault}
 use Rattle.dr_meaning.specs.declared.claim_fault.ClaimFault.TheVariants.{Refused}
 use Rattle.dr_meaning.specs.Calls.InPlaceInlets.{Sending}
+use Rattle.dr_workers.specs.Meaning.Work.{AreCut}
 
 -- a claim of n was refused for another cause than that there was no room, after it was tried again and again: what the end sent is as before
 pub record IsRefused {I K E : Type 0} (kept : I → K) (sending : I → Sending E) (refuses : I → ℕ → ClaimFault → I → Type 0) (n : ℕ) (r : Refusal) (old new : I) : Type 0 where
@@ -54,6 +55,24 @@ module _ {E : Type 0} where
     pub fills : Are events
     pub published : new ≡ old ++ events
 
+  -- n sequences were claimed at once: there is a state of this end in which just the first `at` events of now were published, and n sequences were open, none filled
+  pub record ClaimedAtOnce {I K : Type 0} (kept : I → K) (sending : I → Sending E) (at n : ℕ) (old new : I) : Type 0 where
+    pub claimed : I
+    pub place : kept claimed ≡ kept old
+    pub published : (sending claimed).published ≡ take at (sending new).published
+    pub unfilled : (sending claimed).pending ≡ replicate n None
+
+  -- all that is published now behind so many was claimed in claims of these lengths, each at once when those before it were published
+  abbrev pub ClaimedInTurn : {I K : Type 0} → (I → K) → (I → Sending E) → ℕ → List ℕ → I → I → Type 0
+  ClaimedInTurn kept sending at [] old new = length (sending new).published ≡ at
+  ClaimedInTurn kept sending at (n ∷ claims) old new = ClaimedAtOnce kept sending at n old new × ClaimedInTurn kept sending (at + n) claims old new
+
+  -- what was published more was claimed in claims of what was left of n, but at most of a cut
+  pub record ClaimedInCuts {I K : Type 0} (kept : I → K) (sending : I → Sending E) (cut n : ℕ) (old new : I) : Type 0 where
+    pub claims : List ℕ
+    pub cuts : AreCut cut n claims
+    pub turns : ClaimedInTurn kept sending (length (sending old).published) claims old new
+
   -- of n events, in claims of at most so many, the first were published, and the claim of the next ones was refused
   pub record StopsAfter {I K : Type 0} (by : ℕ → E → E → Type 0) (kept : I → K) (sending : I → Sending E) (refuses : I → ℕ → ClaimFault → I → Type 0) (n cut : ℕ)
       (r : Refusal) (old new : I) : Type 0 where
@@ -62,4 +81,5 @@ module _ {E : Type 0} where
     pub some : done < n
     pub place : kept between ≡ kept old
     pub sent : SendsAll (Fills by 0) done (sending old).published (sending between).published
+    pub claims : ClaimedInCuts kept sending cut n old between
     pub refused : IsRefused kept sending refuses (min (n - done) cut) r between new

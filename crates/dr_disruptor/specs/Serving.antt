@@ -1,5 +1,5 @@
 -- What a handler's worker promises, and what workers gave back.
-use Rattle.std.specs.Prelude.{◌≡◌, ◌⊎◌, ℕ, ◌+◌, ◌≤◌, Bool, true, List, length, Some, All}
+use Rattle.std.specs.Prelude.{◌≡◌, ◌⊎◌, ℕ, ◌+◌, ◌≤◌, Bool, true, List, length, map, Some, All}
 use mathlib.Core.Option.{some}
 use lib.ListN.{get_elem?}
 use Rattle.std.specs.declared.thread.PromisedHandle.{PromisedHandle}
@@ -41,6 +41,14 @@ pub record AreServed {O A K E : Type 0} (kept : O → K) (received : O → Recei
   pub each : (h : ℕ) (back : Served O A) → get_elem? served h ≡ some back
       → (given : O) × (start : A) × (get_elem? ends h ≡ some given) × (get_elem? starts h ≡ some start)
       × Serving kept received told saw goes room start given back
+
+-- each of some ends served the handler at its place, and both came back there
+pub record CameBackServed {O A K E : Type 0} (kept : O → K) (received : O → Received E) (told : O → Bool) (saw : O → ℕ → Type 0) (goes : Relation E A) (room : ℕ)
+    (ends : List O) (starts : List A) (outlets : List O) (handlers : List A) : Type 0 where
+  pub served : List (Served O A)
+  pub are : AreServed kept received told saw goes room ends starts served
+  pub ends_back : outlets ≡ map (λ s. s.outlet) served
+  pub handlers_back : handlers ≡ map (λ s. s.handler) served
 
 -- a handler's thread
 abbrev pub Worker : Type 0 → Type 0 → Type 0

@@ -1,18 +1,21 @@
 //! A ring's sender with its handlers on one thread.
 
-ghost use Rattle.std.specs.Prelude.{◌≡◌, ◌<◌, [], All, IfOk, length};
+ghost use Rattle.std.specs.Prelude.{◌≡◌, ◌<◌, [], All, IfErr, IfOk, length};
+ghost use Rattle.std.specs.Fn.{FnOnceReturnsAtMut};
 ghost use Rattle.dr_plain.specs.Calls.Ends.{receiver_place, received_of};
 ghost use Rattle.dr_plain.specs.Calls.Sending.{CloseCall};
-ghost use Rattle.dr_meaning.specs.Calls.Filling.{FillsOne};
-ghost use Rattle.dr_disruptor.specs.Here.{AreShown, HereEnd, sending_here};
+ghost use Rattle.dr_meaning.specs.Calls.Ends.{IsStretch};
+ghost use Rattle.dr_meaning.specs.Calls.Filling.{FillsFrom, FillsOne};
+ghost use Rattle.dr_meaning.specs.Calls.InPlaceInlets.{Changes, IsOpen, IsWhole, Opens, Publishes};
+ghost use Rattle.dr_disruptor.specs.Here.{AreShown, HadTurns, HereEnd, here_place, refuses_here, sending_here};
 ghost use Rattle.dr_plain.specs.Calls.InPlace.{SawPublished};
 ghost use Rattle.dr_disruptor.specs.Serving.{AreServed, IsIdle};
 
-use crate::served::{Served, serve, turn};
+use crate::served::{Served, serve};
 use crate::way::Way;
 use dr_meaning::{ClaimFault, Claimed, InPlaceHandler, InPlaceInlet, InPlaceOutlet, Refusal};
 use dr_plain::{Receiver, Sender};
-use dr_workers::{Bell, Spinning};
+use dr_workers::Bell;
 use std::alloc::{AllocError, Global};
 use std::marker::Model;
 use std::snapshot::Snapshot;
@@ -23,8 +26,6 @@ pub struct Here<E, H: InPlaceHandler<E>> {
     sender: Sender<E>,
     receivers: Vec<Receiver<E>>,
     handlers: Vec<H>,
-    // Nobody listens to it.
-    bell: Bell,
     way: Way,
     ends: Snapshot<Vec<Receiver<E>>>,
     starts: Snapshot<Vec<H>>,
@@ -38,31 +39,26 @@ impl<E, H: InPlaceHandler<E>> Model for Here<E, H> {
 
     ghost Value = { HereEnd E H };
 
-    ghost view = { λ here. record { sender = here.sender; ends = here.ends.value.items; starts = here.starts.value.items; batch = here.way.batch } };
+    ghost view = { λ here. record { sender = here.sender; ends = here.ends.value.items; starts = here.starts.value.items; receivers = here.receivers.items; handlers = here.handlers.items; batch = here.way.batch } };
 
     ghost invariant = { λ here. (0 < here.way.batch) × AreShown receiver_place received_of (λ e n. SawPublished e.knows n) H.goes here.way.batch here.ends.value.items here.starts.value.items here.receivers.items here.handlers.items };
 }
 
 // Gives each handler a turn, in the graph's order, over all that is there for it, at most a batch.
-fn round<O: InPlaceOutlet, H: InPlaceHandler<O::Event>>(
-    outlets: &mut [O],
-    handlers: &mut [H],
-    bell: &Bell,
-    batch: u64,
-)
-    requires many { length outlets.old ≡ length handlers.old }
-    requires idle { All (λ o. IsIdle (O.received o)) outlets.old }
+fn round<E, H: InPlaceHandler<E>>(receivers: &mut [Receiver<E>], handlers: &mut [H], batch: u64)
+    requires many { length receivers.old ≡ length handlers.old }
+    requires idle { All (λ e. IsIdle (received_of e)) receivers.old }
     requires batch { 0 < batch }
-    ensures { AreShown O.kept O.received O.saw H.goes batch outlets.old handlers.old outlets.new handlers.new }
+    ensures turns { HadTurns H.goes batch receivers.old handlers.old receivers.new handlers.new }
+    ensures shown { AreShown receiver_place received_of (λ e n. SawPublished e.knows n) H.goes batch receivers.old handlers.old receivers.new handlers.new }
 {
-    for h in 0..outlets.len() {
-        let _more = turn(
-            &mut outlets[h],
-            &mut handlers[h],
-            bell,
-            &mut Spinning,
-            batch,
-        );
+    for h in 0..receivers.len() {
+        let receiver = &mut receivers[h];
+        let Ok(_answer) = receiver.turn(&mut handlers[h], batch) else {
+            unreachable!();
+        };
+        // That a number tells how many it took: the proof needs it of the receiver after its turn.
+        let _taken = receiver.taken();
     }
 }
 
@@ -102,7 +98,7 @@ impl<E, H: InPlaceHandler<E>> Here<E, H> {
         requires many { length receivers.items ≡ length handlers.items }
         requires idle { All (λ e. IsIdle (received_of e)) receivers.items }
         requires batch { 0 < way.batch }
-        ensures { result ≡ record { sender = sender; ends = receivers.items; starts = handlers.items; batch = way.batch } }
+        ensures { result ≡ record { sender = sender; ends = receivers.items; starts = handlers.items; receivers = receivers.items; handlers = handlers.items; batch = way.batch } }
     {
         let ends = Snapshot::of(&receivers);
         let starts = Snapshot::of(&handlers);
@@ -110,7 +106,6 @@ impl<E, H: InPlaceHandler<E>> Here<E, H> {
             sender,
             receivers,
             handlers,
-            bell: Bell::new(),
             way,
             ends,
             starts,
@@ -132,13 +127,13 @@ impl<E: Drop, H: InPlaceHandler<E> + Drop> Here<E, H> {
             mut sender,
             receivers,
             handlers,
-            bell,
             way,
             ends: _,
             starts: _,
         } = self;
         let _closed = sender.close();
-        let served = serve_each(rt, alloc, receivers, handlers, &bell, way)?;
+        // Nobody listens to the bell.
+        let served = serve_each(rt, alloc, receivers, handlers, &Bell::new(), way)?;
         Ok((sender, served))
     }
 }
@@ -154,16 +149,23 @@ impl<E, H: InPlaceHandler<E>> InPlaceInlet for Here<E, H> {
 
     ghost sending = { sending_here };
 
-    ghost refuses = { refuses_here };
+    ghost refuses = { refuses_here H.goes };
 
-    fn try_claim(&mut self, n: u64) -> Result<Claimed, ClaimFault> {
+    fn try_claim(&mut self, n: u64) -> Result<Claimed, ClaimFault>
+        requires closed { (sending_here self.old).pending ≡ [] }
+        ensures kept { here_place self.new ≡ here_place self.old }
+        ensures stretch { IfOk result (IsStretch n) }
+        ensures opens { IfOk result (λ c. Opens c.lo n (sending_here self.old) (sending_here self.new)) }
+        ensures refused { IfErr result (λ fault. refuses_here H.goes self.old n fault self.new × (sending_here self.new ≡ sending_here self.old)) }
+        // Where there was room, no handler has a turn.
+        ensures turns { IfOk result (λ _. (self.new.receivers ≡ self.old.receivers) × (self.new.handlers ≡ self.old.handlers)) }
+    {
         match Sender::try_claim(&mut self.sender, n) {
             Ok(claimed) => Ok(claimed),
             Err(Refusal::NoRoom) => {
                 round(
                     self.receivers.as_mut_slice(),
                     self.handlers.as_mut_slice(),
-                    &self.bell,
                     self.way.batch,
                 );
                 Err(ClaimFault::Refused(Refusal::NoRoom))
@@ -172,19 +174,47 @@ impl<E, H: InPlaceHandler<E>> InPlaceInlet for Here<E, H> {
         }
     }
 
-    fn update<F: FnOnce(&mut E) + Drop>(&mut self, s: u64, change: F) {
+    fn update<F: FnOnce(&mut E) + Drop>(&mut self, s: u64, change: F)
+        requires callable { F.IsAlwaysCallable change }
+        requires within { IsOpen (sending_here self.old) s }
+        ensures kept { here_place self.new ≡ here_place self.old }
+        ensures changes { Changes (λ was now. FnOnceReturnsAtMut F.FnOnce change was tt now) s (sending_here self.old) (sending_here self.new) }
+        // No handler has a turn.
+        ensures turns { (self.new.receivers ≡ self.old.receivers) × (self.new.handlers ≡ self.old.handlers) }
+    {
         InPlaceInlet::update(&mut self.sender, s, change)
     }
 
-    fn update_at<F: Fn(&mut E, u64)>(&mut self, s: u64, fill: &F, number: u64) {
+    fn update_at<F: Fn(&mut E, u64)>(&mut self, s: u64, fill: &F, number: u64)
+        requires callable { F.IsAlwaysCallable fill.now }
+        requires within { IsOpen (sending_here self.old) s }
+        ensures kept { here_place self.new ≡ here_place self.old }
+        ensures changes { Changes (FillsOne F.Fn fill.now number) s (sending_here self.old) (sending_here self.new) }
+        // No handler has a turn.
+        ensures turns { (self.new.receivers ≡ self.old.receivers) × (self.new.handlers ≡ self.old.handlers) }
+    {
         self.sender.update_at(s, fill, number)
     }
 
-    fn update_by<F: FnMut(&mut E, u64)>(&mut self, s: u64, fill: &mut F, number: u64) {
+    fn update_by<F: FnMut(&mut E, u64)>(&mut self, s: u64, fill: &mut F, number: u64)
+        requires callable { F.IsAlwaysCallable fill.old }
+        requires within { IsOpen (sending_here self.old) s }
+        ensures kept { here_place self.new ≡ here_place self.old }
+        ensures changes { Changes (λ was now. FillsFrom F.FnMut fill.old number was fill.new now) s (sending_here self.old) (sending_here self.new) }
+        ensures callable { F.IsAlwaysCallable fill.new }
+        // No handler has a turn.
+        ensures turns { (self.new.receivers ≡ self.old.receivers) × (self.new.handlers ≡ self.old.handlers) }
+    {
         InPlaceInlet::update_by(&mut self.sender, s, fill, number)
     }
 
-    fn publish(&mut self, lo: u64, hi: u64) {
+    fn publish(&mut self, lo: u64, hi: u64)
+        requires whole { IsWhole lo hi (sending_here self.old) }
+        ensures kept { here_place self.new ≡ here_place self.old }
+        ensures publishes { Publishes (sending_here self.old) (sending_here self.new) }
+        // No handler has a turn.
+        ensures turns { (self.new.receivers ≡ self.old.receivers) × (self.new.handlers ≡ self.old.handlers) }
+    {
         InPlaceInlet::publish(&mut self.sender, lo, hi)
     }
 }

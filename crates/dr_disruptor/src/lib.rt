@@ -6,10 +6,12 @@
 //! closure on a thread of its own sends by, and [`run_here`] has all on the calling thread. Begin with `specs/Running`.
 #![tactic(auto)]
 
+mod events;
 mod fault;
 mod feed;
 mod feeds;
 mod here;
+pub mod laws;
 mod one_of;
 mod running;
 mod running_here;
@@ -20,8 +22,11 @@ mod team;
 mod way;
 mod workers;
 
-pub use dr_meaning::{ByValue, ClaimFault, InPlaceHandler, InPlaceInlet, InPlaceOutlet};
+pub use dr_meaning::{
+    ByValue, ClaimFault, Handler, InPlaceHandler, InPlaceInlet, InPlaceOutlet, Refusal,
+};
 pub use dr_workers::WaitStrategy;
+pub use events::new_events;
 pub use fault::RunFault;
 pub use feed::Feed;
 pub use feeds::Sent;
@@ -30,7 +35,7 @@ pub use one_of::OneOf;
 pub use running::{Ran, run};
 pub use running_here::run_here;
 pub use running_senders::run_senders;
-pub use sender::LiveSender;
+pub use sender::{LiveSender, SeveralSender};
 pub use served::{Served, ServesPromise, serve};
 pub use team::Team;
 pub use way::Way;

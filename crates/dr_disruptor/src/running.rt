@@ -12,7 +12,7 @@ ghost use Rattle.dr_plain.specs.Calls.Settling.{AreAllEnds, IsHalterOf};
 ghost use Rattle.dr_plain.specs.Meaning.Records.{events_of};
 ghost use Rattle.dr_disruptor.specs.Handlers.{AllWentThrough};
 ghost use Rattle.dr_disruptor.specs.Serving.{AreInBatches, IsIdle, given_end, given_handler};
-ghost use Rattle.dr_disruptor.specs.Running.{AreSettled, IsRanBy, refusal_of, shape_of};
+ghost use Rattle.dr_disruptor.specs.Running.{AreServedBack, AreSettled, IsRanBy, refusal_of, shape_of};
 
 use crate::fault::RunFault;
 use crate::sender::LiveSender;
@@ -132,6 +132,7 @@ fn wind_up<R: Threads + Wait + Copy, E: Drop, H: InPlaceHandler<E> + Drop>(
     requires fresh { (h : _) (e : ReceiverEnd E) → get_elem? (map given_end workers.items) h ≡ some e → (received_of e).events ≡ [] }
     requires batches { AreInBatches batch workers.items }
     ensures through { IfOk result (λ r. AllWentThrough H.goes batch (events_of live.knows.published) (map given_handler workers.items) r.0.items) }
+    ensures served { IfOk result (λ r. AreServedBack H.goes batch (map given_end workers.items) (map given_handler workers.items) r.1.receivers.value.items r.0.items) }
     ensures settled { IfOk result (λ r. AreSettled live r.1 r.2) }
 {
     let sender = closed(live);
@@ -170,7 +171,7 @@ pub fn run<
     requires events { length events.items ≡ size }
     requires batch { 0 < way.batch }
     requires place { (given : SenderEnd E) (answer : A) (back : SenderEnd E) → FnOnceReturnsAtMut F.FnOnce send given answer back → sender_place back ≡ sender_place given }
-    ensures ran { IfOk result (IsRanBy (FnOnceReturnsAtMut F.FnOnce send) (λ sender. sender) T.went way.batch (shape_of graph.now.upstreams size) events.items handlers) }
+    ensures ran { IfOk result (IsRanBy (FnOnceReturnsAtMut F.FnOnce send) (λ sender. sender) H.goes T.listed T.went way.batch (shape_of graph.now.upstreams size) events.items handlers) }
     ensures many { IfOk result (λ _. length (T.listed handlers) ≡ length graph.now.upstreams) }
     ensures refused { IfErr result (λ e. e ≡ refusal_of (length graph.now.upstreams) (length (T.listed handlers))) }
 {

@@ -8,7 +8,7 @@ ghost use Rattle.dr_plain.specs.Calls.Settling.{AreAllEnds, IsHalterOf};
 ghost use Rattle.dr_plain.specs.Meaning.Records.{events_of};
 ghost use Rattle.dr_disruptor.specs.Handlers.{AllWentThrough};
 ghost use Rattle.dr_disruptor.specs.Here.{HereEnd, sending_here};
-ghost use Rattle.dr_disruptor.specs.Running.{AreSettled, IsRanBy, refusal_of, shape_of};
+ghost use Rattle.dr_disruptor.specs.Running.{AreServedBack, AreSettled, IsRanBy, refusal_of, shape_of};
 
 use crate::fault::RunFault;
 use crate::feed::Feed;
@@ -39,6 +39,7 @@ fn wind_up_here<R: Wait + Copy, E: Drop, H: InPlaceHandler<E> + Drop>(
     requires unhalted { halter.knows.halted ≡ false }
     requires fresh { (h : _) (e : ReceiverEnd E) → get_elem? live.ends h ≡ some e → (received_of e).events ≡ [] }
     ensures through { IfOk result (λ r. AllWentThrough H.goes live.batch (events_of live.sender.knows.published) live.starts r.0.items) }
+    ensures served { IfOk result (λ r. AreServedBack H.goes live.batch live.ends live.starts r.1.receivers.value.items r.0.items) }
     ensures settled { IfOk result (λ r. AreSettled live.sender r.1 r.2) }
 {
     let (here, _bell) = live.into_end();
@@ -49,7 +50,7 @@ fn wind_up_here<R: Wait + Copy, E: Drop, H: InPlaceHandler<E> + Drop>(
 }
 
 /// As [`run`](crate::run), on this thread alone: where a claim finds no room, each handler has a turn, in the graph's
-/// order, over all that is there for it. It starts no thread, and nobody waits, so the strategy of the way is not used.
+/// order: one poll, of at most a batch. It starts no thread, and nobody waits, so the strategy of the way is not used.
 /// Its sender is of a type that depends on the handlers', so `send` is a [`Feed`] in place of a closure.
 ///
 /// It is refused with `Handlers` where there are not as many handlers as the graph has, and with `Memory` where there
@@ -73,9 +74,9 @@ pub fn run_here<
 ) -> Result<Ran<E, T, Settled<E>, A>, RunFault>
     requires events { length events.items ≡ size }
     requires batch { 0 < way.batch }
-    // It went over a new ring of this graph, size and events: each handler went through exactly what the feed left
-    // published, each event once, in sequence order from 0 on, in batches of at most so many.
-    ensures ran { IfOk result (IsRanBy (λ (given : HereEnd E H) (answer : A) (back : HereEnd E H). F.gives send answer (sending_here given).published (sending_here back).published) (λ here. here.sender) T.went way.batch (shape_of graph.now.upstreams size) events.items handlers) }
+    // It went over a new ring of this graph, size and events: the handler at each place went through exactly what the
+    // feed left published, each event once, in sequence order from 0 on, in batches of at most so many.
+    ensures ran { IfOk result (IsRanBy (λ (given : HereEnd E H) (answer : A) (back : HereEnd E H). F.gives send answer (sending_here given).published (sending_here back).published) (λ here. here.sender) H.goes T.listed T.went way.batch (shape_of graph.now.upstreams size) events.items handlers) }
     ensures many { IfOk result (λ _. length (T.listed handlers) ≡ length graph.now.upstreams) }
     ensures refused { IfErr result (λ e. e ≡ refusal_of (length graph.now.upstreams) (length (T.listed handlers))) }
 {

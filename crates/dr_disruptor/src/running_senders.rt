@@ -129,6 +129,7 @@ fn fed<
     bell: &Arc<Bell, Global>,
     strategy: WaitStrategy,
 ) -> Result<(Halter<E>, Vec<Worker<Receiver<E>, H>>, Vec<Sent<E, A>>), AllocError>
+    // The closures send before this run halts the ring.
     requires before { ends.0.stored ≡ [] }
     requires many { length senders.items ≡ length feeds.items }
     requires callable { All (λ f. F.callable f) feeds.items }
@@ -221,7 +222,7 @@ pub fn run_senders<
     requires events { length events.items ≡ size }
     requires batch { 0 < way.batch }
     requires place { All (λ f. LeavesSender (FnOnceReturnsAtMut F.FnOnce f)) feeds.items }
-    ensures ran { IfOk result (IsRanByAll (FnOnceReturnsAtMut F.FnOnce) T.went way.batch (shape_of graph.now.upstreams size events.items (length feeds.items)) feeds.items handlers) }
+    ensures ran { IfOk result (IsRanByAll (FnOnceReturnsAtMut F.FnOnce) H.goes T.listed T.went way.batch (shape_of graph.now.upstreams size events.items (length feeds.items)) feeds.items handlers) }
     ensures many { IfOk result (λ _. length (T.listed handlers) ≡ length graph.now.upstreams) }
     ensures few { IfOk result (λ _. has_bad_producers (Multi (length feeds.items)) ≡ false) }
     ensures refused { IfErr result (λ e. e ≡ refusal_of (length graph.now.upstreams) (length (T.listed handlers)) (length feeds.items)) }

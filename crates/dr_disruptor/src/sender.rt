@@ -5,7 +5,7 @@ ghost use Rattle.std.specs.Fn.{FnOnceReturnsAtMut};
 ghost use Rattle.dr_meaning.specs.Calls.Filling.{FillsFrom, FillsOne};
 ghost use Rattle.dr_meaning.specs.Calls.Ends.{IsStretch};
 ghost use Rattle.dr_meaning.specs.Calls.InPlaceInlets.{Opens};
-ghost use Rattle.dr_disruptor.specs.Sending.{Fills, FillsOn, FillsPart, IsNth, IsRefused, SendsAll, SendsOne, StopsAfter};
+ghost use Rattle.dr_disruptor.specs.Sending.{ClaimedAtOnce, ClaimedInCuts, Fills, FillsOn, FillsPart, IsNth, IsRefused, SendsAll, SendsOne, StopsAfter};
 ghost use Rattle.dr_plain_senders.specs.Calls.InPlace.{sending_of};
 ghost use Rattle.dr_plain_senders.specs.Calls.Sending.{HaltCall};
 ghost use Rattle.dr_plain_senders.specs.Calls.Ends.{sender_place};
@@ -26,6 +26,9 @@ pub struct LiveSender<R, I: InPlaceInlet> {
     // How many events it published, as far as a `u64` counts.
     sent: u64,
 }
+
+/// The sender of a closure of [`run_senders`](crate::run_senders).
+pub type SeveralSender<R, E> = LiveSender<R, several::Sender<E>>;
 
 impl<R, I: InPlaceInlet> Model for LiveSender<R, I> {
     ghost use Rattle.std.specs.Prelude.{◌≡◌, ◌^◌, ◌-◌, [], length, min};
@@ -109,7 +112,8 @@ fn fill_by<I: InPlaceInlet, F: FnMut(&mut I::Event, u64)>(
     }
 }
 
-impl<R: Wait + Copy, I: InPlaceInlet> LiveSender<R, I> {
+// What waits for nothing: it has no `Wait` to do so by.
+impl<R: Copy, I: InPlaceInlet> LiveSender<R, I> {
     pub(crate) fn new(
         rt: R,
         end: I,
@@ -136,26 +140,6 @@ impl<R: Wait + Copy, I: InPlaceInlet> LiveSender<R, I> {
         self.sent
     }
 
-    /// Claims a sequence once there is room, has its event filled where it lies, and publishes it. What `fill` finds
-    /// there is what an earlier event left.
-    ///
-    /// It is refused with `Exhausted` after 2^62 events, or with `Halted`, and changes nothing then.
-    pub fn publish_with<F: FnOnce(&mut I::Event) + Drop>(&mut self, fill: F) -> Result<(), Refusal>
-        requires { F.IsAlwaysCallable fill }
-        // It is still the same ring's sender.
-        ensures kept { I.kept self.new ≡ I.kept self.old }
-        // What the closure left of what lay there is published behind all that was before.
-        ensures sent { OnOk result (SendsOne (λ was now. FnOnceReturnsAtMut F.FnOnce fill was tt now) (I.sending self.old).published (I.sending self.new).published) }
-        // A refused claim sends nothing, and is not refused for want of room.
-        ensures refused { IfErr result (λ r. IsRefused I.kept I.sending I.refuses 1 r self.old self.new) }
-    {
-        let Claimed { lo, hi } = claim(&self.rt, &mut self.end, &self.bell, self.strategy, 1)?;
-        self.end.update(lo, fill);
-        self.end.publish(lo, hi);
-        self.sent = counted(&self.bell, self.sent, 1);
-        Ok(())
-    }
-
     /// As [`LiveSender::publish_with`], but it waits for nothing: where there is no room it is refused with `NoRoom`,
     /// and with `Contended` where another sender claimed at the same moment.
     pub fn try_publish_with<F: FnOnce(&mut I::Event) + Drop>(
@@ -177,29 +161,67 @@ impl<R: Wait + Copy, I: InPlaceInlet> LiveSender<R, I> {
         Ok(())
     }
 
+    // The end without its bell, which is rung where it changes what others look at.
+    pub(crate) fn into_end(self) -> (I, Arc<Bell, Global>)
+        ensures is { result.0 ≡ self }
+        ensures closed { (I.sending result.0).pending ≡ [] }
+    {
+        let LiveSender {
+            rt: _,
+            end,
+            bell,
+            strategy: _,
+            sent: _,
+        } = self;
+        (end, bell)
+    }
+}
+
+impl<R: Wait + Copy, I: InPlaceInlet> LiveSender<R, I> {
+    /// Claims a sequence once there is room, has its event filled where it lies, and publishes it. What `fill` finds
+    /// there is what an earlier event left.
+    ///
+    /// It is refused with `Exhausted` after 2^62 events, or with `Halted`, and changes nothing then.
+    pub fn publish_with<F: FnOnce(&mut I::Event) + Drop>(&mut self, fill: F) -> Result<(), Refusal>
+        requires { F.IsAlwaysCallable fill }
+        // It is still the same ring's sender.
+        ensures kept { I.kept self.new ≡ I.kept self.old }
+        // What the closure left of what lay there is published behind all that was before.
+        ensures sent { OnOk result (SendsOne (λ was now. FnOnceReturnsAtMut F.FnOnce fill was tt now) (I.sending self.old).published (I.sending self.new).published) }
+        // A refused claim sends nothing, and is not refused for want of room.
+        ensures refused { IfErr result (λ r. IsRefused I.kept I.sending I.refuses 1 r self.old self.new) }
+    {
+        let Claimed { lo, hi } = claim(&self.rt, &mut self.end, &self.bell, self.strategy, 1)?;
+        self.end.update(lo, fill);
+        self.end.publish(lo, hi);
+        self.sent = counted(&self.bell, self.sent, 1);
+        Ok(())
+    }
+
     // One claim of `publish_each`.
     fn publish_part<F: Fn(&mut I::Event, u64)>(
         &mut self,
-        n: u64,
+        part: u64,
         first: u64,
         fill: &F,
     ) -> Result<(), Refusal>
         requires callable { F.IsAlwaysCallable fill.now }
-        requires fits { first + n < 2 ^ 64 }
+        requires fits { first + part < 2 ^ 64 }
         ensures kept { I.kept self.new ≡ I.kept self.old }
-        ensures sent { OnOk result (SendsAll (Fills (FillsOne F.Fn fill.now) first) n (I.sending self.old).published (I.sending self.new).published) }
-        ensures refused { IfErr result (λ r. IsRefused I.kept I.sending I.refuses n r self.old self.new) }
+        ensures sent { OnOk result (SendsAll (Fills (FillsOne F.Fn fill.now) first) part (I.sending self.old).published (I.sending self.new).published) }
+        ensures claims { OnOk result (ClaimedAtOnce I.kept I.sending (length (I.sending self.old).published) part self.old self.new) }
+        ensures refused { IfErr result (λ r. IsRefused I.kept I.sending I.refuses part r self.old self.new) }
     {
-        let Claimed { lo, hi } = claim(&self.rt, &mut self.end, &self.bell, self.strategy, n)?;
-        fill_each(&mut self.end, lo, n, first, fill);
+        let Claimed { lo, hi } = claim(&self.rt, &mut self.end, &self.bell, self.strategy, part)?;
+        fill_each(&mut self.end, lo, part, first, fill);
         self.end.publish(lo, hi);
-        self.sent = counted(&self.bell, self.sent, n);
+        self.sent = counted(&self.bell, self.sent, part);
         Ok(())
     }
 
     /// Sends so many events, in claims of at most `cut` of them, each filled where it lies by `fill`, which is told its
-    /// number, from 0 on. It is refused as [`LiveSender::publish_with`] is, and with `BadCount` where `cut` is above the
-    /// ring's size. The events of the claims before were sent then.
+    /// number, from 0 on. It is refused as [`LiveSender::publish_with`] is, and the events of the claims before were sent
+    /// then. It is refused with `BadCount`, and sends nothing, where both `count` and `cut` are above the ring's size.
     pub fn publish_each<F: Fn(&mut I::Event, u64) + Drop>(
         &mut self,
         count: u64,
@@ -212,6 +234,8 @@ impl<R: Wait + Copy, I: InPlaceInlet> LiveSender<R, I> {
         ensures kept { I.kept self.new ≡ I.kept self.old }
         // So many events are published behind all that was before, each as the closure leaves it, by its number.
         ensures sent { OnOk result (SendsAll (Fills (FillsOne F.Fn fill) 0) count (I.sending self.old).published (I.sending self.new).published) }
+        // It claimed `cut` of them at once, again and again, and at last those that were left.
+        ensures claims { OnOk result (ClaimedInCuts I.kept I.sending cut count self.old self.new) }
         // The first claims were sent whole, and the next one was refused.
         ensures refused { IfErr result (λ r. StopsAfter (FillsOne F.Fn fill) I.kept I.sending I.refuses count cut r self.old self.new) }
     {
@@ -238,30 +262,19 @@ impl<R: Wait + Copy, I: InPlaceInlet> LiveSender<R, I> {
         ensures kept { I.kept self.new ≡ I.kept self.old }
         // So many events are published behind all that was before, each as the closure leaves it, which goes from state to state.
         ensures sent { OnOk result (SendsAll (λ events. FillsOn (FillsFrom F.FnMut) fill.old 0 events fill.new) n (I.sending self.old).published (I.sending self.new).published) }
+        // All of them were claimed at once.
+        ensures claims { OnOk result (ClaimedAtOnce I.kept I.sending (length (I.sending self.old).published) n self.old self.new) }
         // A refused claim sends nothing, and calls the closure for nothing.
         ensures refused { IfErr result (λ r. IsRefused I.kept I.sending I.refuses n r self.old self.new × (fill.new ≡ fill.old)) }
         ensures callable { F.IsAlwaysCallable fill.new }
+        // A batch of none is refused.
+        ensures some { OnOk result (0 < n) }
     {
         let Claimed { lo, hi } = claim(&self.rt, &mut self.end, &self.bell, self.strategy, n)?;
         fill_by(&mut self.end, lo, n, fill);
         self.end.publish(lo, hi);
         self.sent = counted(&self.bell, self.sent, n);
         Ok(())
-    }
-
-    // The end without its bell, which is rung where it changes what others look at.
-    pub(crate) fn into_end(self) -> (I, Arc<Bell, Global>)
-        ensures is { result.0 ≡ self }
-        ensures closed { (I.sending result.0).pending ≡ [] }
-    {
-        let LiveSender {
-            rt: _,
-            end,
-            bell,
-            strategy: _,
-            sent: _,
-        } = self;
-        (end, bell)
     }
 }
 
@@ -274,6 +287,8 @@ impl<R: Wait + Copy, E: Copy, I: InPlaceInlet<Event = E>> LiveSender<R, I> {
         ensures kept { I.kept self.new ≡ I.kept self.old }
         // Just these events are published, behind all that was before.
         ensures sent { OnOk result ((I.sending self.new).published ≡ (I.sending self.old).published ++ events.now) }
+        // It claimed `cut` of them at once, again and again, and at last those that were left.
+        ensures claims { OnOk result (ClaimedInCuts I.kept I.sending cut (length events.now) self.old self.new) }
         // The first claims were sent whole, and the next one was refused.
         ensures refused { IfErr result (λ r. StopsAfter (IsNth events.now) I.kept I.sending I.refuses (length events.now) cut r self.old self.new) }
     {

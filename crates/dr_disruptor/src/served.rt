@@ -26,7 +26,7 @@ pub struct ServesPromise<O, H> {
 }
 
 impl<O, H> ServesPromise<O, H> {
-    pub fn of(end: &O, handler: &H, batch: u64) -> ServesPromise<O, H>
+    pub(crate) fn of(end: &O, handler: &H, batch: u64) -> ServesPromise<O, H>
         ensures end { result.end.value ≡ end.now }
         ensures start { result.start.value ≡ handler.now }
         ensures batch { result.batch ≡ batch }
@@ -75,7 +75,7 @@ fn show<O: InPlaceOutlet, H: InPlaceHandler<O::Event>>(
 
 // A poll and, for a batch, the handler's calls and the completion. Where nothing came it waits. It answers whether more
 // may come.
-pub(crate) fn turn<O: InPlaceOutlet, H: InPlaceHandler<O::Event>, P: Patience>(
+fn turn<O: InPlaceOutlet, H: InPlaceHandler<O::Event>, P: Patience>(
     outlet: &mut O,
     handler: &mut H,
     bell: &Bell,

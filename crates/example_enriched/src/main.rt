@@ -2,7 +2,7 @@
 //! is on a thread of its own: they read it only once the first has completed the event, since the graph says so.
 #![tactic(auto)]
 
-use dr_disruptor::{InPlaceHandler, RunFault, WaitStrategy, Way, run};
+use dr_disruptor::{InPlaceHandler, RunFault, WaitStrategy, Way, new_events, run};
 use dr_graph::GraphBuilder;
 use dr_seq::Size;
 use std::sync::atomic::{AtomicU64, Ordering};
@@ -66,15 +66,7 @@ fn main(rt: HostRuntime) -> Result<(), RunFault> {
     let pricing = builder.handle_with(&["pricing"])?;
     builder.then(&pricing, &["worth"])?;
     let graph = builder.build()?;
-    let trades = Vec::from_array(
-        alloc,
-        [
-            Trade::blank(),
-            Trade::blank(),
-            Trade::blank(),
-            Trade::blank(),
-        ],
-    )?;
+    let trades = new_events(alloc, size, || Ok(Trade::blank()))?;
     let pricing = Pricing {
         prices: [10, 20, 30],
     };

@@ -1,10 +1,10 @@
 //! Two feeds, each on a thread of its own, send orders to a risk check, and then to a journal: handlers of two types.
 #![tactic(auto)]
 
-use dr_disruptor::{InPlaceHandler, LiveSender, RunFault, WaitStrategy, Way, run_senders};
+use dr_disruptor::{
+    InPlaceHandler, Refusal, RunFault, SeveralSender, WaitStrategy, Way, new_events, run_senders,
+};
 use dr_graph::GraphBuilder;
-use dr_meaning::Refusal;
-use dr_plain_senders::Sender;
 use dr_seq::Size;
 
 #[derive(Clone, Copy, Default)]
@@ -64,7 +64,7 @@ fn main(rt: HostRuntime) -> Result<(), RunFault> {
     let risk = builder.handle_with(&["risk"])?;
     builder.then(&risk, &["journal"])?;
     let graph = builder.build()?;
-    let orders = vec![in alloc; Order::default(); size.get() as usize]?;
+    let orders = new_events(alloc, size, || Ok(Order::default()))?;
     let handlers = (
         Risk { greatest: 0 },
         Journal {
@@ -74,7 +74,7 @@ fn main(rt: HostRuntime) -> Result<(), RunFault> {
     );
     let mut feeds = Vec::new(alloc);
     for account in [1u64, 2] {
-        feeds.push(move |sender: &mut LiveSender<HostRuntime, Sender<Order>>| {
+        feeds.push(move |sender: &mut SeveralSender<HostRuntime, Order>| {
             sender.publish_each(500, 8, |order: &mut Order, k| {
                 order.account = account;
                 order.quantity = 1 + k % 9;

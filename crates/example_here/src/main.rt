@@ -3,10 +3,10 @@
 #![tactic(auto)]
 
 use dr_disruptor::{
-    Feed, InPlaceHandler, InPlaceInlet, LiveSender, RunFault, WaitStrategy, Way, run_here,
+    Feed, InPlaceHandler, InPlaceInlet, LiveSender, Refusal, RunFault, WaitStrategy, Way,
+    new_events, run_here,
 };
 use dr_graph::GraphBuilder;
-use dr_meaning::Refusal;
 use dr_seq::Size;
 use std::sync::Wait;
 
@@ -64,7 +64,7 @@ fn main(rt: HostRuntime) -> Result<(), RunFault> {
     let archive = builder.handle_with(&["archive"])?;
     builder.then(&archive, &["alert"])?;
     let graph = builder.build()?;
-    let readings = vec![in alloc; 0u64; size.get() as usize]?;
+    let readings = new_events(alloc, size, || Ok(0u64))?;
     let stages = vec![in alloc; Stage::Archive(0), Stage::Alert(0)]?;
     let way = Way::by(WaitStrategy::Spinning);
     let send = Readings { count: 101 };

@@ -2,12 +2,9 @@
 //! again and again: nothing is allocated, copied to a handler or let go while messages are sent.
 #![tactic(auto)]
 
-ghost use Rattle.std.specs.Prelude.{◌≡◌, IfOk, length};
-
-use dr_disruptor::{InPlaceHandler, RunFault, WaitStrategy, Way, run};
+use dr_disruptor::{InPlaceHandler, RunFault, WaitStrategy, Way, new_events, run};
 use dr_graph::GraphBuilder;
 use dr_seq::Size;
-use std::alloc::{AllocError, Global};
 
 /// How many bytes a message has at most.
 const ROOM: usize = 16;
@@ -49,24 +46,16 @@ impl InPlaceHandler<Message> for Reader {
     }
 }
 
-/// A message for each slot, with room for its text.
-fn blank(alloc: Global, size: Size) -> Result<Vec<Message>, AllocError>
-    ensures { IfOk result (λ messages. length messages.items ≡ size) }
-{
-    let mut messages = Vec::new(alloc);
-    for _ in 0..size.get() {
-        let text = Vec::with_capacity(alloc, ROOM)?;
-        messages.push(Message { text })?;
-    }
-    Ok(messages)
-}
-
 fn main(rt: HostRuntime) -> Result<(), RunFault> {
     let (alloc, size) = (rt.alloc(), Size::new(8)?);
     let mut builder = GraphBuilder::new(alloc);
     builder.handle_with(&["first", "second"])?;
     let graph = builder.build()?;
-    let messages = blank(alloc, size)?;
+    let messages = new_events(alloc, size, || {
+        Ok(Message {
+            text: Vec::with_capacity(alloc, ROOM)?,
+        })
+    })?;
     let readers = vec![in alloc; Reader::default(); 2]?;
     let way = Way::by(WaitStrategy::Parking);
     let ran = run(rt, alloc, &graph, size, messages, readers, way, |sender| {

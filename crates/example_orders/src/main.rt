@@ -1,7 +1,7 @@
 //! Orders go to a journal and a risk check side by side, and then to a matching engine, each on a thread of its own.
 #![tactic(auto)]
 
-use dr_disruptor::{InPlaceHandler, RunFault, WaitStrategy, Way, run};
+use dr_disruptor::{InPlaceHandler, RunFault, WaitStrategy, Way, new_events, run};
 use dr_graph::GraphBuilder;
 use dr_seq::Size;
 
@@ -36,7 +36,7 @@ fn main(rt: HostRuntime) -> Result<(), RunFault> {
     let first = builder.handle_with(&["journal", "risk"])?;
     builder.then(&first, &["matching"])?;
     let graph = builder.build()?;
-    let orders = vec![in alloc; Order::default(); size.get() as usize]?;
+    let orders = new_events(alloc, size, || Ok(Order::default()))?;
     let sums = vec![in alloc; Sum::default(); 3]?;
     let way = Way::by(WaitStrategy::Parking);
     let ran = run(rt, alloc, &graph, size, orders, sums, way, |sender| {

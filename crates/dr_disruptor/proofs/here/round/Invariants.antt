@@ -1,7 +1,10 @@
+use Rattle.dr_plain.specs.Calls.Ends.{receiver_place, received_of}
+use Rattle.dr_plain.specs.Calls.InPlace.{SawPublished}
 use Rattle.dr_disruptor.specs.Here.{AreShown}
+use Rattle.dr_disruptor.proofs.Turns.{TurnsBelow}
 use Rattle.dr_disruptor.proofs.here.round.Given as goal
 
 abbrev pub invariant-loop-h : goal.invariant-loop-h
 invariant-loop-h g l =
-    AreShown g.O.InPlaceOutlet.kept g.O.InPlaceOutlet.received g.O.InPlaceOutlet.saw g.H.InPlaceHandler.goes l.batch l.fn.outlets l.fn.handlers
-    l.outlets l.handlers
+    TurnsBelow g.H.InPlaceHandler.goes l.batch l.h l.fn.receivers l.fn.handlers l.receivers l.handlers
+    × AreShown receiver_place received_of (λ e n. SawPublished e.knows n) g.H.InPlaceHandler.goes l.batch l.fn.receivers l.fn.handlers l.receivers l.handlers

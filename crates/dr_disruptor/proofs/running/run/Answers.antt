@@ -4,15 +4,16 @@ use Rattle.std.specs.Prelude.{IfErr}
 use lib.ListN.{get_elem?}
 use Rattle.dr_disruptor.specs.declared.fault.RunFault.{RunFault}
 use Rattle.dr_plain.specs.declared.record.SenderRecord.{SenderRecord}
-use Rattle.dr_plain.specs.Calls.Ends.{HalterStand, ReceiverEnd, SenderEnd, received_of, sender_place}
+use Rattle.dr_plain.specs.Calls.Ends.{HalterStand, ReceiverEnd, SenderEnd, receiver_place, received_of, sender_place}
 use Rattle.dr_plain.specs.Meaning.Records.{events_of}
 use Rattle.dr_plain.specs.Calls.Settling.{AreAllEnds}
 use Rattle.dr_plain.specs.Meaning.Shape.{handlers_of}
 use Rattle.dr_disruptor.specs.Handlers.{AllWentThrough}
-use Rattle.dr_disruptor.specs.Serving.{IsIdle, given_handler}
+use Rattle.dr_disruptor.specs.Serving.{IsIdle, given_end, given_handler}
 use Rattle.dr_plain.specs.Calls.InPlace.{sending_of}
-use Rattle.dr_disruptor.specs.Running.{shape_of}
-use Rattle.dr_disruptor.proofs.Ready.{all_idle, all_moved, halter_moved, memory_is, none_received}
+use Rattle.dr_disruptor.specs.Running.{new_receivers, shape_of}
+use Rattle.dr_disruptor.proofs.Ready.{all_idle, all_moved, halter_moved, is_told, memory_is, none_received, saw_by}
+use Rattle.dr_disruptor.proofs.Through.{served_as}
 use Rattle.dr_disruptor.proofs.running.run.Goals as goal
 
 pub begin-requires-clause-idle : goal.begin-requires-clause-idle
@@ -91,13 +92,25 @@ returns-clause-ran g c =
     let events = events_of sent.new.arg2.knows.published in
     let wound = c.in_ok-list-2 in
     let same : c.new-live.result ≡ made.fresh = c.new-live.ensures ∙ c.in_ok-sender.ensures.sender in
+    let gave : FnOnceReturnsAtMut g.F.FnOnce c.args.send c.new-live.result sent.result sent.new.arg2 =
+    record { shown = _; shows = refl; left = _; met = sent.ensures; leaves = refl } in
+    let workers = c.in_ok-sender.workers.items in
+    let outlets = wound.settled.receivers.value.items in
+    let k = shape_of c.args.graph.now.upstreams c.args.size made.ensures.fresh.0 in
+    let new : List (ReceiverEnd g.row.E.Denot) = new_receivers c.new-live.result.ring k in
+    let receivers : made.receivers.items ≡ new =
+    made.ensures.fresh.1.receivers ∙ ap (λ (s : SenderEnd g.row.E.Denot). new_receivers s.ring k) (sym same) in
     record {
       strip = made.ensures.fresh.0;
       given = c.new-live.result;
       back = sent.new.arg2;
       fresh = ap (λ (s : SenderEnd g.row.E.Denot). s.knows) same ∙ made.ensures.fresh.1.sender;
       cells = ap (λ (s : SenderEnd g.row.E.Denot). s.cells) same ∙ made.ensures.fresh.1.cells;
-      sending = record { shown = _; shows = refl; left = _; met = sent.ensures; leaves = refl };
+      sending = gave;
+      place = c.requires.place c.new-live.result sent.result sent.new.arg2 gave;
+      serving = served_as receiver_place received_of is_told saw_by g.H.InPlaceHandler.goes c.args.way.batch (map given_end workers) new (map given_handler workers)
+          (g.T.Team.listed c.args.handlers) outlets outlets wound.list.items (g.T.Team.listed c.from_list.result) (c.in_ok-sender.ensures.ends ∙ receivers) starts refl
+          (sym c.from_list.ensures) wound.ensures.served;
       through = g.met.T.Team.go c.args.way.batch events c.args.handlers c.from_list.result
           (subst (λ l. AllWentThrough g.H.InPlaceHandler.goes c.args.way.batch events l (g.T.Team.listed c.from_list.result)) starts
           (subst (λ l. AllWentThrough g.H.InPlaceHandler.goes c.args.way.batch events (map given_handler c.in_ok-sender.workers.items) l) (sym c.from_list.ensures) wound.ensures.through));

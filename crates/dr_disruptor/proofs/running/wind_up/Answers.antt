@@ -41,6 +41,17 @@ returns-clause-through g c =
     (went_whole goes c.args.batch c.args.live sender (map given_end workers) (map given_handler workers) served
     c.closed-sender.ensures.0 c.closed-sender.ensures.1 are settles c.requires.fresh)
 
+pub returns-clause-served : goal.returns-clause-served
+returns-clause-served g c =
+    let served = c.in_ok-served.served.items in
+    record {
+      served = served;
+      are = served_by receiver_place received_of is_told saw_by g.H.InPlaceHandler.goes c.args.batch c.args.workers.items served c.requires.batches
+          c.in_ok-served.ensures;
+      ends_back = c.finish-settled.ensures.ends.1 ∙ c.in_ok-outlets.ensures.outlets;
+      handlers_back = c.in_ok-outlets.ensures.handlers;
+    }
+
 pub returns-clause-settled : goal.returns-clause-settled
 returns-clause-settled g c =
     let goes = g.H.InPlaceHandler.goes in
@@ -55,4 +66,4 @@ returns-clause-settled g c =
     let one = end_back receiver_place received_of is_told saw_by goes c.args.batch (map given_end workers) (map given_handler workers) served are h e
     (ap (λ (l : List (ReceiverEnd g.row.E.Denot)). get_elem? l h) (sym c.in_ok-outlets.ensures.outlets) ∙ at) in
     has_all sender back done.lists h e at one.3 one.4)
-    (done.unhalted c.requires.unhalted) (done.claimed, done.published, done.handlers, done.events)
+    (c.requires.unhalted, done.unhalted c.requires.unhalted) (done.claimed, done.published, done.handlers, done.events)

@@ -1,8 +1,8 @@
-use Rattle.std.proofs.Common.{rules, ◌≡◌, List, All, length, sym, subst, ap, ◌∙◌}
+use Rattle.std.proofs.Common.{rules, ◌≡◌, List, All, length, refl, sym, subst, ap, ◌∙◌}
 use Rattle.std.specs.Prelude.{IfErr}
 use lib.ListN.{get_elem?}
 use Rattle.dr_plain.specs.declared.record.SenderRecord.{SenderRecord}
-use Rattle.dr_plain.specs.Calls.Ends.{HalterStand, ReceiverEnd, received_of}
+use Rattle.dr_plain.specs.Calls.Ends.{HalterStand, ReceiverEnd, receiver_place, received_of}
 use Rattle.dr_plain.specs.Calls.Settling.{AreAllEnds}
 use Rattle.dr_plain.specs.Meaning.Records.{events_of}
 use Rattle.dr_plain.specs.Meaning.Shape.{handlers_of}
@@ -10,8 +10,9 @@ use Rattle.dr_disruptor.specs.declared.fault.RunFault.{RunFault}
 use Rattle.dr_disruptor.specs.Handlers.{AllWentThrough}
 use Rattle.dr_disruptor.specs.Here.{HereEnd, HerePlace, here_place, sending_here}
 use Rattle.dr_disruptor.specs.Serving.{IsIdle}
-use Rattle.dr_disruptor.specs.Running.{shape_of}
-use Rattle.dr_disruptor.proofs.Ready.{all_idle, all_moved, halter_moved, memory_is, none_received}
+use Rattle.dr_disruptor.specs.Running.{AreServedBack, new_receivers, shape_of}
+use Rattle.dr_disruptor.proofs.Ready.{all_idle, all_moved, halter_moved, is_told, memory_is, none_received, saw_by}
+use Rattle.dr_disruptor.proofs.Through.{served_as}
 use Rattle.dr_disruptor.proofs.running_here.run_here.Goals as goal
 
 pub new-here-requires-clause-many : goal.new-here-requires-clause-many
@@ -97,6 +98,14 @@ returns-clause-ran g c =
     let starts = ap (λ (p : HerePlace g.row.E.Denot g.row.H.Denot). p.2) same ∙ c.in_ok-list.ensures in
     let batch = ap (λ (p : HerePlace g.row.E.Denot g.row.H.Denot). p.3) same in
     let events = events_of back.sender.knows.published in
+    let ends = ap (λ (p : HerePlace g.row.E.Denot g.row.H.Denot). p.1) same in
+    let outlets = wound.settled.receivers.value.items in
+    let k = shape_of c.args.graph.now.upstreams c.args.size made.ensures.fresh.0 in
+    let fresh : List (ReceiverEnd g.row.E.Denot) = new_receivers c.new-live.result.sender.ring k in
+    let receivers : made.receivers.items ≡ fresh =
+    made.ensures.fresh.1.receivers ∙ ap (λ (x : HereEnd g.row.E.Denot g.row.H.Denot). new_receivers x.sender.ring k) (sym new) in
+    let served : AreServedBack g.H.InPlaceHandler.goes c.args.way.batch back.ends back.starts outlets wound.list.items =
+    subst (λ n. AreServedBack g.H.InPlaceHandler.goes n back.ends back.starts outlets wound.list.items) batch wound.ensures.served in
     record {
       strip = made.ensures.fresh.0;
       given = c.new-live.result;
@@ -104,6 +113,10 @@ returns-clause-ran g c =
       fresh = ap (λ (x : HereEnd g.row.E.Denot g.row.H.Denot). x.sender.knows) new ∙ made.ensures.fresh.1.sender;
       cells = ap (λ (x : HereEnd g.row.E.Denot g.row.H.Denot). x.sender.cells) new ∙ made.ensures.fresh.1.cells;
       sending = sent.ensures.gives;
+      place = ap (λ (p : HerePlace g.row.E.Denot g.row.H.Denot). p.0) sent.ensures.kept;
+      serving = served_as receiver_place received_of is_told saw_by g.H.InPlaceHandler.goes c.args.way.batch back.ends fresh back.starts
+          (g.T.Team.listed c.args.handlers) outlets outlets wound.list.items (g.T.Team.listed c.from_list.result) (ends ∙ receivers) starts refl
+          (sym c.from_list.ensures) served;
       through = g.met.T.Team.go c.args.way.batch events c.args.handlers c.from_list.result
           (subst (λ n. AllWentThrough g.H.InPlaceHandler.goes n events (g.T.Team.listed c.args.handlers) (g.T.Team.listed c.from_list.result)) batch
           (subst (λ l. AllWentThrough g.H.InPlaceHandler.goes back.batch events l (g.T.Team.listed c.from_list.result)) starts

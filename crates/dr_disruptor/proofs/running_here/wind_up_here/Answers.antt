@@ -7,6 +7,7 @@ use Rattle.dr_plain.specs.Meaning.Settling.{Settles}
 use Rattle.dr_disruptor.specs.Handlers.{AllWentThrough}
 use Rattle.dr_disruptor.specs.Here.{HereEnd}
 use Rattle.dr_disruptor.specs.Running.{AreSettled}
+use Rattle.dr_disruptor.specs.Serving.{AreServed}
 use Rattle.dr_disruptor.proofs.Through.{end_back}
 use Rattle.dr_disruptor.proofs.Ready.{all_moved, are_settled, halter_moved, has_all, is_told, receivers_back, saw_by, went_whole}
 use Rattle.dr_disruptor.proofs.running_here.wind_up_here.Goals as goal
@@ -45,6 +46,20 @@ returns-clause-through g c =
     (subst (λ (x : HereEnd g.row.E.Denot g.row.H.Denot). AllWentThrough goes x.batch (events_of x.sender.knows.published) x.starts (map (λ s. s.handler) served))
     c.into_end-here.ensures.is went)
 
+pub returns-clause-served : goal.returns-clause-served
+returns-clause-served g c =
+    let goes = g.H.InPlaceHandler.goes in
+    let served = c.in_ok-sender.served.items in
+    let here = c.into_end-here.result.0 in
+    let done : AreServed receiver_place received_of is_told saw_by goes here.batch here.ends here.starts served = c.in_ok-sender.ensures.served in
+    record {
+      served = served;
+      are = subst (λ (x : HereEnd g.row.E.Denot g.row.H.Denot). AreServed receiver_place received_of is_told saw_by goes x.batch x.ends x.starts served)
+          c.into_end-here.ensures.is done;
+      ends_back = c.finish-settled.ensures.ends.1 ∙ c.in_ok-outlets.ensures.outlets;
+      handlers_back = c.in_ok-outlets.ensures.handlers;
+    }
+
 pub returns-clause-settled : goal.returns-clause-settled
 returns-clause-settled g c =
     let goes = g.H.InPlaceHandler.goes in
@@ -59,4 +74,4 @@ returns-clause-settled g c =
     let one = end_back receiver_place received_of is_told saw_by goes here.batch here.ends here.starts c.in_ok-sender.served.items
     c.in_ok-sender.ensures.served h e (ap (λ (l : List (ReceiverEnd g.row.E.Denot)). get_elem? l h) (sym c.in_ok-outlets.ensures.outlets) ∙ at) in
     has_all sender back done.lists h e at one.3 one.4)
-    (done.unhalted c.requires.unhalted) (done.claimed, done.published, done.handlers, done.events))
+    (c.requires.unhalted, done.unhalted c.requires.unhalted) (done.claimed, done.published, done.handlers, done.events))

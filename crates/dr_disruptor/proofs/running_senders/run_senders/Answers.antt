@@ -90,7 +90,7 @@ returns-clause-ran g c =
     let listed = g.T.Team.listed team in (
       strip,
       ran_over goes most k blank gives feeds listed made.senders.items made.receivers.items made.halter workers sent wound.list.items wound.settled
-          wound.events wound.sent.items shape fresh given starts fed.ensures.sent is g.T.Team.went team c.from_list.result wound.sent refl refl
+          wound.events wound.sent.items shape fresh given starts fed.ensures.sent is g.T.Team.listed g.T.Team.went team c.from_list.result wound.sent refl refl refl c.from_list.ensures
           (λ events through. g.met.T.Team.go most events team c.from_list.result (subst (λ l. AllWentThrough goes most events listed l) (sym c.from_list.ensures) through)),
     )
 

@@ -3,8 +3,8 @@ use Rattle.dr_plain_senders.specs.Calls.Ends.{ReceiverEnd, SenderEnd, receiver_p
 use Rattle.dr_plain_senders.specs.Calls.Settling.{AreAllEnds, GivesBack, HasRun, handler_counts}
 use Rattle.dr_plain_senders.specs.Calls.InPlace.{SawSome}
 use Rattle.dr_disruptor.specs.Serving.{given_end, given_handler}
-use Rattle.dr_disruptor.proofs.Through.{served_by}
-use Rattle.dr_disruptor.proofs.ManyReady.{halted_back, is_told, received_by, receivers_back}
+use Rattle.dr_disruptor.proofs.Through.{end_back, served_by}
+use Rattle.dr_disruptor.proofs.ManyReady.{halted_back, has_all, is_told, received_by, receivers_back}
 use Rattle.dr_disruptor.proofs.running_senders.wind_up.Goals as goal
 
 pub finish-settled-requires : goal.finish-settled-requires
@@ -33,17 +33,24 @@ returns g c =
     let outlets = c.in_ok-outlets.ensures.outlets in
     let senders = c.in_ok-senders.ensures.senders in
     let settled = c.finish-settled.result.0 in
+    let kept = served_by receiver_place received_by is_told SawSome goes c.args.batch workers served c.requires.batches c.in_ok-served.ensures in
+    let back = map (λ b. b.outlet) served in
+    let run : HasRun ss back after settled.claimed settled.is_halted =
+    subst (λ (l : List (ReceiverEnd g.row.E.Denot)). HasRun ss l after settled.claimed settled.is_halted) outlets
+    (subst (λ (l : List (SenderEnd g.row.E.Denot)). HasRun l c.in_ok-outlets.field-0.outlets.items after settled.claimed settled.is_halted) senders done.run) in
     record {
       served = served;
-      kept = served_by receiver_place received_by is_told SawSome goes c.args.batch workers served c.requires.batches c.in_ok-served.ensures;
+      kept = kept;
       after = after;
       halts = c.halt.ensures;
       ends = record {
         senders = done.ends.0 ∙ senders;
         receivers = done.ends.1 ∙ outlets;
         halter = done.ends.2;
-        run = subst (λ (l : List (ReceiverEnd g.row.E.Denot)). HasRun ss l after settled.claimed settled.is_halted) outlets
-            (subst (λ (l : List (SenderEnd g.row.E.Denot)). HasRun l c.in_ok-outlets.field-0.outlets.items after settled.claimed settled.is_halted) senders done.run);
+        run = run;
+        whole = λ h e at.
+            let one = end_back receiver_place received_by is_told SawSome goes c.args.batch (map given_end workers) (map given_handler workers) served kept h e at in
+            has_all ss back after settled.claimed settled.is_halted run h e at one.3 one.4;
         counts = done.handlers ∙ ap (map (λ (e : ReceiverEnd g.row.E.Denot). handler_counts e.knows)) outlets;
       };
       back = subst (λ (l : List (SenderEnd g.row.E.Denot)). GivesBack after.plan settled.claimed l c.finish-settled.result.1) senders done.events;

@@ -18,7 +18,7 @@ pub invariant_of-self-in-Err-NoRoom : goal.invariant_of-self-in-Err-NoRoom
 invariant_of-self-in-Err-NoRoom g c =
     let here = c.self.inside in
     let goes = g.H.InPlaceHandler.goes in
-    let os = c.round.new.outlets in
+    let os = c.round.new.receivers in
     let hs = c.round.new.handlers in
     let outlets : c.as_mut_slice.result.now ≡ here.receivers.items = search rules in
     let handlers : c.as_mut_slice-in-Err-NoRoom.result.now ≡ here.handlers.items = search rules in
@@ -27,7 +27,7 @@ invariant_of-self-in-Err-NoRoom g c =
     let round = subst (λ (l : List (ReceiverEnd g.row.E.Denot)). AreShown receiver_place received_of (λ (e : ReceiverEnd g.row.E.Denot) n. SawPublished e.knows n) goes here.way.batch
     l here.handlers.items os hs) outlets
     (subst (λ (l : List g.row.H.Denot). AreShown receiver_place received_of (λ (e : ReceiverEnd g.row.E.Denot) n. SawPublished e.knows n) goes here.way.batch
-    c.as_mut_slice.result.now l os hs) handlers c.round.ensures) in
+    c.as_mut_slice.result.now l os hs) handlers c.round.ensures.shown) in
     let on = shown_on receiver_place received_of (λ (e : ReceiverEnd g.row.E.Denot) n. SawPublished e.knows n) goes here.way.batch here.ends.value.items here.starts.value.items
     here.receivers.items here.handlers.items os hs c.self.invariant.1 round in
     let long : length hs ≡ length here.handlers.items = round.alike ∙ round.many ∙ sym c.self.invariant.1.alike in (

@@ -1,6 +1,7 @@
-use Rattle.std.proofs.Common.{refl, subst, ◌∙◌}
+use Rattle.std.proofs.Common.{arith, length, refl, subst, ◌∙◌}
 use Rattle.dr_meaning.specs.Calls.Filling.{FillsFrom}
-use Rattle.dr_disruptor.specs.Sending.{FillsOn, SendsAll}
+use Rattle.dr_disruptor.specs.Sending.{ClaimedAtOnce, FillsOn, SendsAll}
+use Rattle.dr_disruptor.proofs.Claims.{claimed_at_once}
 use Rattle.dr_disruptor.proofs.Stretches.{counted_all, filled_none, is_whole, sends}
 use Rattle.dr_disruptor.proofs.sender.LiveSender.publish_batch.Goals as goal
 
@@ -37,3 +38,15 @@ returns-clause-sent g c =
     (g.I.InPlaceInlet.sending c.self.inside.end) (g.I.InPlaceInlet.sending c.claim.new.end)
     (g.I.InPlaceInlet.sending c.fill_by.new.end) (g.I.InPlaceInlet.sending c.publish.new.self) c.in_ok-lo.ensures.opens c.fill_by.ensures.filled
     c.publish.ensures.publishes)
+
+pub returns-clause-claims : goal.returns-clause-claims
+returns-clause-claims g c =
+    let kept = g.I.InPlaceInlet.kept in
+    let sending = g.I.InPlaceInlet.sending in
+    subst (λ (e : g.row.I.Denot). ClaimedAtOnce kept sending (length (sending e).published) c.args.n e c.publish.new.self) c.self.view_is
+    (claimed_at_once kept sending c.args.n c.in_ok-lo.field-0.lo c.self.inside.end c.claim.new.end c.publish.new.self (λ events. FillsOn (FillsFrom g.F.FnMut) c.args.fill.now 0 events c.fill_by.new.fill) c.in_ok-lo.ensures.kept c.in_ok-lo.ensures.opens
+    (sends (λ events. FillsOn (FillsFrom g.F.FnMut) c.args.fill.now 0 events c.fill_by.new.fill) c.args.n c.in_ok-lo.field-0.lo (sending c.self.inside.end) (sending c.claim.new.end) (sending c.fill_by.new.end) (sending c.publish.new.self)
+    c.in_ok-lo.ensures.opens c.fill_by.ensures.filled c.publish.ensures.publishes))
+
+pub returns-clause-some : goal.returns-clause-some
+returns-clause-some g c = let (low, long, limit) = c.in_ok-lo.ensures.stretch in omega arith

@@ -1,0 +1,7 @@
+use Rattle.dr_disruptor.proofs.laws.runs.what_a_handler_went_through_says.Goals as goal
+
+pub returns-clause-goes : goal.returns-clause-goes
+returns-clause-goes g c most start after events is = (is.through, is.order, is.dealt)
+
+pub returns-clause-batches : goal.returns-clause-batches
+returns-clause-batches g c most start after events is = is.polled
