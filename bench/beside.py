@@ -10,12 +10,14 @@
     bench/beside.py producers          1 to 16 producers behind a lock
     bench/beside.py senders            1 to 16 senders of one ring; three of them are LMAX's `sequencer`
     bench/beside.py languages          the rings from other languages beside ours, channels and LMAX, with `--library`
+    bench/beside.py runs               runs in one call beside the same ring by hand, and LMAX's DSL beside its ring
     bench/beside.py few                two topologies on threads, for fewer processors than ends (`taskset`)
 
 The others are the rings of bench/plain/exchanges, which `rustc` builds, and LMAX's own, where `javac` and
 the library are there (Debian's package libdisruptor-java; `--lmax JAR` names another place): `lmax` claims
-by `next`, which parks where there is no room, and `lmax-try` by `tryNext`, again and again. On threads
-`ours` is the ring over words, which has one sender, `memory` those over plain memory, `c` the rings of words
+by `next`, which parks where there is no room, `lmax-try` by `tryNext`, again and again, and `lmax-dsl` by
+`next` in an exchange that LMAX's DSL puts together. On threads
+`ours` is the ring over words, which has one sender, `memory` those over plain memory, `run` a run in one call, `c` the rings of words
 and of several senders from C, and `c-slots`, `cpp-slots` and so on those of slots by each language's package
 (bench/slots), where `--library FOLDER` names what `make lib` left; `channel` is the standard library's, which
 is crossbeam's. All run in turns, `--turns N` times (three without it), each for `--rounds N` rounds of `--seconds S`,
@@ -52,7 +54,7 @@ class Programs:
         rounds = f"{given.rounds} rounds of {given.seconds} seconds"
         manner = f"{given.under}, {rounds}, the best of {given.turns} turns".removeprefix(", ")
         self.records = Records(given.record, RATES, manner)
-        self.words = {"ours": [given.program], "memory": [given.program]}
+        self.words = dict.fromkeys(("ours", "memory", "run"), [given.program])
         plain = os.path.join(folder, "exchanges")
         subprocess.run(["rustc", "--edition", "2021", "-O", "-o", plain, PLAIN], check=True)
         for kind in ("ring", "deque", "words", "slots", "channel", "mutex"):
@@ -62,7 +64,7 @@ class Programs:
         if shutil.which("javac") and os.path.exists(given.lmax):
             subprocess.run(["javac", "-cp", given.lmax, "-d", folder, LMAX], check=True)
             java = ["java", "-cp", f"{given.lmax}{os.pathsep}{folder}", "Lmax"]
-            self.words |= {"lmax": [*java, "next"], "lmax-try": [*java, "try"]}
+            self.words |= {"lmax": [*java, "next"], "lmax-try": [*java, "try"], "lmax-dsl": [*java, "dsl"]}
 
     def of_packages(self, folder, library):
         """How the programs over a folder of `make lib` are started, which it builds where their tools are here."""
@@ -94,7 +96,7 @@ class Programs:
     def rate(self, kind, topology, size):
         """Millions of events a second, or None where it takes too long."""
         words = self.given.under.split() + self.words[kind]
-        name = f"plain{'' if topology[0].isdigit() else '-'}{topology}" if kind == "memory" else topology
+        name = {"memory": f"plain{'' if topology[0].isdigit() else '-'}{topology}", "run": f"run-{topology}"}.get(kind, topology)
         words += [name, str(size), str(self.given.seconds), str(self.given.rounds)]
         try:
             ran = subprocess.run(words, stdout=subprocess.PIPE, text=True, timeout=self.given.patience)
@@ -197,6 +199,14 @@ def languages(programs):
             print_row(topology, programs, kinds, topology, 1024)
 
 
+def runs(programs):
+    """Runs in one call, at claims of one and ten."""
+    kinds = programs.of(("run", "memory", "lmax-dsl", "lmax"))
+    print_head(["topology"] + kinds)
+    for topology in (f"{shape}{pace}" for shape in ("unicast", "multicast") for pace in ("", "-b10")):
+        print_row(topology, programs, kinds, topology, 1024)
+
+
 def few(programs):
     """Small and large rings, where threads may have to take turns at a processor."""
     kinds = programs.of(THREADS)
@@ -216,7 +226,7 @@ def steps(what):
 
 def main():
     parser = argparse.ArgumentParser(description=__doc__, formatter_class=argparse.RawDescriptionHelpFormatter)
-    parser.add_argument("what", choices=["table", "memory", "sizes", "handlers", "claims", "widths", "producers", "senders", "languages", "few"])
+    parser.add_argument("what", choices=["table", "memory", "sizes", "handlers", "claims", "widths", "producers", "senders", "languages", "runs", "few"])
     parser.add_argument("--program", default=PROGRAM)
     parser.add_argument("--lmax", default="/usr/share/java/disruptor.jar")
     parser.add_argument("--library", metavar="FOLDER")
@@ -241,6 +251,8 @@ def main():
             senders(programs)
         elif given.what == "languages":
             languages(programs)
+        elif given.what == "runs":
+            runs(programs)
         elif given.what == "few":
             few(programs)
         else:

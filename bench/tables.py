@@ -30,6 +30,7 @@ FILES = {
     "producers": ("By the number of producers, behind a lock, 1024 slots", RATES),
     "senders": ("By the number of senders of one ring, 1024 slots", RATES),
     "languages": ("From C, 1024 slots", RATES),
+    "runs": ("Runs in one call, 1024 slots", RATES),
     "few": ("With two processors for all threads", RATES),
     "latency": ("How long an event takes through a pipeline of three threads", "Nanoseconds."),
     "waiting": ("What waiting costs, by each strategy", "Of a processor per cent, microseconds, and millions of events a second by claims of 1, 10 and 100."),

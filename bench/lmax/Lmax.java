@@ -6,6 +6,9 @@ import com.lmax.disruptor.RingBuffer;
 import com.lmax.disruptor.Sequence;
 import com.lmax.disruptor.SequenceBarrier;
 import com.lmax.disruptor.YieldingWaitStrategy;
+import com.lmax.disruptor.dsl.Disruptor;
+import com.lmax.disruptor.dsl.ProducerType;
+import com.lmax.disruptor.util.DaemonThreadFactory;
 import java.util.ArrayList;
 import java.util.Arrays;
 import java.util.Comparator;
@@ -17,8 +20,9 @@ import java.util.List;
  * handlers are pollers; else each is a batch processor on a thread of its own that waits by yielding.
  * {@code sendersP-} before a shape stands for P producers, each on a thread of its own too.
  *
- * <p>CLAIMS is {@code next}, which parks where there is no room, or {@code try}, which tries again and yields
- * now and then, as the yielding strategy does.
+ * <p>CLAIMS is {@code next}, which parks where there is no room, {@code try}, which tries again and yields
+ * now and then, as the yielding strategy does, or {@code dsl}: then {@code Disruptor} puts the graph together and
+ * runs it, and a single event is published by a translator.
  */
 public final class Lmax {
     /** How many events go through between two looks at the clock, about. */
@@ -65,13 +69,15 @@ public final class Lmax {
     private final int[][] upstreams;
     private final int producers;
     private final boolean tries;
+    private final boolean dsl;
     private final long claim;
     private final boolean step;
     private final int size;
     private final long nanos;
 
-    private Lmax(boolean tries, int producers, String shape, String pace, int size, double seconds) {
-        this.tries = tries;
+    private Lmax(String claims, int producers, String shape, String pace, int size, double seconds) {
+        this.tries = claims.equals("try");
+        this.dsl = claims.equals("dsl");
         this.producers = producers;
         this.upstreams = upstreams(shape);
         this.step = pace.equals("step");
@@ -118,21 +124,26 @@ public final class Lmax {
         }
     }
 
+    private static void fill(Event event, long s) {
+        event.first = s;
+        event.second = 0;
+    }
+
     private void send(RingBuffer<Event> ring) {
+        if (claim == 1 && dsl) {
+            ring.publishEvent(Lmax::fill);
+            return;
+        }
         if (claim == 1) {
             long s = tries ? tried(ring, 1) : ring.next();
-            Event event = ring.get(s);
-            event.first = s;
-            event.second = 0;
+            fill(ring.get(s), s);
             ring.publish(s);
             return;
         }
         long hi = tries ? tried(ring, (int) claim) : ring.next((int) claim);
         long lo = hi - claim + 1;
         for (long s = lo; s <= hi; s++) {
-            Event event = ring.get(s);
-            event.first = s;
-            event.second = 0;
+            fill(ring.get(s), s);
         }
         ring.publish(lo, hi);
     }
@@ -252,8 +263,34 @@ public final class Lmax {
         return new Round(last + 1, time);
     }
 
+    /** The same round as LMAX's guide has it: the DSL makes ring, barriers and threads, and waits for the backlog. */
+    private Round inOneCall() throws Exception {
+        ProducerType type = producers == 0 ? ProducerType.SINGLE : ProducerType.MULTI;
+        Disruptor<Event> disruptor =
+                new Disruptor<>(Event::new, size, DaemonThreadFactory.INSTANCE, type, new YieldingWaitStrategy());
+        Sum[] sums = new Sum[upstreams.length];
+        for (int h = 0; h < sums.length; h++) {
+            sums[h] = new Sum();
+            Sum[] before = Arrays.stream(upstreams[h]).mapToObj(up -> sums[up]).toArray(Sum[]::new);
+            if (before.length == 0) {
+                disruptor.handleEventsWith(sums[h]);
+            } else {
+                disruptor.after(before).handleEventsWith(sums[h]);
+            }
+        }
+        RingBuffer<Event> ring = disruptor.start();
+        long begun = System.nanoTime();
+        produce(ring, begun);
+        disruptor.shutdown();
+        long time = System.nanoTime() - begun;
+        long events = ring.getCursor() + 1;
+        for (Sum sum : sums) {
+            check(sum, events);
+        }
+        return new Round(events, time);
+    }
+
     public static void main(String[] words) throws Exception {
-        boolean tries = words[0].equals("try");
         String topology = words[1];
         boolean oneThread = topology.startsWith("core-");
         List<String> parts = new ArrayList<>(List.of(topology.split("-")));
@@ -266,13 +303,13 @@ public final class Lmax {
         double seconds = Double.parseDouble(words[3]);
         int rounds = WARM + Integer.parseInt(words[4]);
         String pace = parts.size() > 1 ? parts.get(1) : "";
-        Lmax lmax = new Lmax(tries, producers, parts.get(0), pace, size, seconds);
+        Lmax lmax = new Lmax(words[0], producers, parts.get(0), pace, size, seconds);
         List<Round> done = new ArrayList<>();
         if (oneThread) {
             done.addAll(lmax.oneThread(rounds));
         } else {
             for (int round = 0; round < rounds; round++) {
-                done.add(lmax.threads());
+                done.add(lmax.dsl ? lmax.inOneCall() : lmax.threads());
             }
         }
         done.subList(0, WARM).clear();
