@@ -29,6 +29,21 @@ at_front [] ys i x at = absurd (some-ne-none x (sym at))
 at_front (y ∷ xs) ys zero x at = at
 at_front (y ∷ xs) ys (suc i) x at = at_front xs ys i x at
 
+-- its last looks found what its barrier offered
+offered_is : (old : List Look) (closed cursor : ℕ) (ups counts : List ℕ) → length counts ≡ length ups
+    → offered_in (length ups) (old ++ look closed_word closed ∷ look cursor_word cursor ∷ count_looks ups counts) ≡ offered_by cursor counts
+offered_is old closed cursor [] [] many =
+    ap least_of (ap (found_last 1) (sym (append_assoc old (look closed_word closed ∷ []) (look cursor_word cursor ∷ [])))
+    ∙ found_behind (old ++ look closed_word closed ∷ []) (look cursor_word cursor ∷ []) 1 refl)
+offered_is old closed cursor [] (c ∷ counts) many = absurd (omega arith)
+offered_is old closed cursor (u ∷ ups) [] many = absurd (omega arith)
+offered_is old closed cursor (u ∷ ups) (c ∷ counts) many =
+    let looks : List Look = count_looks (u ∷ ups) (c ∷ counts) in
+    let all : max 1 (length (u ∷ ups)) ≡ length (u ∷ ups) = omega arith in
+    ap least_of (ap (λ (n : ℕ). found_last n (old ++ look closed_word closed ∷ look cursor_word cursor ∷ looks)) all
+    ∙ ap (found_last (length (u ∷ ups))) (sym (append_assoc old (look closed_word closed ∷ look cursor_word cursor ∷ []) looks))
+    ∙ found_counts count_word (old ++ look closed_word closed ∷ look cursor_word cursor ∷ []) (u ∷ ups) (c ∷ counts) many)
+
 module _ {T : Type 0} where
   -- what it looked at further
   saw_more : (r r' : ReceiverRecord T) (more : List Look) → r'.looks ≡ r.looks ++ more → SawMore (SawPublished r) (SawPublished r')
@@ -72,21 +87,6 @@ module _ {T : Type 0} where
 
   pub saw_same : (r r' : ReceiverRecord T) → r'.looks ≡ r.looks → SawMore (SawPublished r) (SawPublished r')
   saw_same r r' same = saw_more r r' [] (same ∙ sym (append-nil r.looks))
-
-  -- its last looks found what its barrier offered
-  offered_is : (old : List Look) (closed cursor : ℕ) (ups counts : List ℕ) → length counts ≡ length ups
-      → offered_in (length ups) (old ++ look closed_word closed ∷ look cursor_word cursor ∷ count_looks ups counts) ≡ offered_by cursor counts
-  offered_is old closed cursor [] [] many =
-      ap least_of (ap (found_last 1) (sym (append_assoc old (look closed_word closed ∷ []) (look cursor_word cursor ∷ [])))
-      ∙ found_behind (old ++ look closed_word closed ∷ []) (look cursor_word cursor ∷ []) 1 refl)
-  offered_is old closed cursor [] (c ∷ counts) many = absurd (omega arith)
-  offered_is old closed cursor (u ∷ ups) [] many = absurd (omega arith)
-  offered_is old closed cursor (u ∷ ups) (c ∷ counts) many =
-      let looks : List Look = count_looks (u ∷ ups) (c ∷ counts) in
-      let all : max 1 (length (u ∷ ups)) ≡ length (u ∷ ups) = omega arith in
-      ap least_of (ap (λ (n : ℕ). found_last n (old ++ look closed_word closed ∷ look cursor_word cursor ∷ looks)) all
-      ∙ ap (found_last (length (u ∷ ups))) (sym (append_assoc old (look closed_word closed ∷ look cursor_word cursor ∷ []) looks))
-      ∙ found_counts count_word (old ++ look closed_word closed ∷ look cursor_word cursor ∷ []) (u ∷ ups) (c ∷ counts) many)
 
   pub takes : (room : ℕ) (e e' : ReceiverEnd T) (polled : Polled) → PollCall e room e' (Ok polled) → length e'.knows.received < 2 ^ 64 → 0 < room
       → TakesUpTo room (offered_of e') (SawPublished e'.knows) polled (received_of e) (received_of e')
