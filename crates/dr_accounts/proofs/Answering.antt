@@ -11,7 +11,8 @@ use Rattle.dr_accounts.specs.Handlers.{Booked, HasBusiness, balance_in, kept}
 use Rattle.dr_accounts.specs.Report.{Line}
 use Rattle.dr_accounts.specs.Responding.{Answered, Answers, IsResponderOf, answering, balances_in}
 use Rattle.dr_accounts.specs.declared.responder.Responder.{Responder}
-use Rattle.dr_accounts.proofs.Shown.{along, booked_goes, front_balances, front_movement, last_movement, one_longer, took}
+use Rattle.dr_workers.proofs.Along.{along}
+use Rattle.dr_accounts.proofs.Shown.{booked_goes, front_balances, front_movement, last_movement, one_longer, took}
 
 -- the lines of places, one place more
 
