@@ -255,12 +255,7 @@ pub(crate) fn cursor(alloc: Global, halter: &mut Handle, count: &mut u64) -> u32
 }
 
 /// Tells how many events a handler of a halter's ring completed.
-pub(crate) fn completed(
-    alloc: Global,
-    halter: &mut Handle,
-    handler: usize,
-    count: &mut u64,
-) -> u32
+pub(crate) fn completed(alloc: Global, halter: &mut Handle, handler: usize, count: &mut u64) -> u32
     ensures { OnHandle halter.old.held.value halter.new.held.value ((count.new ≡ count.old) × (result ≡ not_open)) (TellsCompletedBy handler count.old count.new result) }
 {
     if !halter.is_open() {

@@ -40,11 +40,7 @@ fn completed_of_several(
 }
 
 // Tells what a handler of a ring of bytes completed.
-fn completed_of_bytes(
-    halter: &mut dr_plain::Halter<Bytes>,
-    handler: usize,
-    count: &mut u64,
-) -> u32
+fn completed_of_bytes(halter: &mut dr_plain::Halter<Bytes>, handler: usize, count: &mut u64) -> u32
     ensures { TellsCompletedOfBytes handler count.old count.new result halter.old halter.new }
 {
     if handler >= halter.handlers() {
