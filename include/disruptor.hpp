@@ -85,6 +85,18 @@ public:
         check(disruptor_halt(&halter_));
         ring();
     }
+    std::uint64_t cursor() {
+        const std::lock_guard<std::mutex> lock(mutex_);
+        std::uint64_t count = 0;
+        check(disruptor_cursor(&halter_, &count));
+        return count;
+    }
+    std::uint64_t completed(std::size_t handler) {
+        const std::lock_guard<std::mutex> lock(mutex_);
+        std::uint64_t count = 0;
+        check(disruptor_completed(&halter_, handler, &count));
+        return count;
+    }
     // Halts the ring for an end that goes away too early, so that nobody waits for it: a handler by its bit.
     void give_up(std::uint64_t end) noexcept {
         gone_ |= end;
@@ -395,13 +407,23 @@ public:
     }
 };
 
-// Halts the ring, from any thread.
+// Halts the ring, and tells how far it came, from any thread.
 class halter {
 public:
     explicit halter(disruptor::shared all) noexcept : shared_(std::move(all)) {}
     void halt() {
         if (!shared_) throw refusal(DISRUPTOR_NOT_OPEN);
         shared_->halt();
+    }
+    // How many events the sender published, or several claimed, of a ring of slots or bytes.
+    [[nodiscard]] std::uint64_t cursor() {
+        if (!shared_) throw refusal(DISRUPTOR_NOT_OPEN);
+        return shared_->cursor();
+    }
+    // How many events a handler completed.
+    [[nodiscard]] std::uint64_t completed(std::size_t handler) {
+        if (!shared_) throw refusal(DISRUPTOR_NOT_OPEN);
+        return shared_->completed(handler);
     }
     // Halts it for good, so that nobody waits any more: each handler ends once it finds no event.
     void give_up() noexcept {

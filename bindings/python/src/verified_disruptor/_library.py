@@ -23,6 +23,7 @@ class Reason(enum.IntEnum):
     OUT_OF_ORDER = 8
     NOT_TAKEN = 9
     BEHIND = 10
+    NO_HANDLER = 12
     CONTENDED = 16
     TOO_MANY = 25
     NO_HANDLERS = 26
