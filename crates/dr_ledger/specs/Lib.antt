@@ -1,0 +1,5 @@
+pub mod Faults
+pub mod Standing
+pub mod Serving
+pub mod Batches
+pub mod Starting
