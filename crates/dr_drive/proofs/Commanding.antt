@@ -9,7 +9,7 @@ use Rattle.dr_drive.specs.Meaning.Commands.{command_of}
 use Rattle.dr_drive.specs.Meaning.DriveText.{Phase, Preparing, Running, Taken, end_fault, obeys, taken, text_from}
 use Rattle.dr_files.specs.Lines.{joined}
 use Rattle.dr_files.specs.Outcome.{FaultWrites}
-use Rattle.dr_drive.specs.Inside.Shows.{ExchangeShows, IsObeyed}
+use Rattle.dr_drive.specs.Calls.Shows.{ExchangeShows, IsObeyed}
 use Rattle.dr_drive.specs.Inside.Tells.{CommandFaultTells, ShowsPhase}
 use Rattle.dr_drive.specs.declared.exchange.Exchange.{Exchange}
 use Rattle.dr_drive.specs.declared.fault.Cause.{Cause}

@@ -4,7 +4,7 @@ use Rattle.dr_meaning.specs.Meaning.Machine.{Setup, opening}
 use Rattle.dr_records.specs.Records.{Field, Record}
 use Rattle.dr_drive.specs.Meaning.Setup.{Empty, Goes, Opens, Stage, missing, prepared}
 use Rattle.dr_drive.specs.Meaning.DriveText.{Preparing, Running, prepares, text_from}
-use Rattle.dr_drive.specs.Inside.Shows.{FaultAs}
+use Rattle.dr_drive.specs.Calls.Shows.{FaultAs}
 use Rattle.dr_drive.specs.Inside.Faults.{fault_at}
 use Rattle.dr_files.specs.Outcome.{Said}
 use Rattle.dr_drive.specs.Inside.Tells.{SetupFaultTells}

@@ -16,14 +16,15 @@ use dr_meaning::{Command, Reply};
 use dr_seq::Event;
 use std::alloc::{AllocError, Global};
 
-/// A core, with its limit and room for the longest batch.
+/// A core, with what was said of its ring, and room for the longest batch.
 #[derive(Drop)]
 pub struct Exchange {
     core: Core<Event>,
-    limit: u64,
+    ring: Ring,
     batch: Vec<Event>,
     ghost room: { core.setup.size ≤ length batch.items },
-    ghost limited: { limit ≡ core.setup.limit },
+    ghost limited: { ring.limit ≡ core.setup.limit },
+    ghost same_mode: { ring.mode ≡ core.setup.mode },
 }
 
 impl Exchange {
@@ -33,7 +34,7 @@ impl Exchange {
     ghost use Rattle.dr_records.specs.Records.{Field};
     ghost use Rattle.dr_drive.specs.Meaning.Commands.{command_of as command_in};
     ghost use Rattle.dr_drive.specs.Meaning.DriveText.{obeys};
-    ghost use Rattle.dr_drive.specs.Inside.Shows.{ExchangeShows, Executes, IsRing, ObeysAs, ring_setup};
+    ghost use Rattle.dr_drive.specs.Calls.Shows.{ExchangeShows, Executes, IsRing, ObeysAs, batch_of, core_of, ring_setup};
 
     /// Opens a core over a graph of handlers. An error is that memory ran out.
     pub fn open(alloc: Global, ring: Ring, graph: Graph) -> Result<Exchange, AllocError>
@@ -42,16 +43,45 @@ impl Exchange {
     {
         let batch = vec![in alloc; Event::NONE; ring.size.get() as usize]?;
         let core = Core::open_valid(alloc, graph, ring.size, ring.mode, ring.limit, Event::NONE)?;
-        let limit = ring.limit;
-        Ok(Exchange { core, limit, batch })
+        Ok(Exchange { core, ring, batch })
     }
 
-    // Executes a command. The events that came with the reply are at the front of the batch.
-    fn execute(&mut self, command: Command<Event>) -> Reply
+    /// The core.
+    pub fn core(&self) -> &Core<Event>
+        ensures { result.now ≡ core_of self.now }
+    {
+        &self.core
+    }
+
+    /// What was said of its ring.
+    pub fn ring(&self) -> Ring
+        ensures limit { result.limit ≡ (core_of self.now).setup.limit }
+        ensures mode { result.mode ≡ (core_of self.now).setup.mode }
+    {
+        self.ring
+    }
+
+    /// The command of a record, if it is one.
+    pub fn command(&self, row: &ByteRecord) -> Option<Command<Event>>
+        ensures { result ≡ command_in (core_of self.now).names (fields_of row.now) }
+    {
+        command_of(self.core.graph(), row)
+    }
+
+    /// Executes a command. [`Exchange::handed`] has the events that come with the reply.
+    pub fn execute(&mut self, command: Command<Event>) -> Reply
         ensures shown { (names : List Field) (c : Setup) (m : State Event) → ExchangeShows self.old names c m → Executes self.new names c (step c m command) result }
-        ensures fits { count_in result ≤ length self.new.batch.items }
+        ensures fits { count_in result ≤ length (batch_of self.new) }
     {
         self.core.execute(command, self.batch.as_mut_slice())
+    }
+
+    /// The events that came with the last reply, of which this is how many.
+    pub fn handed(&self, count: usize) -> &[Event]
+        requires { count ≤ length (batch_of self.now) }
+        ensures { result.now ≡ take count (batch_of self.now) }
+    {
+        &self.batch[..count]
     }
 
     /// Runs the command of a record, and puts its line in the place of another, followed by the state's
@@ -64,12 +94,12 @@ impl Exchange {
     ) -> Result<(), RecordFault>
         ensures { (names : List Field) (c : Setup) (m : State Event) → ExchangeShows self.old names c m → ObeysAs result self.new (string_bytes line.new) (obeys states names c m (command_in names (fields_of row.now))) }
     {
-        let Some(command) = command_of(self.core.graph(), row) else {
+        let Some(command) = self.command(row) else {
             return Err(RecordFault::Cause(Cause::BadRecord));
         };
         let reply = self.execute(command);
-        put_line(line, reply, &self.batch[..reply.count()])?;
-        push_state_if(states, line, &self.core, self.limit)?;
+        put_line(line, reply, self.handed(reply.count()))?;
+        push_state_if(states, line, &self.core, self.ring.limit)?;
         Ok(())
     }
 }

@@ -1,16 +1,25 @@
 //! How a core stands: what a claim and a poll would be answered now.
 
-ghost use Rattle.std.specs.Prelude.{◌≡◌, ◌<◌, if◌then◌else◌, length, min};
+ghost use Rattle.std.specs.Prelude.{◌≡◌, ◌<◌, [], if◌then◌else◌, length, min, slice_index_or};
 ghost use Rattle.dr_graph.specs.Meaning.Graph.{flagged, is_final_without as is_final_of};
 ghost use Rattle.dr_meaning.specs.Meaning.Machine.{handlers};
 ghost use Rattle.dr_core.specs.Calls.CoreView.{gate_of as gate_in, retired_in};
 ghost use Rattle.dr_drive.specs.Calls.Standing.{AreRetired, ready_in, room_in};
 
 use dr_core::Core;
+use dr_graph::Graph;
 use dr_seq::Event;
 
 /// No graph has more handlers.
 const MOST_HANDLERS: usize = 16;
+
+/// The name of a handler.
+pub fn name_of(graph: &Graph, h: usize) -> &str
+    requires { h < length graph.now.upstreams }
+    ensures { result.now ≡ slice_index_or graph.now.names h [] }
+{
+    graph.name(h)
+}
 
 /// How many events a poll gives a handler that asks for all: none once it is retired.
 pub fn ready(core: &Core<Event>, h: usize) -> u64

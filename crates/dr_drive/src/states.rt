@@ -5,7 +5,7 @@ ghost use Rattle.std.specs.List.{range_with_len};
 ghost use Rattle.dr_meaning.specs.Meaning.Machine.{handlers};
 ghost use Rattle.dr_drive.specs.Inside.States.{handler_seen, state_seen, with_state};
 
-use crate::standing::{ready, room};
+use crate::standing::{name_of, ready, room};
 use dr_core::Core;
 use dr_seq::Event;
 use std::alloc::AllocError;
@@ -14,7 +14,7 @@ fn push_handler(line: &mut String, core: &Core<Event>, h: usize) -> Result<(), A
     requires { h < handlers core.now.setup }
     ensures { OnOk result (string_bytes line.new ≡ string_bytes line.old ++ handler_seen core.now h) }
 {
-    let name = core.graph().name(h);
+    let name = name_of(core.graph(), h);
     let count = ready(core, h);
     let completed = core.completed(h);
     write!(line, " {name} {count} {completed}")

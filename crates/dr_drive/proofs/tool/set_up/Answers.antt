@@ -4,7 +4,7 @@ use Rattle.dr_meaning.specs.Meaning.Machine.{opening}
 use Rattle.dr_drive.specs.Meaning.Setup.{Empty}
 use Rattle.dr_drive.specs.Meaning.DriveText.{Preparing, Running, text_from}
 use Rattle.dr_records.specs.Rows.{rows_left}
-use Rattle.dr_drive.specs.Inside.Shows.{stage_of}
+use Rattle.dr_drive.specs.Calls.Shows.{stage_of}
 use Rattle.dr_drive.proofs.SetUps.{setup-ends, setup-fails, setup-goes, setup-opens}
 use Rattle.dr_drive.proofs.tool.set_up.Goals as goal
 

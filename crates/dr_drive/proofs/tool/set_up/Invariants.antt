@@ -2,7 +2,7 @@ use Rattle.std.proofs.Common.{◌≡◌, ◌+◌, Bool, length}
 use Rattle.dr_drive.specs.Meaning.Setup.{Empty}
 use Rattle.dr_drive.specs.Meaning.DriveText.{Preparing, text_from}
 use Rattle.dr_records.specs.Rows.{rows_left}
-use Rattle.dr_drive.specs.Inside.Shows.{IsPreparation, stage_of}
+use Rattle.dr_drive.specs.Calls.Shows.{IsPreparation, stage_of}
 use Rattle.dr_drive.proofs.tool.set_up.Given as goal
 
 abbrev pub invariant-loop-at : goal.invariant-loop-at
