@@ -1,8 +1,9 @@
 //! The words of a command line, read.
 
 use crate::plans::{By, LineFault, Plan, Tool};
+use crate::show::{show_command, show_plan};
 use clap::error::ErrorKind;
-use clap::{Arg, ArgMatches, Command, Error, value_parser};
+use clap::{Arg, ArgAction, ArgMatches, Command, Error, value_parser};
 use dr_seq::Size;
 use std::alloc::{AllocError, Global};
 
@@ -13,13 +14,16 @@ const VERSION: &str = "0.1.0, proved with rattle-kit-13f logic dac8208d650f15bf"
 
 const EXAMPLES: &str = "\
 `disruptor drive --help` and `disruptor replay --help` show a file, and what it prints.
+`disruptor show` draws a file of commands, step by step, as a page for a browser.
 `disruptor check --help` shows what is said of a file at fault.";
 
 const DRIVE: &str = "Run a file of commands, and print one line a command";
 
-const FILE: &str = "The file of commands, one record a line; - is standard input";
+pub(crate) const FILE: &str = "The file of commands, one record a line; - is standard input";
 
 const OUTPUT: &str = "Write to this file, whole or not at all, and not to standard output";
+
+const STATE: &str = "Print after each reply how the exchange stands";
 
 const EXAMPLE: &str = "\
 A file sets up a ring, its limit and its handlers, and then gives commands. This
@@ -149,7 +153,7 @@ record. It ends with 0 where all is well, 1 where the command line is at fault,
 failed.";
 
 // The option that names where a tool writes to.
-fn output_option<'a>(alloc: Global) -> Arg<'a> {
+pub(crate) fn output_option<'a>(alloc: Global) -> Arg<'a> {
     Arg::new(alloc, "output")
         .long("output")
         .value_name("FILE")
@@ -157,7 +161,7 @@ fn output_option<'a>(alloc: Global) -> Arg<'a> {
 }
 
 // The word that names the file.
-fn file_word<'a>(alloc: Global, help: &'a str) -> Arg<'a> {
+pub(crate) fn file_word<'a>(alloc: Global, help: &'a str) -> Arg<'a> {
     Arg::new(alloc, "file")
         .value_name("FILE")
         .help(help)
@@ -190,10 +194,18 @@ fn by_option<'a>(alloc: Global) -> Arg<'a> {
         .default_value("plain")
 }
 
+fn state_flag<'a>(alloc: Global) -> Arg<'a> {
+    Arg::new(alloc, "state")
+        .long("state")
+        .help(STATE)
+        .action(ArgAction::SetTrue)
+}
+
 fn drive_command<'a>(alloc: Global) -> Result<Command<'a>, AllocError> {
     Command::new(alloc, "drive")
         .about(DRIVE)
         .after_help(EXAMPLE)
+        .arg(state_flag(alloc))?
         .arg(output_option(alloc))?
         .arg(file_word(alloc, FILE))
 }
@@ -224,6 +236,7 @@ fn command<'a>(alloc: Global) -> Result<Command<'a>, AllocError> {
         .after_help(EXAMPLES)
         .subcommand_required(true)
         .subcommand(drive)?
+        .subcommand(show_command(alloc)?)?
         .subcommand(replay_command(alloc)?)?
         .subcommand(check_command(alloc)?)
 }
@@ -245,7 +258,7 @@ fn refused(alloc: Global, error: &Error) -> Result<Plan, LineFault> {
 }
 
 // The word of FILE, which the command line has to have.
-fn file_of(alloc: Global, matches: &ArgMatches<'_>) -> Result<String, AllocError> {
+pub(crate) fn file_of(alloc: Global, matches: &ArgMatches<'_>) -> Result<String, AllocError> {
     match matches.get_str("file") {
         Some(file) => String::from_str(alloc, file),
         None => Ok(String::new(alloc)),
@@ -253,7 +266,10 @@ fn file_of(alloc: Global, matches: &ArgMatches<'_>) -> Result<String, AllocError
 }
 
 // The word of `--output`, if the command line has it.
-fn output_of(alloc: Global, matches: &ArgMatches<'_>) -> Result<Option<String>, AllocError> {
+pub(crate) fn output_of(
+    alloc: Global,
+    matches: &ArgMatches<'_>,
+) -> Result<Option<String>, AllocError> {
     match matches.get_str("output") {
         Some(output) => Ok(Some(String::from_str(alloc, output)?)),
         None => Ok(None),
@@ -304,8 +320,13 @@ fn check_plan(alloc: Global, matches: &ArgMatches<'_>) -> Result<Plan, AllocErro
 
 fn drive_plan(alloc: Global, matches: &ArgMatches<'_>) -> Result<Plan, AllocError> {
     let file = file_of(alloc, matches)?;
+    let states = matches.get_flag("state");
     let output = output_of(alloc, matches)?;
-    Ok(Plan::Drive { file, output })
+    Ok(Plan::Drive {
+        file,
+        states,
+        output,
+    })
 }
 
 fn plan_of(alloc: Global, matches: &ArgMatches<'_>) -> Result<Plan, LineFault> {
@@ -315,10 +336,14 @@ fn plan_of(alloc: Global, matches: &ArgMatches<'_>) -> Result<Plan, LineFault> {
     if let Some(matches) = matches.subcommand_matches("check") {
         return Ok(check_plan(alloc, matches)?);
     }
+    if let Some(matches) = matches.subcommand_matches("show") {
+        return Ok(show_plan(alloc, matches)?);
+    }
     match matches.subcommand_matches("drive") {
         Some(matches) => Ok(drive_plan(alloc, matches)?),
         None => Ok(Plan::Drive {
             file: String::new(alloc),
+            states: false,
             output: None,
         }),
     }
