@@ -28,6 +28,7 @@ EACH = (
     "tests/program.sh disruptor",
     "tests/examples.py disruptor",
     "tests/words.py disruptor",
+    "tests/show.py disruptor",
 )
 QUIET = ("tests/progress.py disruptor", "tests/waits.py disruptor_waits disruptor")
 # What LLVM's build alone is tried with, and the tests of scripts, which need none.
