@@ -3,7 +3,7 @@
 ghost use Rattle.std.specs.Prelude.{◌≡◌, ◌++◌, ◌<◌, OnOk, flat_map, string_bytes};
 ghost use Rattle.std.specs.List.{range_with_len};
 ghost use Rattle.dr_meaning.specs.Meaning.Machine.{handlers};
-ghost use Rattle.dr_drive.specs.Inside.States.{handler_seen, state_seen, with_state};
+ghost use Rattle.dr_drive.specs.Inside.States.{counts_seen, handler_seen, state_seen, with_state};
 
 use crate::standing::{name_of, ready, room};
 use dr_core::Core;
@@ -29,15 +29,23 @@ fn push_handlers(line: &mut String, core: &Core<Event>) -> Result<(), AllocError
     Ok(())
 }
 
+// Puts how far a core is, and its room.
+fn push_counts(line: &mut String, core: &Core<Event>, limit: u64) -> Result<(), AllocError>
+    requires { limit ≡ core.now.setup.limit }
+    ensures { OnOk result (string_bytes line.new ≡ string_bytes line.old ++ counts_seen core.now) }
+{
+    let next = core.next();
+    let front = core.front();
+    let room = room(core, limit);
+    write!(line, "state next {next} front {front} room {room}")
+}
+
 // Puts the line of a core's state after what there is.
 fn push_state(line: &mut String, core: &Core<Event>, limit: u64) -> Result<(), AllocError>
     requires { limit ≡ core.now.setup.limit }
     ensures { OnOk result (string_bytes line.new ≡ string_bytes line.old ++ state_seen core.now) }
 {
-    let next = core.next();
-    let front = core.front();
-    let room = room(core, limit);
-    write!(line, "state next {next} front {front} room {room}")?;
+    push_counts(line, core, limit)?;
     push_handlers(line, core)?;
     line.push_str("\n")
 }

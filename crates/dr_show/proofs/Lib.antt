@@ -1,2 +1,4 @@
+pub mod Courses
+pub mod Pages
 pub mod Seeing
 pub mod Tracking

@@ -68,18 +68,19 @@ fn take_setup(
     ensures { TakesRecord result window k (fields_of row.now) (taken false (Preparing (stage_of at)) (fields_of row.now)) (string_bytes page.old) (string_bytes page.new) }
 {
     let _shown = window;
-    match prepare(alloc, at, row)? {
-        Prepared::Goes(next) => {
+    match prepare(alloc, at, row) {
+        Ok(Prepared::Goes(next)) => {
             put_setup(page, k, row)?;
             Ok(Course::Preparing(next))
         }
-        Prepared::Opens(exchange) => {
+        Ok(Prepared::Opens(exchange)) => {
             put_start(page, k, row, &exchange)?;
             Ok(Course::Running(Running {
                 exchange,
                 sequences: Vec::new(alloc),
             }))
         }
+        Err(fault) => Err(fault),
     }
 }
 
@@ -115,7 +116,9 @@ fn take_command(
     ensures { (phase : Phase) → RunningShows running phase → TakesRecord result window k (fields_of row.now) (taken false phase (fields_of row.now)) (string_bytes page.old) (string_bytes page.new) }
 {
     let mut line = String::new(alloc);
-    obey(&mut running, row, &mut line)?;
+    if let Err(fault) = obey(&mut running, row, &mut line) {
+        return Err(fault);
+    }
     put_command_if(window.has(k), page, k, row, line.as_str(), &running)?;
     Ok(Course::Running(running))
 }

@@ -1,6 +1,6 @@
 //! The tool `show`: a file of commands in, a page out.
 
-ghost use Rattle.std.specs.Prelude.{◌≡◌, ◌<◌, ◌+◌, ◌-◌, ◌^◌, IfErr, IfSome, length, string_bytes};
+ghost use Rattle.std.specs.Prelude.{◌≡◌, ◌<◌, ◌+◌, ◌-◌, ◌^◌, ◌++◌, IfErr, IfSome, OnOk, length, string_bytes};
 ghost use Rattle.dr_files.specs.Counting.{faults_of, inner_of};
 ghost use Rattle.dr_files.specs.Outcome.{CountsFaults};
 ghost use Rattle.dr_records.specs.Rows.{rows_left};
@@ -8,7 +8,7 @@ ghost use Rattle.dr_drive.specs.Meaning.DriveText.{Phase, end_fault};
 ghost use Rattle.dr_show.specs.Meaning.PageText.{has as has_of, last_text};
 ghost use Rattle.dr_show.specs.Meaning.Shown.{ShowWrites, UnreadKeeps};
 ghost use Rattle.dr_show.specs.Inside.Courses.{CourseShows};
-ghost use Rattle.dr_show.specs.Inside.Pages.{Puts, PutsObjects, PutsPage};
+ghost use Rattle.dr_show.specs.Inside.Pages.{Puts, PutsObjects, PutsPage, head_text, tail_text};
 
 use crate::course::{Course, take_record};
 use crate::objects::{put_faulty, put_last};
@@ -16,7 +16,7 @@ use dr_drive::setup::Preparation;
 use dr_drive::{DriveFault, RecordFault};
 use dr_files::{Counted, FileFault, read_all, write_text};
 use dr_records::Rows;
-use std::alloc::Global;
+use std::alloc::{AllocError, Global};
 use std::io::{Read, Write};
 
 /// Which records a page shows of those after the setup, which it always shows.
@@ -76,8 +76,25 @@ fn put_end(page: &mut String, k: u64, course: &Course) -> Result<(), DriveFault>
     }
 }
 
-/// The page of a text of commands, between a text before its data and one after. A fault of the file is
-/// answered, and then the page is whole too.
+// Puts what comes before the objects.
+fn put_head(page: &mut String, window: Window, before: &str) -> Result<(), AllocError>
+    ensures { OnOk result (string_bytes page.new ≡ string_bytes page.old ++ head_text window before.now) }
+{
+    let from = window.from;
+    let steps = window.steps;
+    page.push_str(before)?;
+    write!(page, "{{\"from\":{from},\"steps\":{steps},\"records\":[\n")
+}
+
+// Puts what comes after them.
+fn put_tail(page: &mut String, after: &str) -> Result<(), AllocError>
+    ensures { OnOk result (string_bytes page.new ≡ string_bytes page.old ++ tail_text after.now) }
+{
+    page.push_str("\n]}")?;
+    page.push_str(after)
+}
+
+// Puts the page of a text of commands. A fault of the file is answered, and then the page is whole too.
 fn put_page(
     alloc: Global,
     page: &mut String,
@@ -86,19 +103,19 @@ fn put_page(
     before: &str,
     after: &str,
 ) -> Result<(), DriveFault>
+    requires { length text.now < 2 ^ 63 }
     ensures { PutsPage result window before.now after.now text.now (string_bytes page.old) (string_bytes page.new) }
 {
-    let from = window.from;
-    let steps = window.steps;
-    page.push_str(before)?;
-    write!(page, "{{\"from\":{from},\"steps\":{steps},\"records\":[\n")?;
+    put_head(page, window, before)?;
     let mut rows = Rows::new(alloc, text);
-    let ran = put_objects(alloc, &mut rows, window, page);
-    if matches!(ran, Ok(()) | Err(FileFault::Input { .. })) {
-        page.push_str("\n]}")?;
-        page.push_str(after)?;
+    match put_objects(alloc, &mut rows, window, page) {
+        Ok(()) => Ok(put_tail(page, after)?),
+        Err(FileFault::Input { k, cause }) => {
+            put_tail(page, after)?;
+            Err(FileFault::Input { k, cause })
+        }
+        Err(fault) => Err(fault),
     }
-    ran
 }
 
 /// Reads a file of commands to its end, and writes a page that shows each step of its exchange: the text
@@ -126,9 +143,12 @@ pub fn show<R: Read, W: Write>(
 {
     let text = read_all(alloc, reader)?;
     let mut page = String::new(alloc);
-    let ran = put_page(alloc, &mut page, text.as_slice(), window, before, after);
-    if matches!(ran, Ok(()) | Err(FileFault::Input { .. })) {
-        write_text(writer, page.as_bytes())?;
+    match put_page(alloc, &mut page, text.as_slice(), window, before, after) {
+        Ok(()) => Ok(write_text(writer, page.as_bytes())?),
+        Err(FileFault::Input { k, cause }) => {
+            write_text(writer, page.as_bytes())?;
+            Err(FileFault::Input { k, cause })
+        }
+        Err(fault) => Err(fault),
     }
-    ran
 }

@@ -9,10 +9,11 @@ use Rattle.dr_drive.specs.Calls.Standing.{ready_in, room_in}
 abbrev pub handler_seen : CoreView Event → ℕ → List ℕ
 handler_seen v h = codes " " ++ slice_index_or v.names h [] ++ codes " " ++ decimal (ready_in v h) ++ codes " " ++ decimal (slice_index v.completed h)
 
+abbrev pub counts_seen : CoreView Event → List ℕ
+counts_seen v = codes "state next " ++ decimal v.next ++ codes " front " ++ decimal v.front ++ codes " room " ++ decimal (room_in v)
+
 abbrev pub state_seen : CoreView Event → List ℕ
-state_seen v =
-    codes "state next " ++ decimal v.next ++ codes " front " ++ decimal v.front ++ codes " room " ++ decimal (room_in v)
-    ++ flat_map (handler_seen v) (range_with_len 0 (handlers v.setup)) ++ codes "\n"
+state_seen v = counts_seen v ++ flat_map (handler_seen v) (range_with_len 0 (handlers v.setup)) ++ codes "\n"
 
 -- a line, and the state's after it where it is told
 abbrev pub with_state : Bool → List ℕ → CoreView Event → List ℕ

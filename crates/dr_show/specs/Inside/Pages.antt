@@ -1,5 +1,5 @@
 -- What the parts of a run put into the page.
-use Rattle.std.specs.Prelude.{◌≡◌, ℕ, false, Option, Some, None, Result, Ok, Err, List, ◌++◌}
+use Rattle.std.specs.Prelude.{◌≡◌, ℕ, false, Option, Some, None, Result, Ok, Err, List, ◌++◌, codes, decimal}
 use Rattle.dr_files.specs.declared.fault.FileFault.{FileFault}
 use Rattle.dr_files.specs.declared.fault.FileFault.TheVariants as fault
 use Rattle.dr_files.specs.Outcome.{Fault}
@@ -21,6 +21,13 @@ Puts (Err fault.Write) found text old new = ⊥
 -- the objects of all records
 abbrev pub PutsObjects : {A : Type 0} → Result A (FileFault Cause) → Window → List Record → List ℕ → List ℕ → Type 0
 PutsObjects result w rs old new = Puts result (text_from false 1 (Preparing Empty) rs).fault (objects_from w 1 (Preparing Empty) rs) old new
+
+-- what comes before the objects, and after them
+abbrev pub head_text : Window → List ℕ → List ℕ
+head_text w before = before ++ (codes "{\"from\":" ++ decimal w.from ++ codes ",\"steps\":" ++ decimal w.steps ++ codes ",\"records\":[\n")
+
+abbrev pub tail_text : List ℕ → List ℕ
+tail_text after = codes "\n]}" ++ after
 
 -- the page of a text
 abbrev pub PutsPage : {A : Type 0} → Result A (FileFault Cause) → Window → List ℕ → List ℕ → List ℕ → List ℕ → List ℕ → Type 0
