@@ -1,14 +1,15 @@
 mod Batches
-mod Beginnings
 mod Codes
 mod Crash
+mod Feeding
 mod Frames
 mod Headers
 mod Kept
 mod Laws
 mod Mixes
 mod Moments
-mod Repair
+mod Reading
+mod Repairs
 mod Runs
 mod Shown
 mod Values

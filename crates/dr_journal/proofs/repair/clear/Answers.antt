@@ -2,9 +2,9 @@ use Rattle.std.proofs.Common.{◌-◌, ℕ, ap, length, arith, ◌∙◌}
 use Rattle.std.proofs.lemmas.List.{length-replicate}
 use Rattle.dr_journal.specs.Meaning.Format.{recovered}
 use Rattle.dr_journal.specs.Calls.Journals.{StandsFor}
-use Rattle.dr_journal.proofs.Repair.{as_it_is, clear_crash, file_cleared, ends_within}
+use Rattle.dr_journal.proofs.Repairs.{as_it_is, clear_crash, file_cleared, ends_within}
 use Rattle.dr_journal.proofs.Moments.{no_call, one_write, write_and_sync}
-use Rattle.dr_journal.proofs.recovery.clear.Goals as goal
+use Rattle.dr_journal.proofs.repair.clear.Goals as goal
 
 pub overflow_sub-len : goal.overflow_sub-len
 overflow_sub-len g c = omega (arith, c.requires.end, c.requires.len, ends_within (g.D.Device.seen c.args.device.now) c.requires.journal)

@@ -1,9 +1,9 @@
 use Rattle.std.proofs.Common.{ap, length, ◌++◌, ◌∙◌}
 use Rattle.dr_journal.specs.Meaning.Format.{recovered}
 use Rattle.dr_journal.specs.Calls.Journals.{StandsFor}
-use Rattle.dr_journal.proofs.Repair.{as_it_is, close_crash, file_closed}
+use Rattle.dr_journal.proofs.Repairs.{as_it_is, close_crash, file_closed}
 use Rattle.dr_journal.proofs.Moments.{no_call, one_write, write_and_sync}
-use Rattle.dr_journal.proofs.recovery.close.Goals as goal
+use Rattle.dr_journal.proofs.repair.close.Goals as goal
 
 pub returns-in_err-zero-clause-any_moment : goal.returns-in_err-zero-clause-any_moment
 returns-in_err-zero-clause-any_moment g c =

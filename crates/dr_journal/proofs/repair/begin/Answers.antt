@@ -1,15 +1,14 @@
-use Rattle.std.proofs.Common.{rules, ◌≡◌, ◌++◌, ◌∙◌, refl, ap, arith, length, drop, [], ◌∷◌, subst, sym}
+use Rattle.std.proofs.Common.{◌≡◌, ◌++◌, ◌∙◌, refl, ap, arith, drop, [], ◌∷◌, subst, sym}
 use Rattle.dr_journal.specs.Meaning.Disk.{Only}
 use Rattle.dr_journal.specs.Meaning.Format.{header}
-use Rattle.dr_journal.specs.Calls.Journals.{bytes_of}
 use Rattle.dr_journal.specs.Calls.Opening.{StandsForTheSame}
 use Rattle.dr_journal.proofs.Crash.{rests}
-use Rattle.dr_journal.proofs.Repair.{short, still_new, begun, begin_crash, nothing}
+use Rattle.dr_journal.proofs.Repairs.{short, still_new, begun, begin_crash, nothing}
 use Rattle.dr_journal.proofs.Moments.{no_call, one_write, write_and_sync}
-use Rattle.dr_journal.proofs.recovery.begin.Goals as goal
+use Rattle.dr_journal.proofs.repair.begin.Goals as goal
 
 pub rest_of_header-requires : goal.rest_of_header-requires
-rest_of_header-requires g c = omega (arith, short (g.D.Device.seen c.args.device.now) c.requires.new, ap length c.requires.bytes)
+rest_of_header-requires g c = omega (arith, short (g.D.Device.seen c.args.device.now) c.requires.new, c.requires.len)
 
 pub returns-in_err-rest-clause-any_moment : goal.returns-in_err-rest-clause-any_moment
 returns-in_err-rest-clause-any_moment g c =
@@ -23,7 +22,7 @@ returns-in_err-extend-clause-any_moment g c =
     let d = g.D.Device in
     let s = c.requires in
     let file = d.seen c.args.device.now in
-    let rest_is = c.in_ok-rest.ensures ∙ ap (λ b. drop (length b) header ++ 0 ∷ []) s.bytes in
+    let rest_is = c.in_ok-rest.ensures ∙ ap (λ n. drop n header ++ 0 ∷ []) s.len in
     let crash = begin_crash file s.new c.in_ok-rest.rest.items rest_is _ _ s.durable c.extend.ensures.crash in
     one_write d.moment d.left_since d.may_leave g.met.D.Device.only_now c.args.device.now (StandsForTheSame file) (still_new file s.new _ s.durable)
     c.extend.new.self c.extend.ensures.time crash
@@ -33,7 +32,7 @@ returns-in_err-sync-clause-any_moment g c =
     let d = g.D.Device in
     let s = c.requires in
     let file = d.seen c.args.device.now in
-    let rest_is = c.in_ok-rest.ensures ∙ ap (λ b. drop (length b) header ++ 0 ∷ []) s.bytes in
+    let rest_is = c.in_ok-rest.ensures ∙ ap (λ n. drop n header ++ 0 ∷ []) s.len in
     let crash = begin_crash file s.new c.in_ok-rest.rest.items rest_is _ _ s.durable c.extend.ensures.crash in
     write_and_sync d.moment d.left_since d.may_leave g.met.D.Device.only_now c.args.device.now (StandsForTheSame file) (still_new file s.new _ s.durable)
     c.extend.new.self c.extend.ensures.time crash c.sync.new.self c.sync.ensures.time c.sync.ensures.crash
@@ -43,7 +42,7 @@ returns-clause-any_moment g c =
     let d = g.D.Device in
     let s = c.requires in
     let file = d.seen c.args.device.now in
-    let rest_is = c.in_ok-rest.ensures ∙ ap (λ b. drop (length b) header ++ 0 ∷ []) s.bytes in
+    let rest_is = c.in_ok-rest.ensures ∙ ap (λ n. drop n header ++ 0 ∷ []) s.len in
     let crash = begin_crash file s.new c.in_ok-rest.rest.items rest_is _ _ s.durable c.extend.ensures.crash in
     write_and_sync d.moment d.left_since d.may_leave g.met.D.Device.only_now c.args.device.now (StandsForTheSame file) (still_new file s.new _ s.durable)
     c.extend.new.self c.extend.ensures.time crash c.sync.new.self c.sync.ensures.time c.sync.ensures.crash
@@ -53,7 +52,7 @@ returns-clause-at_rest g c =
     let d = g.D.Device in
     let s = c.requires in
     let file = d.seen c.args.device.now in
-    let rest_is = c.in_ok-rest.ensures ∙ ap (λ b. drop (length b) header ++ 0 ∷ []) s.bytes in
+    let rest_is = c.in_ok-rest.ensures ∙ ap (λ n. drop n header ++ 0 ∷ []) s.len in
     let now_seen = c.sync.ensures.seen ∙ c.in_ok-extend.ensures.extended ∙ begun file s.new c.in_ok-rest.rest.items rest_is in
     let durable = subst (λ f. Only f (d.may_leave c.sync.new.self)) (sym c.sync.ensures.seen) c.in_ok-sync.ensures.durable in
     let all = rests d.seen d.may_leave (record { device = c.sync.new.self; end = 8; len = 9 }) [] 1 refl now_seen refl refl (omega arith) durable in
@@ -64,15 +63,8 @@ returns-clause-same g c =
     let d = g.D.Device in
     let s = c.requires in
     let file = d.seen c.args.device.now in
-    let rest_is = c.in_ok-rest.ensures ∙ ap (λ b. drop (length b) header ++ 0 ∷ []) s.bytes in
+    let rest_is = c.in_ok-rest.ensures ∙ ap (λ n. drop n header ++ 0 ∷ []) s.len in
     let now_seen = c.sync.ensures.seen ∙ c.in_ok-extend.ensures.extended ∙ begun file s.new c.in_ok-rest.rest.items rest_is in
     let durable = subst (λ f. Only f (d.may_leave c.sync.new.self)) (sym c.sync.ensures.seen) c.in_ok-sync.ensures.durable in
     let all = rests d.seen d.may_leave (record { device = c.sync.new.self; end = 8; len = 9 }) [] 1 refl now_seen refl refl (omega arith) durable in
     all.1 ∙ sym (nothing file s.new file (omega (arith, short file s.new)))
-
-pub returns-clause-records : goal.returns-clause-records
-returns-clause-records g c =
-    let s = c.requires in
-    let file = g.D.Device.seen c.args.device.now in
-    let none : c.new.result.items ≡ [] = search rules in
-    ap (λ l. bytes_of l) none ∙ sym (nothing file s.new file (omega (arith, short file s.new)))
