@@ -1,5 +1,6 @@
 -- A file that is read piece by piece.
 use Rattle.std.proofs.Common.{◌≡◌, ◌≢◌, ◌<◌, ◌≤◌, ◌+◌, ◌⊎◌, inl, inr, ⊎_elim, ℕ, suc, List, [], ◌∷◌, ◌++◌, Vec, length, take, drop, get_or, refl, sym, ◌∙◌, ap, subst, arith, append_assoc, length-append}
+use Rattle.std.specs.Prelude.{Result, Ok, Err, IfErr}
 use Rattle.std.specs.declared.alloc.Global.{Global}
 use Rattle.std.proofs.lemmas.List.{append-nil, length-take, length-drop, map-append, take_at, drop-append-le, take_more}
 use Rattle.std.proofs.lemmas.Bool.{cases_lt}
@@ -10,6 +11,9 @@ use Rattle.dr_journal.specs.Calls.Reading.{Reads, ReadsOn, AddsSome, IsForeignSo
 use Rattle.dr_journal.specs.Inside.Reading.{HasRead, HasScanned, Completes, Takes, tail_of}
 use Rattle.dr_journal.specs.declared.recovery.Recovery.{Recovery}
 use Rattle.dr_journal.specs.declared.scan.Scan.{Scan}
+use Rattle.dr_journal.specs.declared.fault.OpenFault.{OpenFault}
+use Rattle.dr_journal.specs.declared.fault.OpenFault.TheVariants.{NotAJournal, InUse, Journal}
+use Rattle.dr_journal.specs.declared.fault.JournalFault.TheVariants.{NoMemory, Failed, Full}
 use Rattle.dr_journal.proofs.Headers.{length-header}
 use Rattle.dr_journal.proofs.Reading.{records_longer}
 
@@ -40,7 +44,7 @@ long_is_journal file (inl fresh) le = absurd (omega (arith, le, new_is_short fil
 long_is_journal file (inr journal) le = journal
 
 -- what the header has next
-module _ (file : List ℕ) (fresh : IsNew file) (n : ℕ) (is : n ≡ length file) (h : ℕ) (next : h ≡ get_or header n h) where
+module _ (file : List ℕ) (fresh : IsNew file) (n : ℕ) (is : n ≡ length file) (h d : ℕ) (next : h ≡ get_or header n d) where
   abbrev later : List ℕ
   later = drop (suc n) header
 
@@ -48,7 +52,7 @@ module _ (file : List ℕ) (fresh : IsNew file) (n : ℕ) (is : n ≡ length fil
   header_is =
       let within : n < 8 = omega (arith, is, new_is_short file fresh) in
       let front : take n header ≡ file = ap (λ (l : List ℕ). take n l) fresh.2 ∙ take_at file fresh.0 n (sym is) in
-      split_at header n h within ∙ ap (λ (l : List ℕ). l ++ get_or header n h ∷ later) front ∙ ap (λ (x : ℕ). file ++ x ∷ later) (sym next)
+      split_at header n d within ∙ ap (λ (l : List ℕ). l ++ get_or header n d ∷ later) front ∙ ap (λ (x : ℕ). file ++ x ∷ later) (sym next)
 
   pub begins_on : IsBegun (file ++ h ∷ [])
   begins_on = begun later header_is
@@ -67,8 +71,8 @@ module _ (file : List ℕ) (fresh : IsNew file) (n : ℕ) (is : n ≡ length fil
       heads x y xs ys e = ap (λ (l : List ℕ). get_or l 0 0) (sym (drop-append_seam file (x ∷ xs)) ∙ ap (λ (l : List ℕ). drop (length file) l) e ∙ drop-append_seam file (y ∷ ys))
 
 -- one byte more of the header
-pub header_read : (old new : Recovery) (file : List ℕ) (h : ℕ) → HasRead old file → old.matched < 8 → h ≡ get_or header old.matched h → new.matched ≡ old.matched + 1 → new.scan ≡ old.scan → HasRead new (file ++ h ∷ [])
-header_read old new file h read lt next counted same =
+pub header_read : (old new : Recovery) (file : List ℕ) (h d : ℕ) → HasRead old file → old.matched < 8 → h ≡ get_or header old.matched d → new.matched ≡ old.matched + 1 → new.scan ≡ old.scan → HasRead new (file ++ h ∷ [])
+header_read old new file h d read lt next counted same =
     let size = length-take 8 file in
     let short : length file < 8 = omega (arith, size, read.matched, lt) in
     let is : old.matched ≡ length file = omega (arith, size, read.matched, short) in
@@ -76,7 +80,7 @@ header_read old new file h read lt next counted same =
     let longer = length-append file (h ∷ []) in
     let one_more : new.matched ≡ length (take 8 (file ++ h ∷ [])) = omega (arith, counted, is, short, longer, length-take 8 (file ++ h ∷ [])) in
     record {
-      begins = begins_on file fresh old.matched is h next;
+      begins = begins_on file fresh old.matched is h d next;
       matched = one_more;
       scanned = subst (λ s. HasScanned s (behind_header (file ++ h ∷ []))) (sym same)
           (subst (λ (l : List ℕ). HasScanned old.scan l) (short_behind file (omega (arith, short)) ∙ sym (short_behind (file ++ h ∷ []) (omega (arith, short, longer)))) read.scanned);
@@ -88,12 +92,18 @@ header_gives file h short =
     ap records_in (short_behind (file ++ h ∷ []) (omega (arith, short, longer)))
     ∙ ap (λ (l : List ℕ). records_in l ++ []) (sym (short_behind file (omega (arith, short))))
 
-pub foreign_there : (old : Recovery) (b h : ℕ) → old.matched < 8 → h ≡ get_or header old.matched h → b ≢ h → IsForeignSoFar old (b ∷ [])
-foreign_there old b h lt next other file rest read =
+pub short_yet : (old : Recovery) (file : List ℕ) → HasRead old file → old.matched < 8 → length file < 8
+short_yet old file read lt = omega (arith, length-take 8 file, read.matched, lt)
+
+pub foreign_there : (old : Recovery) (b h d : ℕ) → old.matched < 8 → h ≡ get_or header old.matched d → b ≢ h → IsForeignSoFar old (b ∷ [])
+foreign_there old b h d lt next other file rest read =
     let size = length-take 8 file in
     let short : length file < 8 = omega (arith, size, read.matched, lt) in
     let is : old.matched ≡ length file = omega (arith, size, read.matched, short) in
-    refused file (short_is_new file read.begins short) old.matched is h next b other rest
+    refused file (short_is_new file read.begins short) old.matched is h d next b other rest
+
+pub no_foreign : (old : Recovery) (file : List ℕ) → HasRead old file → IsForeign file → ⊥
+no_foreign old file read foreign = ⊎_elim foreign.1 foreign.0 read.begins
 
 -- one byte more behind it
 module _ (old : Recovery) (file : List ℕ) (read : HasRead old file) (past : 8 ≤ old.matched) where
@@ -146,14 +156,14 @@ goes_on file more = elim (cases_lt (length file) 8) [
   | inr long ↦ (records_in (tail_of (behind_header file) ++ more), ap records_in (drop-append-le 8 file more long) ∙ records_longer (behind_header file) more)
 ]
 
-module _ (old mid : Recovery) (piece : List ℕ) (i b : ℕ) (within : i < length piece) (is : b ≡ get_or piece i b) where
+module _ (piece : List ℕ) (i b d : ℕ) (within : i < length piece) (is : b ≡ get_or piece i d) where
   pub next_piece : take (i + 1) piece ≡ take i piece ++ b ∷ []
-  next_piece = take_more piece i b within ∙ ap (λ (x : ℕ). take i piece ++ x ∷ []) (sym is)
+  next_piece = take_more piece i d within ∙ ap (λ (x : ℕ). take i piece ++ x ∷ []) (sym is)
 
   whole_piece : piece ≡ take i piece ++ b ∷ drop (suc i) piece
-  whole_piece = split_at piece i b within ∙ ap (λ (x : ℕ). take i piece ++ x ∷ drop (suc i) piece) (sym is)
+  whole_piece = split_at piece i d within ∙ ap (λ (x : ℕ). take i piece ++ x ∷ drop (suc i) piece) (sym is)
 
-  module _ (before between : Records) (so_far : Reads old mid (take i piece) before between) where
+  module _ (old mid : Recovery) (before between : Records) (so_far : Reads old mid (take i piece) before between) where
     pub stopped : ReadsOn old piece before between
     stopped file read =
         let a = so_far file read in
@@ -184,3 +194,16 @@ module _ (old mid : Recovery) (piece : List ℕ) (i b : ℕ) (within : i < lengt
         let rest = b ∷ drop (suc i) piece in
         let all : file ++ piece ≡ (file ++ take i piece) ++ rest = ap (λ (l : List ℕ). file ++ l) whole_piece ∙ sym (append_assoc file (take i piece) rest) in
         none (file ++ take i piece) rest a.0 (subst (λ (f : List ℕ). IsForeign f) all foreign)
+
+-- what an error says that says it of every error
+pub at_error : {A E : Type 0} (r : Result A E) (P : Type 0) → P → IfErr r (λ e. P)
+at_error (Ok x) P p = tt
+at_error (Err e) P p = p
+
+-- the only fault that is left
+pub only_foreign : (fault : OpenFault) → (fault ≡ InUse → ⊥) → (fault ≡ Journal NoMemory → ⊥) → (fault ≡ Journal Failed → ⊥) → (fault ≡ Journal Full → ⊥) → fault ≡ NotAJournal
+only_foreign NotAJournal used memory failed full = refl
+only_foreign InUse used memory failed full = absurd (used refl)
+only_foreign (Journal NoMemory) used memory failed full = absurd (memory refl)
+only_foreign (Journal Failed) used memory failed full = absurd (failed refl)
+only_foreign (Journal Full) used memory failed full = absurd (full refl)

@@ -87,7 +87,8 @@ impl Recovery {
     /// From where on a file that was written by a process before this one may be on the disk in part, in
     /// bytes: its last whole batch and what is behind it, or all of it.
     pub(crate) fn unsure_from(&self) -> usize
-        requires { count_of self.now < 2 ^ 63 }
+        requires small { count_of self.now < 2 ^ 63 }
+        requires read { (file : List ℕ) × HasRead self.now file }
         ensures { (file : List ℕ) → HasRead self.now file → result ≡ unsure_from file }
     {
         if self.scan.end == 0 {
