@@ -1,10 +1,10 @@
 -- A file that is read piece by piece.
-use Rattle.std.proofs.Common.{◌≡◌, ◌≢◌, ◌<◌, ◌≤◌, ◌+◌, ◌⊎◌, inl, inr, ⊎_elim, ℕ, suc, List, [], ◌∷◌, ◌++◌, Vec, length, take, drop, get_or, refl, sym, ◌∙◌, ap, subst, arith, append_assoc, length-append}
+use Rattle.std.proofs.Common.{◌≡◌, ◌≢◌, ◌<◌, ◌≤◌, ◌+◌, ◌⊎◌, inl, inr, ⊎_elim, ℕ, suc, List, [], ◌∷◌, ◌++◌, Vec, length, take, drop, get_or, refl, sym, ◌∙◌, ap, subst, arith, append_assoc, length-append, take-append-drop}
 use Rattle.std.specs.Prelude.{Result, Ok, Err, IfErr}
 use Rattle.std.specs.declared.alloc.Global.{Global}
-use Rattle.std.proofs.lemmas.List.{append-nil, length-take, length-drop, map-append, take_at, drop-append-le, take_more}
+use Rattle.std.proofs.lemmas.List.{append-nil, take_all, length-take, length-drop, map-append, take_at, drop-append-le, take_more}
 use Rattle.std.proofs.lemmas.Bool.{cases_lt}
-use Rattle.std.proofs.Math.Seq.{split_at, drop-append_seam}
+use Rattle.std.proofs.Math.Seq.{split_at, take-append_seam, drop-append_seam}
 use Rattle.dr_journal.specs.Meaning.Format.{header, IsJournal, IsNew, IsForeign, behind_header, records_in, recovered}
 use Rattle.dr_journal.specs.Calls.Journals.{bytes_of}
 use Rattle.dr_journal.specs.Calls.Reading.{Reads, ReadsOn, AddsSome, IsForeignSoFar}
@@ -43,6 +43,26 @@ pub long_is_journal : (file : List ℕ) → IsBegun file → 8 ≤ length file �
 long_is_journal file (inl fresh) le = absurd (omega (arith, le, new_is_short file fresh))
 long_is_journal file (inr journal) le = journal
 
+eight : length header ≡ 8
+eight = refl
+
+-- as far as it goes, a file begins with the header
+pub begun_of : (file : List ℕ) → take 8 file ≡ take (length file) header → IsBegun file
+begun_of file e = elim (cases_lt (length file) 8) [
+  | inl lt ↦ inl (
+    drop (length file) header,
+    omega (arith, lt, length-drop (length file) header, eight),
+    sym (take-append-drop (length file) header) ∙ ap (λ (l : List ℕ). l ++ drop (length file) header) (sym e ∙ take_all 8 file (omega (arith, lt))),
+  )
+  | inr le ↦ inr (drop 8 file, sym (take-append-drop 8 file) ∙ ap (λ (l : List ℕ). l ++ drop 8 file) (e ∙ take_all (length file) header (omega (arith, le, eight))))
+]
+
+begins_from : (file : List ℕ) → IsBegun file → take 8 file ≡ take (length file) header
+begins_from file (inl fresh) = take_all 8 file (omega (arith, new_is_short file fresh)) ∙ sym (ap (λ (l : List ℕ). take (length file) l) fresh.2 ∙ take_at file fresh.0 (length file) refl)
+begins_from file (inr journal) =
+    ap (λ (l : List ℕ). take 8 l) journal.1 ∙ take-append_seam header journal.0
+    ∙ sym (take_all (length file) header (omega (arith, ap length journal.1, length-header journal.0, eight)))
+
 -- what the header has next
 module _ (file : List ℕ) (fresh : IsNew file) (n : ℕ) (is : n ≡ length file) (h d : ℕ) (next : h ≡ get_or header n d) where
   abbrev later : List ℕ
@@ -76,11 +96,11 @@ header_read old new file h d read lt next counted same =
     let size = length-take 8 file in
     let short : length file < 8 = omega (arith, size, read.matched, lt) in
     let is : old.matched ≡ length file = omega (arith, size, read.matched, short) in
-    let fresh = short_is_new file read.begins short in
+    let fresh = short_is_new file (begun_of file read.begins) short in
     let longer = length-append file (h ∷ []) in
     let one_more : new.matched ≡ length (take 8 (file ++ h ∷ [])) = omega (arith, counted, is, short, longer, length-take 8 (file ++ h ∷ [])) in
     record {
-      begins = begins_on file fresh old.matched is h d next;
+      begins = begins_from (file ++ h ∷ []) (begins_on file fresh old.matched is h d next);
       matched = one_more;
       scanned = subst (λ s. HasScanned s (behind_header (file ++ h ∷ []))) (sym same)
           (subst (λ (l : List ℕ). HasScanned old.scan l) (short_behind file (omega (arith, short)) ∙ sym (short_behind (file ++ h ∷ []) (omega (arith, short, longer)))) read.scanned);
@@ -100,10 +120,10 @@ foreign_there old b h d lt next other file rest read =
     let size = length-take 8 file in
     let short : length file < 8 = omega (arith, size, read.matched, lt) in
     let is : old.matched ≡ length file = omega (arith, size, read.matched, short) in
-    refused file (short_is_new file read.begins short) old.matched is h d next b other rest
+    refused file (short_is_new file (begun_of file read.begins) short) old.matched is h d next b other rest
 
 pub no_foreign : (old : Recovery) (file : List ℕ) → HasRead old file → IsForeign file → ⊥
-no_foreign old file read foreign = ⊎_elim foreign.1 foreign.0 read.begins
+no_foreign old file read foreign = ⊎_elim foreign.1 foreign.0 (begun_of file read.begins)
 
 -- one byte more behind it
 module _ (old : Recovery) (file : List ℕ) (read : HasRead old file) (past : 8 ≤ old.matched) where
@@ -112,15 +132,15 @@ module _ (old : Recovery) (file : List ℕ) (read : HasRead old file) (past : 8 
 
   pub no_stranger : (more : List ℕ) → IsForeign (file ++ more) → ⊥
   no_stranger more foreign =
-      let journal = long_is_journal file read.begins long in
+      let journal = long_is_journal file (begun_of file read.begins) long in
       foreign.0 (journal.0 ++ more, ap (λ (l : List ℕ). l ++ more) journal.1 ∙ append_assoc header journal.0 more)
 
   pub body_read : (new : Recovery) (b : ℕ) → new.matched ≡ old.matched → HasScanned new.scan (behind_header file ++ b ∷ []) → HasRead new (file ++ b ∷ [])
   body_read new b same scanned =
-      let journal = long_is_journal file read.begins long in
+      let journal = long_is_journal file (begun_of file read.begins) long in
       let one_more : new.matched ≡ length (take 8 (file ++ b ∷ [])) = omega (arith, same, long, read.matched, length-take 8 file, length-append file (b ∷ []), length-take 8 (file ++ b ∷ [])) in
       record {
-        begins = inr (journal.0 ++ b ∷ [], ap (λ (l : List ℕ). l ++ b ∷ []) journal.1 ∙ append_assoc header journal.0 (b ∷ []));
+        begins = begins_from (file ++ b ∷ []) (inr (journal.0 ++ b ∷ [], ap (λ (l : List ℕ). l ++ b ∷ []) journal.1 ∙ append_assoc header journal.0 (b ∷ [])));
         matched = one_more;
         scanned = subst (λ (l : List ℕ). HasScanned new.scan l) (sym (drop-append-le 8 file (b ∷ []) long)) scanned;
       }

@@ -1,13 +1,18 @@
 -- A batch as it is written, and read again.
 use Rattle.std.proofs.Common.{◌≡◌, ◌≢◌, ◌<◌, ◌≤◌, ◌+◌, ◌-◌, inl, inr, ℕ, List, [], ◌∷◌, ◌++◌, length, refl, sym, ◌∙◌, ap, arith, append_assoc, length-append}
+use Rattle.std.specs.Prelude.{⊤}
 use Rattle.std.proofs.lemmas.List.{append-nil}
 use Rattle.std.proofs.lemmas.Bool.{cases_lt}
 use Rattle.std.proofs.lemmas.Bool.Decides.{nat_tests}
 use Rattle.dr_journal.specs.Meaning.Format.{whole_length, records_from, coded, coded_records, frame}
-use Rattle.dr_journal.specs.Inside.Reading.{IsClean}
 use Rattle.dr_journal.proofs.Codes.{IsWhole, more}
 
-pub clean_append : (xs ys : List ℕ) → IsClean xs → IsClean ys → IsClean (xs ++ ys)
+-- no byte is 0 or 2
+abbrev pub IsClean : List ℕ → Type 0
+IsClean [] = ⊤
+IsClean (b ∷ bytes) = (b ≢ 0) × (b ≢ 2) × IsClean bytes
+
+clean_append : (xs ys : List ℕ) → IsClean xs → IsClean ys → IsClean (xs ++ ys)
 clean_append [] ys left right = right
 clean_append (x ∷ xs) ys left right = (left.0, left.1, clean_append xs ys left.2 right)
 
@@ -28,7 +33,7 @@ pub clean_lines : (batch : List (List ℕ)) → IsClean (coded_records batch)
 clean_lines [] = tt
 clean_lines (bytes ∷ batch) = clean_append (coded bytes) (1 ∷ coded_records batch) (clean_coded bytes) (omega arith, omega arith, clean_lines batch)
 
-pub clean_ends : (l : List ℕ) → IsClean l → whole_length (l ++ 2 ∷ []) ≡ length l + 1
+clean_ends : (l : List ℕ) → IsClean l → whole_length (l ++ 2 ∷ []) ≡ length l + 1
 clean_ends [] clean = refl
 clean_ends (b ∷ l) clean = let tail = clean_ends l clean.2 in let step = more b (l ++ 2 ∷ []) clean.0 (omega (arith, tail)) in omega (arith, tail, step)
 

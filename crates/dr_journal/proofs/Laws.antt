@@ -1,9 +1,8 @@
 -- Batches as they are read.
 use Rattle.std.proofs.Common.{◌≡◌, ◌<◌, ◌≤◌, ℕ, zero, suc, List, [], ◌∷◌, ◌++◌, length, take, refl, ◌∙◌, ap, arith, length-append}
 use Rattle.dr_journal.specs.Meaning.Format.{whole_length, whole_batches, records_in, records_from, coded_records, frame}
-use Rattle.dr_journal.specs.Inside.Reading.{IsClean}
 use Rattle.dr_journal.proofs.Codes.{is_whole, whole_kept, nothing_more, nothing_recovered, recovered_append}
-use Rattle.dr_journal.proofs.Frames.{clean_lines, whole_frame, read_lines}
+use Rattle.dr_journal.proofs.Frames.{IsClean, clean_lines, whole_frame, read_lines}
 
 pub read_frame : (batch : List (List ℕ)) → records_in (frame batch) ≡ batch
 read_frame batch = ap (λ (l : List ℕ). records_from [] 0 l) (whole_kept (frame batch) (whole_frame batch)) ∙ read_lines batch

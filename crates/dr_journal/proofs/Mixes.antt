@@ -7,7 +7,7 @@ use Rattle.std.proofs.lemmas.Bool.Decides.{nat_tests}
 use Rattle.dr_journal.specs.Meaning.Disk.{IsMix, written}
 use Rattle.dr_journal.specs.Meaning.Format.{whole_length}
 use Rattle.dr_journal.proofs.Codes.{nothing_more}
-use Rattle.dr_journal.specs.Inside.Reading.{IsClean}
+use Rattle.dr_journal.proofs.Frames.{IsClean}
 
 pub mix_front : (k a b c : List ℕ) → IsMix (k ++ a) (k ++ b) c → (m : List ℕ) × (c ≡ k ++ m) × IsMix a b m
 mix_front [] a b c mix = (c, refl, mix)

@@ -1,18 +1,14 @@
 -- One byte more of what is read behind a header.
-use Rattle.std.proofs.Common.{◌≡◌, ◌≢◌, ◌+◌, ◌-◌, inl, inr, ℕ, suc, List, [], ◌∷◌, ◌++◌, Bool, true, false, Vec, length, take, drop, refl, sym, ◌∙◌, ap, subst, arith, append_assoc, length-append, take-append-drop}
+use Rattle.std.proofs.Common.{◌≡◌, ◌≢◌, ◌<◌, ◌+◌, ◌-◌, inl, inr, ℕ, suc, List, [], ◌∷◌, ◌++◌, Bool, true, false, Vec, length, take, drop, refl, sym, ◌∙◌, ap, subst, arith, append_assoc, length-append, take-append-drop}
 use Rattle.std.specs.declared.alloc.Global.{Global}
 use Rattle.std.proofs.lemmas.List.{append-nil, length-drop, map-append, take-append-le, drop-append-le}
 use Rattle.std.proofs.lemmas.Bool.{false≢true}
 use Rattle.std.proofs.Math.Seq.{take-append_seam}
 use Rattle.dr_journal.specs.Meaning.Format.{whole_length, whole_batches, records_from, records_in}
 use Rattle.dr_journal.specs.Calls.Journals.{bytes_of}
-use Rattle.dr_journal.specs.Inside.Reading.{IsClean, IsScanned, tail_of, last_of}
-use Rattle.dr_journal.proofs.Codes.{within, nothing_more, kept_append, is_whole, length-kept, whole_kept, recovered_append, nothing_recovered}
-use Rattle.dr_journal.proofs.Frames.{clean_append, clean_ends, push_own}
-
-clean_none : (t x : List ℕ) → IsClean t → whole_length x ≡ 0 → whole_length (t ++ x) ≡ 0
-clean_none [] x clean none = none
-clean_none (b ∷ t) x clean none = nothing_more b (t ++ x) clean.1 (clean_none t x clean.2 none)
+use Rattle.dr_journal.specs.Inside.Reading.{IsScanned, tail_of, last_of}
+use Rattle.dr_journal.proofs.Codes.{within, nothing_more, more, kept_append, is_whole, length-kept, whole_kept, recovered_append, nothing_recovered}
+use Rattle.dr_journal.proofs.Frames.{push_own}
 
 drop_whole : (n : ℕ) (l : List ℕ) → n ≡ length l → drop n l ≡ []
 drop_whole n [] is = ap (λ (k : ℕ). drop {A = ℕ} k []) is
@@ -53,15 +49,18 @@ module _ (len end last : ℕ) (over : Bool) (waiting : List (List ℕ)) (so_far 
 
   -- a byte that ends no batch
   module _ (b : ℕ) (none : whole_length (behind ++ b ∷ []) ≡ 0) (now_over : Bool) (now_waiting : List (List ℕ)) (now : List ℕ) (now_less : ℕ) where
-    same : (now_over ≡ true → (rest : List ℕ) → whole_length ((behind ++ b ∷ []) ++ rest) ≡ 0) → (now_over ≡ false → IsClean (behind ++ b ∷ []))
+    same : (now_over ≡ true → (rest : List ℕ) → whole_length ((behind ++ b ∷ []) ++ rest) ≡ 0)
+        → (now_over ≡ false → (rest : List ℕ) → whole_length rest ≡ 0 → whole_length ((behind ++ b ∷ []) ++ rest) ≡ 0)
+        → (now_over ≡ false → (rest : List ℕ) → 0 < whole_length rest → whole_length ((behind ++ b ∷ []) ++ rest) ≡ length (behind ++ b ∷ []) + whole_length rest)
         → (now_over ≡ false → (rest : List ℕ) → now_waiting ++ records_from now now_less rest ≡ records_from [] 0 ((behind ++ b ∷ []) ++ rest))
         → IsScanned (len + 1) end last now_over now_waiting now now_less (body ++ b ∷ [])
-    same o c t = record {
+    same o n m t = record {
       counted = omega (arith, s.counted, length-append body (b ∷ []));
       ended = s.ended ∙ sym (same_end body (b ∷ []) none);
       began = s.began ∙ sym (same_last body (b ∷ []) none);
       over = λ is rest. ap (λ (l : List ℕ). whole_length (l ++ rest)) (same_tail body (b ∷ []) none) ∙ o is rest;
-      clean = λ is. subst IsClean (sym (same_tail body (b ∷ []) none)) (c is);
+      none = λ is rest z. ap (λ (l : List ℕ). whole_length (l ++ rest)) (same_tail body (b ∷ []) none) ∙ n is rest z;
+      some = λ is rest z. ap (λ (l : List ℕ). whole_length (l ++ rest)) (same_tail body (b ∷ []) none) ∙ m is rest z ∙ ap (λ (l : List ℕ). length l + whole_length rest) (sym (same_tail body (b ∷ []) none));
       torn = λ is rest. t is rest ∙ ap (λ (l : List ℕ). records_from [] 0 (l ++ rest)) (sym (same_tail body (b ∷ []) none));
     }
 
@@ -71,6 +70,7 @@ module _ (len end last : ℕ) (over : Bool) (waiting : List (List ℕ)) (so_far 
     same b (s.over is (b ∷ [])) over waiting so_far less
     (λ o rest. ap whole_length (append_assoc behind (b ∷ []) rest) ∙ s.over is (b ∷ rest))
     (λ no. absurd (false≢true (sym no ∙ is)))
+    (λ no. absurd (false≢true (sym no ∙ is)))
     (λ no. absurd (false≢true (sym no ∙ is))),
     nothing_new body (b ∷ []) (s.over is (b ∷ [])),
   )
@@ -78,15 +78,16 @@ module _ (len end last : ℕ) (over : Bool) (waiting : List (List ℕ)) (so_far 
   module _ (is : over ≡ false) where
     pub hole : IsScanned (len + 1) end last true waiting so_far less (body ++ 0 ∷ []) × (records_in (body ++ 0 ∷ []) ≡ records_in body ++ [])
     hole = (
-      same 0 (clean_none behind (0 ∷ []) (s.clean is) refl) true waiting so_far less
-      (λ o rest. ap whole_length (append_assoc behind (0 ∷ []) rest) ∙ clean_none behind (0 ∷ rest) (s.clean is) refl)
+      same 0 (s.none is (0 ∷ []) refl) true waiting so_far less
+      (λ o rest. ap whole_length (append_assoc behind (0 ∷ []) rest) ∙ s.none is (0 ∷ rest) refl)
+      (λ no. absurd (false≢true (sym no)))
       (λ no. absurd (false≢true (sym no)))
       (λ no. absurd (false≢true (sym no))),
-      nothing_new body (0 ∷ []) (clean_none behind (0 ∷ []) (s.clean is) refl),
+      nothing_new body (0 ∷ []) (s.none is (0 ∷ []) refl),
     )
 
     whole_tail : whole_length (behind ++ 2 ∷ []) ≡ length behind + 1
-    whole_tail = clean_ends behind (s.clean is)
+    whole_tail = s.some is (2 ∷ []) (omega arith)
 
     whole_now : whole_length (body ++ 2 ∷ []) ≡ length body + 1
     whole_now = omega (arith, longer body (2 ∷ []), whole_tail, sizes body)
@@ -106,7 +107,8 @@ module _ (len end last : ℕ) (over : Bool) (waiting : List (List ℕ)) (so_far 
         ended = omega (arith, s.counted, whole_now);
         began = s.ended ∙ sym began_there;
         over = λ o. absurd (false≢true (sym is ∙ o));
-        clean = λ no. subst IsClean (sym nothing_behind) tt;
+        none = λ no rest z. ap (λ (l : List ℕ). whole_length (l ++ rest)) nothing_behind ∙ z;
+        some = λ no rest z. omega (arith, ap (λ (l : List ℕ). whole_length (l ++ rest)) nothing_behind, ap length nothing_behind);
         torn = λ no rest. ap (λ (l : List ℕ). records_from [] 0 (l ++ rest)) (sym nothing_behind);
       },
       records_longer body (2 ∷ [])
@@ -126,11 +128,14 @@ module _ (len end last : ℕ) (over : Bool) (waiting : List (List ℕ)) (so_far 
         → ((rest : List ℕ) → now_waiting ++ records_from now now_less rest ≡ waiting ++ records_from so_far less (b ∷ rest))
         → IsScanned (len + 1) end last over now_waiting now now_less (body ++ b ∷ []) × (records_in (body ++ b ∷ []) ≡ records_in body ++ [])
     within_batch b some other now_waiting now now_less goes = (
-      same b (clean_none behind (b ∷ []) (s.clean is) (nothing_more b [] other refl)) over now_waiting now now_less
+      same b (s.none is (b ∷ []) (nothing_more b [] other refl)) over now_waiting now now_less
       (λ o. absurd (false≢true (sym is ∙ o)))
-      (λ no. clean_append behind (b ∷ []) (s.clean is) (some, other, tt))
+      (λ no rest z. ap whole_length (append_assoc behind (b ∷ []) rest) ∙ s.none is (b ∷ rest) (nothing_more b rest other z))
+      (λ no rest z.
+        let one = more b rest some z in
+        omega (arith, ap whole_length (append_assoc behind (b ∷ []) rest), s.some is (b ∷ rest) (omega (arith, one)), one, length-append behind (b ∷ [])))
       (λ no rest. goes rest ∙ s.torn is (b ∷ rest) ∙ ap (λ (l : List ℕ). records_from [] 0 l) (sym (append_assoc behind (b ∷ []) rest))),
-      nothing_new body (b ∷ []) (clean_none behind (b ∷ []) (s.clean is) (nothing_more b [] other refl)),
+      nothing_new body (b ∷ []) (s.none is (b ∷ []) (nothing_more b [] other refl)),
     )
 
 -- what a byte within a batch adds to what waits

@@ -5,7 +5,7 @@ ghost use Rattle.dr_journal.specs.declared.fault.JournalFault.TheVariants.{NoMem
 ghost use Rattle.dr_journal.specs.Meaning.Disk.{HasCause};
 ghost use Rattle.dr_journal.specs.Meaning.Format.{frame};
 ghost use Rattle.dr_journal.specs.Inside.Parts.{device_of, end_of, length_of};
-ghost use Rattle.dr_journal.specs.Calls.Journals.{IsAtRest, StandsFor, IsBeforeOrAfter, HasBeginning, IsRefused, IsTooLarge, HasTooLarge, CrashLeaves, bytes_of, file_of, records_of, first_of, faults_of};
+ghost use Rattle.dr_journal.specs.Calls.Journals.{IsAtRest, StandsFor, IsBeforeOrAfter, HasBeginning, IsRefused, IsTooLarge, HasTooLarge, CrashLeaves, grown_length, bytes_of, file_of, records_of, first_of, faults_of};
 
 use crate::coding::{frame_of, zeros};
 use crate::{Device, JournalFault};
@@ -50,6 +50,8 @@ impl<D: Device> Journal<D> {
         ensures at_rest { OnOk result (IsAtRest D.seen D.may_leave self.new) }
         // The file stands for what it stood for and then the batch.
         ensures acknowledged { OnOk result (records_of D.seen self.new ≡ records_of D.seen self.old ++ bytes_of batch.now) }
+        // The file grows only where the batch has no room, and then by its bytes and 2^20 more.
+        ensures grown { OnOk result (length (file_of D.seen self.new) ≡ grown_length (end_of self.old) (length_of self.old) (length (frame (bytes_of batch.now)))) }
         // A crash at any moment of the call leaves the records from before it, with the whole batch or without it.
         ensures any_moment { CrashLeaves D.moment D.left_since self.old self.new (IsBeforeOrAfter (records_of D.seen self.old) (bytes_of batch.now)) }
         // With no memory or no room it is at rest as before.
@@ -95,6 +97,7 @@ impl<D: Device> Journal<D> {
         requires { IsAtRest D.seen D.may_leave self.old }
         ensures at_rest { OnOk result (IsAtRest D.seen D.may_leave self.new) }
         ensures room { OnOk result (end_of self.new + n < length_of self.new) }
+        ensures grown { OnOk result (length_of self.new ≡ grown_length (end_of self.old) (length_of self.old) n) }
         ensures same { OnOk result (records_of D.seen self.new ≡ records_of D.seen self.old) }
         ensures any_moment { CrashLeaves D.moment D.left_since self.old self.new (StandsFor (records_of D.seen self.old)) }
         ensures refused { IsRefused result → IsAtRest D.seen D.may_leave self.new × (records_of D.seen self.new ≡ records_of D.seen self.old) }
@@ -138,6 +141,7 @@ impl<D: Device> Journal<D> {
         requires room { end_of self.old + length bytes.now.items < length_of self.old }
         requires bytes { bytes.now.items ≡ frame (bytes_of batch.now) }
         ensures at_rest { OnOk result (IsAtRest D.seen D.may_leave self.new) }
+        ensures len { OnOk result (length_of self.new ≡ length_of self.old) }
         ensures acknowledged { OnOk result (records_of D.seen self.new ≡ records_of D.seen self.old ++ bytes_of batch.now) }
         ensures any_moment { CrashLeaves D.moment D.left_since self.old self.new (IsBeforeOrAfter (records_of D.seen self.old) (bytes_of batch.now)) }
         ensures refused { IsErrOf result NoMemory → IsAtRest D.seen D.may_leave self.new × (records_of D.seen self.new ≡ records_of D.seen self.old) }

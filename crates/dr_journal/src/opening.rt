@@ -1,7 +1,8 @@
 //! Opening a journal by its path.
 
 ghost use Rattle.std.specs.Prelude.{◌≡◌, ◌≤◌, ◌^◌, List, ℕ, length, IfOk, None};
-ghost use Rattle.dr_journal.specs.Inside.File.{seen_in, faults_in};
+ghost use Rattle.dr_journal.specs.Inside.File.{seen_in, left_in, moment_in, faults_in};
+ghost use Rattle.dr_journal.specs.Meaning.Disk.{Only};
 ghost use Rattle.dr_journal.specs.Inside.Reading.{HasRead};
 ghost use Rattle.dr_journal.specs.Meaning.Format.{recovered};
 ghost use Rattle.dr_journal.specs.Inside.Parts.{device_of};
@@ -39,6 +40,8 @@ pub struct Opening {
     ghost read: { fault ≡ None → HasRead recovery (seen_in calls.value) },
     ghost place: { at ≡ length (seen_in calls.value) },
     ghost works: { faults_in calls.value ≡ 0 },
+    ghost durable: { Only (seen_in calls.value) (left_in calls.value) },
+    ghost moment: { moment_in calls.value ≡ 0 },
     ghost small: { size ≤ 2 ^ 60 },
     ghost within: { at ≤ size },
 }

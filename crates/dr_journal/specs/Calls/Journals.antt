@@ -1,5 +1,5 @@
 -- What a journal's calls leave: `seen`, `may_leave`, `moment` and `left_since` are its device's.
-use Rattle.std.specs.Prelude.{◌≡◌, ◌⊎◌, ℕ, ◌+◌, ◌-◌, ◌^◌, ◌<◌, ◌≤◌, take, List, ◌++◌, length, replicate, map, Vec, Result, IsErrOf}
+use Rattle.std.specs.Prelude.{◌≡◌, ◌⊎◌, ℕ, ◌+◌, ◌-◌, ◌^◌, ◌<◌, ◌≤◌, take, List, ◌++◌, length, replicate, map, Vec, Result, IsErrOf, if◌then◌else◌, nat_lt}
 use Rattle.std.specs.List.{flat_map, Contains}
 use Rattle.std.specs.declared.alloc.Global.{Global}
 use Rattle.dr_journal.specs.Meaning.Disk.{Only, LeavesOnly}
@@ -40,6 +40,11 @@ IsTooLarge file batch = (2 ^ 60 < length file) ⊎ (2 ^ 60 < length (frame batch
 -- the file, or one of the batches as it is written, has
 abbrev pub HasTooLarge : List ℕ → List (Vec (Vec ℕ Global) Global) → Type 0
 HasTooLarge file batches = (batch : Vec (Vec ℕ Global) Global) × Contains batches batch × IsTooLarge file (batch_of batch)
+
+-- how long a file is once a batch of n bytes is in it: where behind the last batch there is no room for it and a byte 0, it grows by n
+-- and 2^20 bytes
+abbrev pub grown_length : ℕ → ℕ → ℕ → ℕ
+grown_length end len n = if nat_lt (end + n) len then len else len + (n + 2 ^ 20)
 
 -- a call had no memory or no room
 abbrev pub IsRefused : {T : Type 0} → Result T JournalFault → Type 0

@@ -1,16 +1,10 @@
 -- What is known of a journal's file of which only a beginning was read.
-use Rattle.std.specs.Prelude.{◌≡◌, ◌⊎◌, ℕ, ◌+◌, ◌-◌, ◌≢◌, List, [], ◌∷◌, ◌++◌, length, take, drop, Bool, true, false, Vec, if◌then◌else◌, ◌==◌}
-use Rattle.std.specs.Prelude.{⊤}
+use Rattle.std.specs.Prelude.{◌≡◌, ◌<◌, ℕ, ◌+◌, ◌-◌, List, [], ◌∷◌, ◌++◌, length, take, drop, Bool, true, false, Vec, if◌then◌else◌, ◌==◌}
 use Rattle.std.specs.declared.alloc.Global.{Global}
-use Rattle.dr_journal.specs.Meaning.Format.{IsJournal, IsNew, behind_header, whole_length, records_from, records_in, recovered}
+use Rattle.dr_journal.specs.Meaning.Format.{header, behind_header, whole_length, records_from, records_in}
 use Rattle.dr_journal.specs.Calls.Journals.{bytes_of}
 use Rattle.dr_journal.specs.declared.scan.Scan.{Scan}
 use Rattle.dr_journal.specs.declared.recovery.Recovery.{Recovery}
-
--- no byte is 0 or 2: a batch whose end did not come
-abbrev pub IsClean : List ℕ → Type 0
-IsClean [] = ⊤
-IsClean (b ∷ bytes) = (b ≢ 0) × (b ≢ 2) × IsClean bytes
 
 -- what stands behind the batches that are there whole
 abbrev pub tail_of : List ℕ → List ℕ
@@ -26,7 +20,8 @@ pub record IsScanned (len end last : ℕ) (is_over : Bool) (waiting : List (List
   pub ended : end ≡ whole_length body
   pub began : last ≡ last_of body
   pub over : is_over ≡ true → (rest : List ℕ) → whole_length (tail_of body ++ rest) ≡ 0
-  pub clean : is_over ≡ false → IsClean (tail_of body)
+  pub none : is_over ≡ false → (rest : List ℕ) → whole_length rest ≡ 0 → whole_length (tail_of body ++ rest) ≡ 0
+  pub some : is_over ≡ false → (rest : List ℕ) → 0 < whole_length rest → whole_length (tail_of body ++ rest) ≡ length (tail_of body) + whole_length rest
   pub torn : is_over ≡ false → (rest : List ℕ) → waiting ++ records_from so_far less rest ≡ records_from [] 0 (tail_of body ++ rest)
 
 abbrev pub HasScanned : Scan → List ℕ → Type 0
@@ -40,9 +35,9 @@ Completes body bytes before after = (more : List (Vec ℕ Global)) × (after ≡
 abbrev pub Takes : Scan → Scan → ℕ → List (Vec ℕ Global) → List (Vec ℕ Global) → Type 0
 Takes old new byte before after = (body : List ℕ) → HasScanned old body → HasScanned new (body ++ byte ∷ []) × Completes body (byte ∷ []) before after
 
--- these bytes of a file were read
+-- these bytes of a file were read, and as far as they go they begin with the header
 pub record HasRead (recovery : Recovery) (file : List ℕ) : Type 0 where
-  pub begins : IsNew file ⊎ IsJournal file
+  pub begins : take 8 file ≡ take (length file) header
   pub matched : recovery.matched ≡ length (take 8 file)
   pub scanned : HasScanned recovery.scan (behind_header file)
 
