@@ -8,6 +8,7 @@ mod Kept
 mod Laws
 mod Mixes
 mod Moments
+mod Openings
 mod Reading
 mod Repairs
 mod Runs

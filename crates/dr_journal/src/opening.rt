@@ -126,6 +126,7 @@ impl Opening {
     }
 
     // Reads the rest, and adds all its records.
+    #[tactic(auto, using(crate::proofs::Openings::adds_none, crate::proofs::Openings::adds_then))]
     fn read_rest(&mut self, records: &mut Vec<Vec<u8>>) -> Result<(), OpenFault>
         ensures added { OnOk result (AddsNext (read_so_far self.old) (read_so_far self.new) records.old.items records.new.items) }
     {
@@ -141,6 +142,7 @@ impl Opening {
 /// Opens the file of this path as a journal, and gives all its records in order. A file that is missing,
 /// empty, or has a beginning of the header is made one: the header and the folder are synced. While the
 /// journal lives, nobody else can open the file as one.
+#[tactic(auto, using(crate::proofs::Openings::adds_all))]
 pub fn open(rt: &HostRuntime, path: &str) -> Result<(Journal<FileDevice>, Vec<Vec<u8>>), OpenFault>
     ensures at_rest { IfOk result (λ r. IsAtRest ⟦<FileDevice as Device>⟧.seen ⟦<FileDevice as Device>⟧.may_leave r.0) }
     ensures records { IfOk result (λ r. bytes_of r.1.items ≡ records_of ⟦<FileDevice as Device>⟧.seen r.0) }
