@@ -72,6 +72,7 @@ bench:
 bench-plots:
 	bench/plots.py
 	bench/tables.py
+	bench/pages.py
 
 hello:
 	examples/hello.sh $(or $(DIR),$$(mktemp -d)/hello) $(FROM)

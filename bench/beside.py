@@ -10,6 +10,7 @@
     bench/beside.py producers          1 to 16 producers behind a lock
     bench/beside.py senders            1 to 16 senders of one ring; three of them are LMAX's `sequencer`
     bench/beside.py languages          the rings from other languages beside ours, channels and LMAX, with `--library`
+    bench/beside.py bytes              events of 16 to 4096 bytes in rings of slots, beside LMAX's, with `--library`
     bench/beside.py runs               runs in one call beside the same ring by hand, and LMAX's DSL beside its ring
     bench/beside.py few                two topologies on threads, for fewer processors than ends (`taskset`)
 
@@ -19,8 +20,9 @@ by `next`, which parks where there is no room, `lmax-try` by `tryNext`, again an
 `next` in an exchange that LMAX's DSL puts together. On threads
 `ours` is the ring over words, which has one sender, `memory` those over plain memory, `run` a run in one call, `c` the rings of words
 and of several senders from C, and `c-slots`, `cpp-slots` and so on those of slots by each language's package
-(bench/slots), where `--library FOLDER` names what `make lib` left; `channel` is the standard library's, which
-is crossbeam's. All run in turns, `--turns N` times (three without it), each for `--rounds N` rounds of `--seconds S`,
+(bench/slots), where `--library FOLDER` names what `make lib` left; `java-lmax` is LMAX's by `next` in the program of `java-slots`
+(bench/java). `channel` is the standard library's, which is crossbeam's; `crossbeam` is that of Debian's librust-crossbeam-channel-dev.
+All run in turns, `--turns N` times (three without it), each for `--rounds N` rounds of `--seconds S`,
 of which the one in the middle counts; the best of a program's turns is taken. `--under WORDS` starts each run by these words, as
 'chrt -r 10' (other work on the machine then counts for less) or 'taskset -c 0,1'. `--record FILE` also
 writes the rates to a file, as those of bench/measured, which bench/plots.py draws.
@@ -33,14 +35,14 @@ import subprocess
 import sys
 import tempfile
 
+import packages
 from exchanges import PROGRAM, TOP
 from records import RATES, Records
 
 PLAIN = os.path.join(TOP, "bench", "plain", "exchanges", "main.rs")
 LMAX = os.path.join(TOP, "bench", "lmax", "Lmax.java")
-RATES_OF_C = os.path.join(TOP, "bench", "c", "rates.c")
-OF_SLOTS = os.path.join(TOP, "bench", "slots")
 SHAPES = ("unicast", "pipeline", "multicast", "diamond")
+PACES = ("", "-b10", "-b100")
 SIZES = (64, 1024, 65536)
 ONE_THREAD = ("ours", "ring", "deque", "lmax")
 THREADS = ("ours", "memory", "c", "c-slots", "words", "slots", "channel", "mutex", "lmax", "lmax-try")
@@ -59,6 +61,8 @@ class Programs:
         subprocess.run(["rustc", "--edition", "2021", "-O", "-o", plain, PLAIN], check=True)
         for kind in ("ring", "deque", "words", "slots", "channel", "mutex"):
             self.words[kind] = [plain, kind]
+        if given.what == "languages" and (crossbeam := packages.of_crossbeam(folder, PLAIN)):
+            self.words["crossbeam"] = [crossbeam, "channel"]
         if given.library:
             self.words |= self.of_packages(folder, os.path.abspath(given.library))
         if shutil.which("javac") and os.path.exists(given.lmax):
@@ -67,28 +71,13 @@ class Programs:
             self.words |= {"lmax": [*java, "next"], "lmax-try": [*java, "try"], "lmax-dsl": [*java, "dsl"]}
 
     def of_packages(self, folder, library):
-        """How the programs over a folder of `make lib` are started, which it builds where their tools are here."""
-        archive, jar = os.path.join(library, "libdisruptor.a"), os.path.join(library, "disruptor.jar")
-        flags = ["-O2", "-I", os.path.join(TOP, "include"), "-o"]
-        of_c, of_cpp, classes, top = (os.path.join(folder, it) for it in ("rates", "rates_of_cpp", "classes", "copy"))
-        subprocess.run(["cc", "-std=c11", *flags, of_c, RATES_OF_C, archive, "-lpthread"], check=True)
-        found = {"c": [of_c], "c-slots": [of_c, "slots"]}
-        if shutil.which("c++"):
-            subprocess.run(["c++", "-std=c++17", *flags, of_cpp, f"{OF_SLOTS}/rates.cpp", archive, "-lpthread"], check=True)
-            found["cpp-slots"] = [of_cpp]
-        if shutil.which("cargo"):
-            # (cargo leaves files beside what it builds)
-            for it in ("bench/slots", "bindings/rust"):
-                shutil.copytree(os.path.join(TOP, it), os.path.join(top, it))
-            words = ["cargo", "build", "--release", "--offline", "--quiet", "--target-dir", os.path.join(folder, "cargo")]
-            subprocess.run(words, cwd=os.path.join(top, "bench/slots"), env={**os.environ, "DISRUPTOR_LIB": library}, check=True)
-            found["rust-slots"] = [os.path.join(folder, "cargo/release/rates")]
-        if shutil.which("javac") and os.path.exists(jar):
-            subprocess.run(["javac", "-cp", jar, "-d", classes, f"{OF_SLOTS}/Rates.java"], check=True)
-            found["java-slots"] = ["java", "-cp", f"{jar}{os.pathsep}{classes}", "Rates"]
-        python = ["env", f"DISRUPTOR_LIB={library}", f"PYTHONPATH={TOP}/bindings/python/src", "PYTHONDONTWRITEBYTECODE=1"]
-        found["python-slots"] = [*python, sys.executable, f"{OF_SLOTS}/rates.py"]
-        return found
+        """How the programs over a folder of `make lib` are started."""
+        found = packages.of_c(folder, library)
+        if rust := packages.of_rust(folder, library):
+            found["rust-slots"] = [os.path.join(rust, "rates")]
+        java, libraries = packages.of_java(folder, self.given.lmax, library)
+        found |= {f"java-{it}": [*java, "Rates", it] for it in libraries}
+        return found | {"python-slots": packages.of_python(library)}
 
     def of(self, kinds):
         return [kind for kind in kinds if kind in self.words]
@@ -146,7 +135,7 @@ def memory(programs):
     """The rings with one sender, at claims of one, ten and a hundred."""
     kinds = programs.of(("ours", "memory", "words", "slots", "lmax", "lmax-try"))
     print_head(["topology"] + kinds)
-    for topology in (f"{shape}{pace}" for pace in ("", "-b10", "-b100") for shape in SHAPES):
+    for topology in (f"{shape}{pace}" for pace in PACES for shape in SHAPES):
         print_row(topology, programs, kinds, topology, 1024)
 
 
@@ -188,15 +177,24 @@ def senders(programs):
 
 def languages(programs):
     """What the ring gives to other languages, beside what other programs have."""
-    slots = [f"{it}-slots" for it in ("c", "cpp", "rust", "java", "python")]
-    kinds = ("memory", "c", *slots, "channel", "lmax", "lmax-try")
-    of_one = [f"{shape}{pace}" for shape in SHAPES for pace in ("", "-b10", "-b100")]
-    of_three = ("senders3-unicast", "senders3-unicast-b10", "senders3-unicast-b100")
+    slots = [f"{it}-slots" for it in ("c", "cpp", "rust", "java")]
+    kinds = ("memory", "c", *slots, "java-lmax", "python-slots", "channel", "crossbeam", "lmax-try")
+    of_one = [f"{shape}{pace}" for shape in SHAPES for pace in PACES]
+    of_three = [f"senders3-unicast{pace}" for pace in PACES]
     for kinds, topologies in ((("ours", *kinds), of_one), (kinds, of_three)):
         kinds = programs.of(kinds)
         print_head(["topology"] + kinds)
         for topology in topologies:
             print_row(topology, programs, kinds, topology, 1024)
+
+
+def by_bytes(programs):
+    """Events of so many bytes, all of which are written and read, with one sender and with three."""
+    kinds = programs.of(("c-slots", "cpp-slots", "rust-slots", "java-slots", "java-lmax"))
+    print_head(["topology"] + kinds)
+    for topology in (f"{senders}unicast{pace}" for senders in ("", "senders3-") for pace in PACES):
+        for count in (16, 64, 256, 1024, 4096):
+            print_row(f"bytes{count}-{topology}", programs, kinds, f"bytes{count}-{topology}", 1024)
 
 
 def runs(programs):
@@ -224,9 +222,23 @@ def steps(what):
     return [(f"{n}", f"unicast-b{n}", 1024) for n in (1, 2, 5, 10, 20, 50, 100, 200, 500, 1000)]
 
 
+# (the others grow by steps)
+TABLES = {
+    "table": table,
+    "memory": memory,
+    "widths": widths,
+    "producers": producers,
+    "senders": senders,
+    "languages": languages,
+    "bytes": by_bytes,
+    "runs": runs,
+    "few": few,
+}
+
+
 def main():
     parser = argparse.ArgumentParser(description=__doc__, formatter_class=argparse.RawDescriptionHelpFormatter)
-    parser.add_argument("what", choices=["table", "memory", "sizes", "handlers", "claims", "widths", "producers", "senders", "languages", "runs", "few"])
+    parser.add_argument("what", choices=[*TABLES, "sizes", "handlers", "claims"])
     parser.add_argument("--program", default=PROGRAM)
     parser.add_argument("--lmax", default="/usr/share/java/disruptor.jar")
     parser.add_argument("--library", metavar="FOLDER")
@@ -239,22 +251,8 @@ def main():
     given = parser.parse_args()
     with tempfile.TemporaryDirectory() as folder:
         programs = Programs(given, folder)
-        if given.what == "table":
-            table(programs)
-        elif given.what == "memory":
-            memory(programs)
-        elif given.what == "widths":
-            widths(programs)
-        elif given.what == "producers":
-            producers(programs)
-        elif given.what == "senders":
-            senders(programs)
-        elif given.what == "languages":
-            languages(programs)
-        elif given.what == "runs":
-            runs(programs)
-        elif given.what == "few":
-            few(programs)
+        if given.what in TABLES:
+            TABLES[given.what](programs)
         else:
             grow(programs, given.what, steps(given.what))
         programs.records.save()

@@ -31,7 +31,7 @@ RATE = "million events a second"
 SLOTS = "1024 slots"
 SHAPES = ("unicast", "pipeline", "multicast", "diamond")
 TOPOLOGY = re.compile(
-    r"(?P<core>core-)?((lock|senders)(?P<producers>\d+)-)?(?P<shape>[a-z]+)(?P<handlers>\d+)?(-b(?P<claim>\d+))?"
+    r"(?P<core>core-)?(bytes(?P<bytes>\d+)-)?((lock|senders)(?P<producers>\d+)-)?(?P<shape>[a-z]+)(?P<handlers>\d+)?(-b(?P<claim>\d+))?"
 )
 # Text stays text, and the same records give the same bytes.
 STYLE = {
@@ -63,15 +63,31 @@ LOOKS = {
     "plain": Look("plain Rust", "#5B4A9E", "s"),
     "lmax": Look("LMAX", "#A3326F", "D"),
     "lmax-try": Look("LMAX tryNext", "#C77BA4", "d"),
+    "c": Look("C, two words", "#9DB8CF", "o"),
+    "c-slots": Look("C", "#0B5FA5", "o"),
+    "cpp-slots": Look("C++", "#00795A", "s"),
+    "rust-slots": Look("Rust", "#B35C00", "s"),
+    "java-slots": Look("Java", "#5B4A9E", "D"),
+    "python-slots": Look("Python", "#8A6D00", "v"),
+    "java-lmax": Look("LMAX", "#A3326F", "D"),
+    "crossbeam": Look("crossbeam", "#C4776C", "p"),
+    "run": Look("ours, one call", "#0B5FA5", "o"),
+    "lmax-dsl": Look("LMAX, its DSL", "#A3326F", "D"),
     "deque": Look("deques", "#707070", "^"),
     "channel": Look("channels", "#9A3B2E", "p"),
     "mutex": Look("mutex", "#8A6D00", "v"),
     "plain spinning": Look("plain spinning", "#0B5FA5", "o"),
     "plain parking": Look("plain parking", "#5B9BD0", "o"),
+    "rust-slots spinning": Look("Rust spinning", "#B35C00", "s"),
+    "java-slots parking": Look("Java parking", "#5B4A9E", "D"),
     "lmax spinning": Look("LMAX spinning", "#A3326F", "D"),
     "lmax blocking": Look("LMAX blocking", "#C77BA4", "d"),
     "array queue": Look("array queue", "#707070", "^"),
     "channels": Look("channels", "#8A6D00", "v"),
+    "sqlite-each": Look("SQLite, one", "#C77BA4", "d"),
+    "sqlite-batch": Look("SQLite, batch", "#A3326F", "D"),
+    "sync-each": Look("a sync each", "#707070", "^"),
+    "ours-replica": Look("with a replica", "#4FA3E0", "o"),
 }
 
 
@@ -83,6 +99,7 @@ class Rate(NamedTuple):
     shape: str
     handlers: int
     claim: int
+    bytes: int
     size: int
     program: str
     rate: float
@@ -94,9 +111,9 @@ def rates(records):
     for record in records:
         name = TOPOLOGY.fullmatch(record["topology"])
         if name:
-            producers, handlers, claim = (int(name[part] or 1) for part in ("producers", "handlers", "claim"))
+            producers, handlers, claim, width = (int(name[part] or 1) for part in ("producers", "handlers", "claim", "bytes"))
             rate = float(record["million_events_a_second"])
-            where = (name["core"] is None, producers, name["shape"], handlers, claim, int(record["size"]))
+            where = (name["core"] is None, producers, name["shape"], handlers, claim, width, int(record["size"]))
             found.append(Rate(*where, record["program"], rate))
     return found
 
@@ -211,11 +228,11 @@ def side(threads):
     return "a thread for each end" if threads else "one thread"
 
 
-def topologies(records, threads):
-    """The four shapes with 1024 slots, a panel for each length of a claim."""
+def topologies(records, threads, programs=tuple(LOOKS)):
+    """The four shapes with 1024 slots and one producer, a panel for each length of a claim."""
     panels = {}
     for rate in sorted(rates(records), key=lambda rate: list(LOOKS).index(rate.program)):
-        if rate.threads == threads and rate.size == 1024:
+        if rate.threads == threads and rate.size == 1024 and rate.producers == 1 and rate.program in programs:
             groups = panels.setdefault(rate.claim, {shape: {} for shape in SHAPES})
             groups[rate.shape][rate.program] = rate.rate
     titled = [(f"{side(threads)}, claims of {claim}", panels[claim]) for claim in sorted(panels)]
@@ -258,6 +275,31 @@ def producers(records):
     return line_picture(panels, f"producers, {SLOTS}", [1, 2, 4, 8, 16], RATE)
 
 
+def languages(records):
+    programs = ("memory", "c-slots", "cpp-slots", "rust-slots", "java-slots", "java-lmax", "crossbeam")
+    return topologies(records, True, programs)
+
+
+def by_bytes(records):
+    """A panel for claims of one and one for claims of ten, with one sender and with three, over the bytes of an event."""
+    panels = []
+    for senders, name in ((1, "one sender"), (3, "three senders")):
+        for claim in (1, 10):
+            here = [rate for rate in rates(records) if (rate.producers, rate.claim) == (senders, claim)]
+            lines = lines_of((rate.program, rate.bytes, rate.rate) for rate in here)
+            panels.append((f"{name}, claims of {claim}", lines))
+    return line_picture(panels, f"bytes of an event, {SLOTS}", [4**k for k in range(2, 7)], RATE)
+
+
+def answers(records):
+    """Operations a second, and microseconds to half of the answers, over the operations in flight."""
+    panels = []
+    for column, title in (("operations_a_second", "operations a second"), ("50%", "half of the answers: microseconds")):
+        points = ((record["program"], int(record["in_flight"]), max(float(record[column]), 1)) for record in records)
+        panels.append((title, lines_of(points)))
+    return line_picture(panels, "operations in flight", [1, 8, 64, 1024], "")
+
+
 def latency(records):
     """What most events take at most, a panel for each gap between two events."""
     columns = {"50%": "1 of 2", "99%": "99 of 100"}
@@ -297,6 +339,9 @@ PICTURES = {
     "claims": {"claims": claims},
     "senders": {"senders": producers},
     "producers": {"producers": producers},
+    "languages": {"languages": languages},
+    "bytes": {"bytes": by_bytes},
+    "answers": {"answers": answers},
     "latency": {"latency": latency},
     "lengths": {"lengths": lengths},
 }

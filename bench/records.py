@@ -15,6 +15,10 @@ RATES = ("topology", "size", "program", "million_events_a_second")
 SECONDS = ("tool", "size", "records", "program", "seconds", "peak_kilobytes")
 WAITS = ("strategy", "handler_per_cent", "event_micros", "most_micros", "rate_1", "rate_10", "rate_100")
 LATENCIES = ("program", "gap_micros", "least", "mean", "50%", "99%", "99.9%", "99.99%", "most")
+ROUND_TRIPS = ("program", *LATENCIES[2:])
+ANSWERS = ("program", "in_flight", "operations_a_second", "50%", "99%", "99.9%", "most")
+RECOVERIES = ("step", "operations", "seconds", "operations_a_second", "peak_kilobytes")
+STEPS = ("step", "seconds")
 
 
 def machine():

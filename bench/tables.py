@@ -29,25 +29,36 @@ FILES = {
     "widths": ("By the words of an event, one handler", RATES),
     "producers": ("By the number of producers, behind a lock, 1024 slots", RATES),
     "senders": ("By the number of senders of one ring, 1024 slots", RATES),
-    "languages": ("From C, 1024 slots", RATES),
+    "languages": ("From other languages, 1024 slots", RATES),
+    "bytes": ("From other languages, by the bytes of an event, 1024 slots", RATES),
     "runs": ("Runs in one call, 1024 slots", RATES),
     "few": ("With two processors for all threads", RATES),
     "latency": ("How long an event takes through a pipeline of three threads", "Nanoseconds."),
+    "round_trips": ("How long an event takes to another thread and back", "Nanoseconds."),
     "waiting": ("What waiting costs, by each strategy", "Of a processor per cent, microseconds, and millions of events a second by claims of 1, 10 and 100."),
     "files": ("The tools, beside plain Rust", SECONDS),
     "lengths": ("The tools, by the records of a file", SECONDS),
     "replays": ("The replays", "Seconds by the clock, and megabytes at the peak."),
+    "answers": ("How fast a ledger answers", "Operations a second, and microseconds to the answer."),
+    "recovery": ("A ledger of ten million operations", "Seconds by the clock, and kilobytes at the peak."),
+    "first": ("How long who begins waits", "Seconds by the clock."),
 }
 
 
+# What else a line of figures may be called by.
+NAMES = ("program", "strategy", "step", "gap_micros", "in_flight")
+
+
 def kind(record):
-    """A table of its own for one thread, for threads, for each gap between events, and for each tool."""
+    """A table of its own for one thread, for threads, for each gap between events, each number in flight, and each tool."""
     if "tool" in record:
         return record["tool"]
-    if "strategy" in record:
-        return "strategy"
     if "gap_micros" in record:
         return f"an event each {record['gap_micros']} µs"
+    if "in_flight" in record:
+        return f"{int(record['in_flight']):,} in flight"
+    if "topology" not in record:
+        return next(it for it in NAMES if it in record)
     return "one thread" if record["topology"].startswith("core") else "a thread for each end"
 
 
@@ -75,13 +86,13 @@ def table(records, first):
 
 
 def lines(records, first):
-    """A line a program or strategy, a column for each of its figures."""
-    columns = [column for column in records[0] if column not in ("program", "strategy", "gap_micros")]
+    """A line a program, strategy or step, a column for each of its figures."""
+    columns = [column for column in records[0] if column not in NAMES]
     yield f"| {first} | {' | '.join(it.replace('_', ' ') for it in columns)} |"
     yield f"|---|{'---:|' * len(columns)}"
     for record in records:
         figures = (f"{int(record[it]):,}" if record[it].isdigit() else record[it] for it in columns)
-        yield f"| {record.get('program') or record['strategy']} | {' | '.join(figures)} |"
+        yield f"| {next(record[it] for it in NAMES if it in record)} | {' | '.join(figures)} |"
 
 
 def section(title, unit, head, records):
@@ -93,10 +104,10 @@ def section(title, unit, head, records):
         kinds.setdefault(kind(record), []).append(record)
     for name, those in kinds.items():
         yield ""
-        if "gap_micros" in those[0] or "strategy" in those[0]:
-            yield from lines(those, name)
-        else:
+        if "topology" in those[0] or "tool" in those[0]:
             yield from table(those, f"{name}: records" if "tool" in those[0] else name)
+        else:
+            yield from lines(those, name)
     yield ""
 
 

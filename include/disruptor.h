@@ -53,7 +53,7 @@ extern "C" {
 typedef struct disruptor_sender DISRUPTOR_HANDLE disruptor_sender;
 /* The end of one handler, which receives every event after its upstreams. */
 typedef struct disruptor_receiver DISRUPTOR_HANDLE disruptor_receiver;
-/* An end that halts the ring from any thread. */
+/* An end that halts the ring from any thread, and tells how far it came. */
 typedef struct disruptor_halter DISRUPTOR_HANDLE disruptor_halter;
 #define DISRUPTOR_NEW {0, 0, {0}}
 
@@ -92,6 +92,7 @@ DISRUPTOR_HOLDS(sizeof(size_t) == 8);
     of(8, OUT_OF_ORDER, "out-of-order", "an earlier sequence is not published") \
     of(9, NOT_TAKEN, "not-taken", "the handler has not taken so many events") \
     of(10, BEHIND, "behind", "the handler has completed more already") \
+    of(12, NO_HANDLER, "no-handler", "the ring has no handler of that number") \
     of(16, CONTENDED, "contended", "another sender claimed meanwhile: claim again") \
     of(25, TOO_MANY, "too-many", "there would be more than 16 handlers") \
     of(26, NO_HANDLERS, "no-handlers", "there would be no handler") \
@@ -142,6 +143,8 @@ uint32_t disruptor_read_bytes_at(disruptor_receiver *receiver, size_t receivers,
                                  size_t count);
 uint32_t disruptor_complete_at(disruptor_receiver *receiver, size_t receivers, uint64_t upto);
 uint32_t disruptor_halt_at(disruptor_halter *halter, size_t halters);
+uint32_t disruptor_cursor_at(disruptor_halter *halter, size_t halters, uint64_t *count, size_t numbers);
+uint32_t disruptor_completed_at(disruptor_halter *halter, size_t halters, size_t handler, uint64_t *count, size_t numbers);
 uint32_t disruptor_progress_at(void *handle, size_t handles, disruptor_counts *counts, size_t places);
 size_t disruptor_name_at(uint32_t number, char *text, size_t room);
 
@@ -272,7 +275,7 @@ static inline uint32_t disruptor_publish(disruptor_sender *sender, uint64_t lo, 
 /* As disruptor_publish, in a ring of slots, where no call writes: publishes the sequences from lo to hi with what lies in their slots.
  * In a ring of bytes each event is then what was written last of its slot. Refusals: BAD_POINTER, NOT_OPEN, WRONG_END (also the sender of one
  * whose events are two words), BAD_COUNT, NOT_CLAIMED, ALREADY_PUBLISHED, OUT_OF_ORDER, as of disruptor_publish. A refused one may
- * leave sequences of the stretch counted as written, which only disruptor_publish asks about. */
+ * leave sequences up to hi counted as written, which only disruptor_publish asks about. */
 static inline uint32_t disruptor_publish_slots(disruptor_sender *sender, uint64_t lo, uint64_t hi) {
     return disruptor_publish_slots_at(DISRUPTOR_ONE(disruptor_sender, sender), lo, hi);
 }
@@ -322,6 +325,21 @@ static inline uint32_t disruptor_complete(disruptor_receiver *receiver, uint64_t
  * once they took all that is claimed. Refusals: BAD_POINTER, NOT_OPEN, WRONG_END. */
 static inline uint32_t disruptor_halt(disruptor_halter *halter) {
     return disruptor_halt_at(DISRUPTOR_ONE(disruptor_halter, halter));
+}
+
+/* Says in *count how far the senders came: of one how many events it published, of several how many sequences they claimed. Any
+ * thread may ask at any time, as of the calls of a halter one at a time. It is what the ring's word held at a moment of the call, and
+ * never less than an earlier call said. Refusals: BAD_POINTER (of either), NOT_OPEN, WRONG_END (also the halter of a ring whose events
+ * are two words); then *count stays as it was. */
+static inline uint32_t disruptor_cursor(disruptor_halter *halter, uint64_t *count) {
+    return disruptor_cursor_at(DISRUPTOR_ONE(disruptor_halter, halter), DISRUPTOR_ONE(uint64_t, count));
+}
+
+/* Says in *count how many events a handler completed, as disruptor_cursor does. So the handler with the least count is behind, and the
+ * ring has as many free slots as its size plus the least count of the final handlers, less what is claimed. Refusals: those of
+ * disruptor_cursor, and NO_HANDLER. */
+static inline uint32_t disruptor_completed_by(disruptor_halter *halter, size_t handler, uint64_t *count) {
+    return disruptor_completed_at(DISRUPTOR_ONE(disruptor_halter, halter), handler, DISRUPTOR_ONE(uint64_t, count));
 }
 
 /* Says how far an end came, by its own calls: what the sender of one claimed and published, what a handler took and completed. Once

@@ -9,10 +9,12 @@
 #include <chrono>
 #include <cstddef>
 #include <cstdint>
+#include <exception>
 #include <memory>
 #include <mutex>
 #include <optional>
 #include <stdexcept>
+#include <string>
 #include <type_traits>
 #include <utility>
 #include <vector>
@@ -28,7 +30,8 @@ using bell = std::shared_ptr<disruptor_bell>;
 // A call was refused.
 class refusal : public std::runtime_error {
 public:
-    explicit refusal(std::uint32_t number) : std::runtime_error(disruptor_text(number)), number_(number) {}
+    explicit refusal(std::uint32_t number) : refusal(number, disruptor_text(number)) {}
+    refusal(std::uint32_t number, const std::string &text) : std::runtime_error(text), number_(number) {}
     std::uint32_t number() const noexcept { return number_; }
 
 private:
@@ -74,6 +77,9 @@ public:
     broken() : std::runtime_error("a handler went away before it had every event") {}
 };
 
+// The bit of the senders among the ends that went away.
+constexpr std::uint64_t a_sender = UINT64_C(1) << 63;
+
 // What all ends of a ring have in common.
 class common {
 public:
@@ -85,34 +91,69 @@ public:
         check(disruptor_halt(&halter_));
         ring();
     }
-    // Halts the ring for an end that goes away too early, so that nobody waits for it: a handler by its bit.
-    void give_up(std::uint64_t end) noexcept {
-        gone_ |= end;
+    std::uint64_t cursor() {
         const std::lock_guard<std::mutex> lock(mutex_);
-        disruptor_halt(&halter_);
-        ring();
+        std::uint64_t count = 0;
+        check(disruptor_cursor(&halter_, &count));
+        return count;
+    }
+    std::uint64_t completed(std::size_t handler) {
+        const std::lock_guard<std::mutex> lock(mutex_);
+        std::uint64_t count = 0;
+        check(disruptor_completed_by(&halter_, handler, &count));
+        return count;
+    }
+    // Halts the ring for a handler that goes away after so many events, so that nobody waits for it.
+    void give_up(std::size_t handler, std::uint64_t completed) noexcept {
+        completed_[handler] = completed;
+        leave(UINT64_C(1) << handler);
+    }
+    // Halts it for good, so that each handler ends once it finds no event.
+    void give_up() noexcept { leave(a_sender); }
+    // A handler failed, before it goes away: who is refused since the ring is halted is told of the first one.
+    void fail(const std::exception_ptr &failed) noexcept {
+        const std::lock_guard<std::mutex> lock(mutex_);
+        if (!failed_) failed_ = failed;
+    }
+    [[nodiscard]] std::exception_ptr failed() noexcept {
+        const std::lock_guard<std::mutex> lock(mutex_);
+        return failed_;
     }
     // Of so many senders one after another goes away. With the last one the ring is halted, since nobody claims any more.
     void has_senders(std::size_t count) noexcept { senders_ = count; }
     void lose_sender() noexcept {
-        if (senders_.fetch_sub(1) == 1) give_up(0);
+        if (senders_.fetch_sub(1) == 1) leave(0);
     }
-    bool is_gone(std::uint64_t ends) const noexcept { return (gone_ & ends) != 0; }
+    // Where those who follow these are cut: at the least count of those of them that are gone, or at none where all is given up.
+    std::uint64_t cut(std::uint64_t upstreams) const noexcept {
+        const std::uint64_t gone = gone_ & upstreams;
+        std::uint64_t cut = gone & a_sender ? 0 : UINT64_MAX;
+        for (std::size_t k = 0; gone >> k && cut; k++)
+            if (gone >> k & 1) cut = std::min(cut, completed_[k].load());
+        return cut;
+    }
     common() = default;
     common(const common &) = delete;
     common &operator=(const common &) = delete;
     ~common() { disruptor_free(&halter_); }
 
 private:
+    void leave(std::uint64_t ends) noexcept {
+        gone_ |= ends;
+        const std::lock_guard<std::mutex> lock(mutex_);
+        disruptor_halt(&halter_);
+        ring();
+    }
     disruptor_bell bell_ = DISRUPTOR_NEW_BELL;
     disruptor_halter halter_ = DISRUPTOR_NEW;
     std::mutex mutex_;
+    std::exception_ptr failed_;
+    // The ends that went away too early, and of those that are handlers how many events they completed.
     std::atomic<std::uint64_t> gone_{0};
+    std::atomic<std::uint64_t> completed_[16] = {};
     std::atomic<std::size_t> senders_{0};
 };
 using shared = std::shared_ptr<common>;
-// The bit of the senders among the ends that went away.
-constexpr std::uint64_t a_sender = UINT64_C(1) << 63;
 
 // How many events an end published or completed, which any thread may ask at any time. It is never ahead of the end.
 class watch {
@@ -196,6 +237,8 @@ protected:
         std::uint64_t lo = 0;
         const std::uint32_t number = disruptor_claim(get(), n, &lo);
         if (number == DISRUPTOR_NO_ROOM || number == DISRUPTOR_CONTENDED) return std::nullopt;
+        if (number == DISRUPTOR_HALTED && shared_)
+            if (const std::exception_ptr failed = shared_->failed()) std::rethrow_exception(failed);
         check(number);
         open_ += n;
         return lo;
@@ -229,7 +272,7 @@ protected:
 private:
     void leave() noexcept {
         if (!shared_) return;
-        if (has_open_claim()) shared_->give_up(a_sender);
+        if (has_open_claim()) shared_->give_up();
         else if (disruptor_close(get()) == DISRUPTOR_OK) shared_->ring();
         else shared_->lose_sender();
     }
@@ -261,7 +304,7 @@ public:
         if (this != &other) leave();
         end::operator=(std::move(other));
         completed_ = other.completed_;
-        own_ = other.own_, upstreams_ = other.upstreams_, is_at_end_ = other.is_at_end_;
+        place_ = other.place_, upstreams_ = other.upstreams_, is_at_end_ = other.is_at_end_;
         next_ = other.next_, taken_ = other.taken_, has_thrown_ = other.has_thrown_, is_drained_ = other.is_drained_;
         return *this;
     }
@@ -273,8 +316,12 @@ public:
     }
     // How many events it completed, for who watches it.
     watch watched() const noexcept { return completed_; }
+    // Tells those who are refused since the ring is halted.
+    void fail(const std::exception_ptr &failed) noexcept {
+        if (shared_) shared_->fail(failed);
+    }
     // That it is handler k, and whom it follows.
-    void takes_place(std::size_t k, std::uint64_t upstreams) noexcept { own_ = UINT64_C(1) << k, upstreams_ = upstreams | a_sender; }
+    void takes_place(std::size_t k, std::uint64_t upstreams) noexcept { place_ = k, upstreams_ = upstreams | a_sender; }
 
 protected:
     // Notes what a poll found.
@@ -303,33 +350,33 @@ protected:
         complete(taken_);
         return shown;
     }
-    // Takes turns until the ring is drained, and sleeps while none comes. It answers false where one that it follows went away.
+    // Takes turns until the ring is drained, and sleeps while none comes. It answers false where it came to its cut.
     template <typename Turn>
     [[nodiscard]] bool take_turns(std::uint64_t room, Turn &&turn) {
         waiting how = waits(room);
-        bool is_last_look = false;
         for (;;) {
+            const std::uint64_t at = cut();
             const offer found = turn();
             if (found.kind == DISRUPTOR_DRAINED) return true;
             if (found.kind == DISRUPTOR_BATCH) {
                 how.found(found.count);
                 continue;
             }
-            // (it looks once more for what that one completed)
-            if (is_last_look) return false;
-            is_last_look = lost_one();
-            if (!is_last_look) how.wait();
+            if (has_come_to(at)) return false;
+            how.wait();
         }
     }
-    // Whether one that it follows went away.
-    bool lost_one() const noexcept { return shared_ && shared_->is_gone(upstreams_); }
+    // After how many events it ends, since one that it follows went away. It asks that before it looks, so that it misses none.
+    std::uint64_t cut() const noexcept { return shared_ ? shared_->cut(upstreams_) : UINT64_MAX; }
+    bool has_come_to(std::uint64_t cut) const noexcept { return completed_.count() >= cut; }
 
 private:
     void leave() noexcept {
-        if (shared_ && !is_drained_) shared_->give_up(own_);
+        if (shared_ && !is_drained_) shared_->give_up(place_, completed_.count());
     }
     watch completed_;
-    std::uint64_t own_ = 0, upstreams_ = a_sender;
+    std::size_t place_ = 0;
+    std::uint64_t upstreams_ = a_sender;
     // Of the events that are taken the next one to show, and up to where they go.
     std::uint64_t next_ = 0, taken_ = 0;
     std::uint32_t is_at_end_ = 0;
@@ -395,7 +442,7 @@ public:
     }
 };
 
-// Halts the ring, from any thread.
+// Halts the ring, and tells how far it came, from any thread.
 class halter {
 public:
     explicit halter(disruptor::shared all) noexcept : shared_(std::move(all)) {}
@@ -403,9 +450,19 @@ public:
         if (!shared_) throw refusal(DISRUPTOR_NOT_OPEN);
         shared_->halt();
     }
+    // How many events the sender published, or several claimed, of a ring of slots or bytes.
+    [[nodiscard]] std::uint64_t cursor() {
+        if (!shared_) throw refusal(DISRUPTOR_NOT_OPEN);
+        return shared_->cursor();
+    }
+    // How many events a handler completed.
+    [[nodiscard]] std::uint64_t completed(std::size_t handler) {
+        if (!shared_) throw refusal(DISRUPTOR_NOT_OPEN);
+        return shared_->completed(handler);
+    }
     // Halts it for good, so that nobody waits any more: each handler ends once it finds no event.
     void give_up() noexcept {
-        if (shared_) shared_->give_up(a_sender);
+        if (shared_) shared_->give_up();
     }
 
 private:

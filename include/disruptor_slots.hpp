@@ -116,18 +116,20 @@ public:
         slots<T> &events = slots_of(slots_);
         return show(take, [&](std::uint64_t s) -> T & { return events.at(s); }, handle);
     }
-    // The same, once there are events: what it finds when the time is up, or when a handler that it follows went away, may be none. It
-    // may take ten milliseconds more, where it sleeps.
+    // The same, once there are events: what it finds when the time is up, or at its cut where a handler that it follows went away, may
+    // be none. It may take ten milliseconds more, where it sleeps.
     template <typename Handler>
     offer receive_for(std::chrono::nanoseconds time, std::uint64_t room, Handler &&handle) {
         const auto end = end_of(time);
         waiting how = waits(slots_of(slots_).size());
-        for (bool is_last_look = false;; is_last_look = lost_one() || how.is_over(end)) {
+        for (;;) {
+            const std::uint64_t at = this->cut();
             const offer found = receive(room, handle);
-            if (found.kind == DISRUPTOR_BATCH || found.kind == DISRUPTOR_DRAINED || is_last_look) return found;
+            if (found.kind == DISRUPTOR_BATCH || found.kind == DISRUPTOR_DRAINED || this->has_come_to(at) || how.is_over(end)) return found;
         }
     }
-    // The same until the ring is drained; it sleeps while none comes. It throws `broken` where a handler that it follows went away.
+    // The same until the ring is drained; it sleeps while none comes. It throws `broken` at its cut, where a handler that it follows
+    // went away.
     template <typename Handler>
     void run(Handler &&handle) {
         if (!run_or_lose_one(handle)) throw broken();
@@ -194,11 +196,11 @@ template <typename T>
     return made;
 }
 
-// A handler threw: which one, and what, for std::rethrow_exception. The ring was halted.
-class handler_failed : public std::runtime_error {
+// A handler threw: which one, and what, for std::rethrow_exception. The ring was halted, so a publication is refused with this one.
+class handler_failed : public refusal {
 public:
     handler_failed(const std::string &name, std::exception_ptr what)
-        : std::runtime_error("a handler threw: " + name), name_(name), what_(std::move(what)) {}
+        : refusal(DISRUPTOR_HALTED, "a handler threw: " + name), name_(name), what_(std::move(what)) {}
     const std::string &name() const noexcept { return name_; }
     std::exception_ptr thrown() const noexcept { return what_; }
 
@@ -219,13 +221,15 @@ public:
         watched_.emplace_back(name, receiver.watched());
         threads_.emplace_back([name, receiver = std::move(receiver), work = std::move(work), &failed = *failed_]() mutable {
             name_thread(name.c_str());
+            // (the receiver goes away at the end, which halts the ring where it is not drained)
+            receiver_in_place<T> own = std::move(receiver);
             try {
-                // (where it throws, the receiver goes away, which halts the ring)
-                receiver_in_place<T> own = std::move(receiver);
                 work(own);
             } catch (...) {
+                const std::exception_ptr what = std::make_exception_ptr(handler_failed(name, std::current_exception()));
+                own.fail(what);
                 const std::lock_guard<std::mutex> lock(failed.mutex);
-                if (!failed.what) failed.name = name, failed.what = std::current_exception();
+                if (!failed.what) failed.what = what;
             }
         });
     }
@@ -242,7 +246,7 @@ public:
     // Joins them, and throws handler_failed where one threw.
     void finish() {
         join();
-        if (failed_->what) throw handler_failed(failed_->name, std::exchange(failed_->what, nullptr));
+        if (failed_->what) std::rethrow_exception(std::exchange(failed_->what, nullptr));
     }
 
 private:
@@ -256,7 +260,6 @@ private:
     }
     struct failure {
         std::mutex mutex;
-        std::string name;
         std::exception_ptr what;
     };
     std::unique_ptr<failure> failed_ = std::make_unique<failure>();
@@ -302,7 +305,10 @@ public:
     ~running_of_several() {
         if (halter_) halter_->halt();
     }
-    void halt() { halter_->halt(); }
+    void halt() {
+        if (!halter_) throw refusal(DISRUPTOR_NOT_OPEN);
+        halter_->halt();
+    }
     [[nodiscard]] std::optional<std::uint64_t> completed(const std::string &name) const { return threads_.completed(name); }
     void finish() {
         halt();

@@ -37,8 +37,9 @@ typedef struct disruptor_work {
     uint64_t upstreams, before;
     struct disruptor_graph *graph;
     pthread_t thread;
-    /* How many events it completed. */
+    /* How many events it completed, and how many it was shown, which its thread alone uses. */
     DISRUPTOR_ALIGNED uint64_t completed;
+    uint64_t shown;
 } disruptor_work;
 
 typedef struct disruptor_graph {
@@ -54,6 +55,8 @@ typedef struct disruptor_graph {
     size_t handlers, started;
     /* The first refusal while it was built. */
     uint32_t refused;
+    /* Who is at fault where it is refused, "the ring" or a handler by its name, and why. */
+    const char *at_fault, *why;
     /* Which handler failed first, or a null pointer, and what it answered. */
     const char *failed;
     int failure;
@@ -69,6 +72,12 @@ static inline disruptor_graph disruptor_graph_of(void *events, uint64_t size, si
     return graph;
 }
 
+/* Notes who is at fault, and answers the number. */
+static inline uint32_t disruptor_at_fault(disruptor_graph *graph, uint32_t refused, const char *name, const char *why) {
+    graph->at_fault = name, graph->why = why;
+    return refused;
+}
+
 /* The place of the handler with this name, or of none. */
 static inline size_t disruptor_place_of(const disruptor_graph *graph, const char *name, size_t length) {
     size_t k = 0;
@@ -76,22 +85,32 @@ static inline size_t disruptor_place_of(const disruptor_graph *graph, const char
     return k;
 }
 
-/* Adds a handler, which follows those that `after` names, with a space between two, or none. The name stays where it is. Refusals: BAD_ORDER
- * (one of the names of `after` is none before, or another handler has this name) and TOO_MANY; disruptor_start answers them too. */
-static inline uint32_t disruptor_add(disruptor_graph *graph, const disruptor_work *added, const char *after) {
-    disruptor_work work = *added;
-    uint32_t refused = DISRUPTOR_OK;
-    if (!after) after = "";
-    if (graph->handlers == DISRUPTOR_MOST_HANDLERS) refused = DISRUPTOR_TOO_MANY;
-    else if (disruptor_place_of(graph, work.name, strlen(work.name)) < graph->handlers) refused = DISRUPTOR_BAD_ORDER;
-    for (const char *name = after + strspn(after, " "); !refused && *name; name += strspn(name, " ")) {
+/* Notes in a handler whom it follows, and answers whether each of them is there. */
+static inline bool disruptor_follows(const disruptor_graph *graph, disruptor_work *work, const char *after) {
+    for (const char *name = after + strspn(after, " "); *name; name += strspn(name, " ")) {
         const size_t length = strcspn(name, " "), up = disruptor_place_of(graph, name, length);
-        if (up == graph->handlers) refused = DISRUPTOR_BAD_ORDER;
-        else work.upstreams |= UINT64_C(1) << up, work.before |= UINT64_C(1) << up | graph->works[up].before;
+        if (up == graph->handlers) return false;
+        work->upstreams |= UINT64_C(1) << up, work->before |= UINT64_C(1) << up | graph->works[up].before;
         name += length;
     }
-    if (!refused) graph->works[graph->handlers++] = work;
-    else if (!graph->refused) graph->refused = refused;
+    return true;
+}
+
+/* Adds a handler, which follows those that `after` names, with a space between two, or none. The name stays where it is. Refusals: BAD_ORDER
+ * (one of the names of `after` is none before, or another handler has this name) and TOO_MANY; disruptor_start answers them too. Of the
+ * first one graph.at_fault names the handler, and graph.why says why. */
+static inline uint32_t disruptor_add(disruptor_graph *graph, const disruptor_work *added, const char *after) {
+    disruptor_work work = *added;
+    uint32_t refused = DISRUPTOR_BAD_ORDER;
+    const char *why = NULL;
+    if (graph->handlers == DISRUPTOR_MOST_HANDLERS) why = "there are 16 handlers before it", refused = DISRUPTOR_TOO_MANY;
+    else if (disruptor_place_of(graph, work.name, strlen(work.name)) < graph->handlers) why = "another handler has this name";
+    else if (!disruptor_follows(graph, &work, after ? after : "")) why = "it follows a name that no handler before it has";
+    if (!why) {
+        graph->works[graph->handlers++] = work;
+        return DISRUPTOR_OK;
+    }
+    if (!graph->refused) graph->refused = disruptor_at_fault(graph, refused, work.name, why);
     return refused;
 }
 static inline uint32_t disruptor_handle(disruptor_graph *graph, const char *name, disruptor_handler *handle, void *own,
@@ -107,12 +126,12 @@ static inline uint32_t disruptor_handle_changing(disruptor_graph *graph, const c
     return disruptor_add(graph, &work, after);
 }
 
-/* Whether each handler that changes events has them alone. */
-static inline bool disruptor_are_alone(const disruptor_graph *graph) {
+/* The name of a handler that changes events and has them not alone, or a null pointer. */
+static inline const char *disruptor_not_alone(const disruptor_graph *graph) {
     for (size_t k = 0; k < graph->handlers; k++)
         for (size_t other = 0; graph->works[k].is_changing && other < graph->handlers; other++)
-            if (other != k && !(graph->works[k].before >> other & 1) && !(graph->works[other].before >> k & 1)) return false;
-    return true;
+            if (other != k && !(graph->works[k].before >> other & 1) && !(graph->works[other].before >> k & 1)) return graph->works[k].name;
+    return NULL;
 }
 
 /* The event of a sequence. */
@@ -144,18 +163,23 @@ static inline void disruptor_give_up(disruptor_work *work, int failure) {
     disruptor_stop(graph);
 }
 
-/* Shows a handler the events of a batch, and completes those before the one at which it fails. */
-static inline int disruptor_show(disruptor_work *work, disruptor_receiver *receiver, const disruptor_offer *offer) {
+/* Completes what a handler was shown without a failure. */
+static inline void disruptor_complete_shown(disruptor_work *work) {
     disruptor_graph *graph = work->graph;
-    uint64_t k = 0;
-    int failure = 0;
-    while (k < offer->count && !failure) {
-        failure = work->handle(work->own, disruptor_slot(graph, offer->first + k), offer->first + k, k + 1 == offer->count);
-        if (!failure) k++;
-    }
-    disruptor_complete(receiver, offer->first + k);
-    __atomic_store_n(&work->completed, offer->first + k, __ATOMIC_RELEASE);
+    disruptor_complete(&graph->receivers[work - graph->works], work->shown);
+    __atomic_store_n(&work->completed, work->shown, __ATOMIC_RELEASE);
     disruptor_ring(&graph->bell);
+}
+
+/* Shows a handler the events of a batch, and completes those before the one at which it fails. */
+static inline int disruptor_show(disruptor_work *work, const disruptor_offer *offer) {
+    const uint64_t end = offer->first + offer->count;
+    int failure = 0;
+    while (work->shown < end && !failure) {
+        failure = work->handle(work->own, disruptor_slot(work->graph, work->shown), work->shown, work->shown + 1 == end);
+        if (!failure) work->shown++;
+    }
+    disruptor_complete_shown(work);
     return failure;
 }
 
@@ -168,34 +192,46 @@ static inline void disruptor_name_thread(const char *name) {
 #endif
 }
 
-/* Takes turns until the handler had every event, or one that it follows is gone, or it fails. */
+/* Where the events of a handler are cut: a handler that ended before it had every event leaves a cut, which is how many it completed.
+ * Nobody who follows it has an event from there on. So of those that it follows and that are gone, the least count cuts it, and it ends
+ * once it completed so many: others that it follows may be on their way there yet. Where none is gone, there is no cut. */
+static inline uint64_t disruptor_cut(const disruptor_work *work) {
+    const disruptor_graph *graph = work->graph;
+    const uint64_t gone = __atomic_load_n(&graph->gone, __ATOMIC_SEQ_CST) & work->upstreams;
+    uint64_t cut = UINT64_MAX;
+    for (size_t k = 0; gone >> k; k++) {
+        const uint64_t completed = __atomic_load_n(&graph->works[k].completed, __ATOMIC_ACQUIRE);
+        if (gone >> k & 1 && completed < cut) cut = completed;
+    }
+    return cut;
+}
+
+/* Takes turns until the handler had every event, or those up to its cut, or it fails. */
 static inline void disruptor_take_turns(disruptor_work *work) {
     disruptor_graph *graph = work->graph;
     disruptor_receiver *receiver = &graph->receivers[work - graph->works];
     disruptor_waiting waiting = disruptor_waits_by(graph->size, &graph->bell);
-    bool is_last_look = false;
     for (;;) {
         disruptor_offer offer;
         if (disruptor_poll_slots(receiver, graph->size, &offer) || offer.kind == DISRUPTOR_DRAINED) return;
         if (offer.kind == DISRUPTOR_BATCH) {
             disruptor_found(&waiting, offer.count);
-            const int failure = disruptor_show(work, receiver, &offer);
+            const int failure = disruptor_show(work, &offer);
             if (!failure) continue;
             disruptor_give_up(work, failure);
             return;
         }
-        if (is_last_look) {
+        if (work->completed >= disruptor_cut(work)) {
             disruptor_give_up(work, 0);
             return;
         }
-        /* Where one that it follows is gone, it looks once more for what that one completed. */
-        is_last_look = (__atomic_load_n(&graph->gone, __ATOMIC_SEQ_CST) & work->upstreams) != 0;
-        if (!is_last_look) disruptor_wait(&waiting);
+        disruptor_wait(&waiting);
     }
 }
 
-/* A handler that ends its own thread has failed too. */
+/* A handler that ends its own thread has failed too, and completes what it was shown before. */
 static inline void disruptor_die(void *given) {
+    disruptor_complete_shown((disruptor_work *)given);
     disruptor_give_up((disruptor_work *)given, -1);
 }
 
@@ -231,24 +267,29 @@ static inline int disruptor_finish(disruptor_graph *graph) {
     return graph->failure;
 }
 
-/* Opens the ring, and starts a thread for each handler. Refusals: those of the calls that built the graph, BAD_ORDER where one that
- * changes events has them not alone, those of disruptor_open_slots, and NO_MEMORY where a thread is not started. */
+/* Opens the ring, and starts a thread for each handler. A graph that was finished may be started again. Refusals: those of the calls
+ * that built the graph, BAD_ORDER where one that changes events has them not alone, those of disruptor_open_slots, and NO_MEMORY where a
+ * thread is not started; graph.at_fault says who is at fault, and graph.why why. */
 static inline uint32_t disruptor_start(disruptor_graph *graph) {
     uint64_t upstreams[DISRUPTOR_MOST_HANDLERS];
     for (size_t k = 0; k < graph->handlers; k++) upstreams[k] = graph->works[k].upstreams;
     if (graph->refused) return graph->refused;
-    if (!disruptor_are_alone(graph)) return DISRUPTOR_BAD_ORDER;
+    const char *not_alone = disruptor_not_alone(graph);
+    if (not_alone)
+        return disruptor_at_fault(graph, DISRUPTOR_BAD_ORDER, not_alone, "it would change events that another handler reads at the same time");
     const uint32_t refused = disruptor_open_slots(graph->size, DISRUPTOR_MAX_LIMIT, upstreams, graph->handlers, &graph->sender,
                                                   graph->receivers, graph->handlers, &graph->halter);
-    if (refused) return refused;
+    if (refused) return disruptor_at_fault(graph, refused, "the ring", disruptor_text(refused));
     graph->waiting = disruptor_waits_by(graph->size, &graph->bell);
+    graph->failed = NULL, graph->failure = 0, graph->gone = 0;
+    for (size_t k = 0; k < graph->handlers; k++) graph->works[k].completed = graph->works[k].shown = 0;
     for (; graph->started < graph->handlers; graph->started++) {
         disruptor_work *work = &graph->works[graph->started];
         work->graph = graph;
         if (pthread_create(&work->thread, NULL, disruptor_work_on, work)) {
             disruptor_give_up(work, -1);
             disruptor_finish(graph);
-            return DISRUPTOR_NO_MEMORY;
+            return disruptor_at_fault(graph, DISRUPTOR_NO_MEMORY, work->name, "its thread cannot be started");
         }
     }
     return DISRUPTOR_OK;

@@ -55,6 +55,8 @@ def load(path):
         ("read_bytes", handle, size, number, ctypes.c_char_p, size, size),
         ("complete", handle, size, number),
         ("halt", handle, size),
+        ("cursor", handle, size, ctypes.POINTER(number), size),
+        ("completed", handle, size, size, ctypes.POINTER(number), size),
         ("progress", handle, size, ctypes.POINTER(Counts), size),
     ):
         call = getattr(library, f"disruptor_{name}_at")

@@ -185,10 +185,23 @@ test_java() {
     done
 }
 
-# A page for each call that the header names, in which groff finds nothing to warn of.
+# A page for each call that the header names, in which groff finds nothing to warn of; two headers with one name are refused.
 test_man_pages() {
+    mkdir -p "$room/twice/tools" && cp "$top/tools/man_pages.py" "$room/twice/tools" && cp -r "$top/include" "$room/twice" &&
+        sed -i 's/disruptor_completed_by/disruptor_completed/' "$room/twice/include/disruptor.h" &&
+        ! "$room/twice/tools/man_pages.py" "$room/twice/man" || return 1
     "$top/tools/man_pages.py" "$room/man/man3" && cd "$room/man" && [ -z "$(groff -man -ww -z man3/*.3 2>&1)" ] &&
         [ -f man3/disruptor_publish_slots.3 ] && [ -f man3/disruptor_finish.3 ] && grep -q '^uint32_t disruptor_claim(' man3/disruptor_claim.3
+}
+
+# What is packed has all that its READMEs name, and a program is built of it alone.
+test_dist() {
+    local to=$room/dist
+    mkdir -p "$to" && tar -C "$to" -xzf "$("$top/tools/dist.sh" "$room/packages" | tail -1)" --strip-components=1 && cd "$to" || return 1
+    ! grep -n 'bindings/\|make \|`out`' README share/doc/disruptor/*.md rust/README.md || return 1
+    [ -f examples/c/senders.c ] && [ -f disruptor-sources.jar ] && [ -f disruptor.pom ] && grep -q '"../../rust"' examples/rust/Cargo.toml || return 1
+    sed -n '/^```c$/,/^```$/p' share/doc/disruptor/c.md | sed '1d;$d' > readme.c
+    cc -std=c11 -Iinclude -o readme readme.c lib/libdisruptor.a -lpthread && prints 'each handler had every order' ./readme
 }
 
 # Where Maven finds its plugins without a network, as Debian has them.
@@ -215,12 +228,15 @@ test_versions() {
 
 # A copy of the library, beside which the wheel and the jar come.
 build_packages() {
-    mkdir -p "$room/packages" && cp -P "$library"/libdisruptor.* "$room/packages" && "$top/tools/packages.sh" "$room/packages"
+    mkdir -p "$room/packages" && cp -P "$library"/libdisruptor.* "$library/disruptor.pc" "$room/packages" && "$top/tools/packages.sh" "$room/packages"
 }
 
 package 'each language: the versions' test_versions
 package 'Python and Java: the build' build_packages
-if has cc c; then package C "$top/bindings/c/test.sh" "$library"; fi
+if has cc c; then
+    package C "$top/bindings/c/test.sh" "$library"
+    package 'what is packed' test_dist
+fi
 if command -v groff > "$room/null" 2>&1; then package 'C: the man pages' test_man_pages; else skip 'the man pages'; fi
 if has c++ cpp && command -v cmake > "$room/null" 2>&1; then package C++ test_cpp; else skip 'the package for C++'; fi
 if command -v cargo > "$room/null" 2>&1; then package Rust test_rust; else skip 'the crate for Rust'; fi

@@ -28,6 +28,9 @@ EACH = (
     "tests/program.sh disruptor",
     "tests/examples.py disruptor",
     "tests/words.py disruptor",
+    "tests/ledger/runs.py disruptor",
+    "tests/ledger/kill.py disruptor",
+    "tests/ledger/cuts.py disruptor",
 )
 QUIET = ("tests/progress.py disruptor", "tests/waits.py disruptor_waits disruptor")
 # What LLVM's build alone is tried with, and the tests of scripts, which need none.

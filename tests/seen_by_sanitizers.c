@@ -215,6 +215,22 @@ uint32_t disruptor_halt_at(disruptor_halter *halter, size_t halters) {
     return DISRUPTOR_OK;
 }
 
+uint32_t disruptor_cursor_at(disruptor_halter *halter, size_t halters, uint64_t *count, size_t numbers) {
+    (void)halters, (void)numbers;
+    if (!end_of(halter)) return DISRUPTOR_NOT_OPEN;
+    struct ring *ring = end_of(halter)->ring;
+    *count = atomic_load(ring->of_several ? &ring->claimed : &ring->cursor);
+    return DISRUPTOR_OK;
+}
+
+uint32_t disruptor_completed_at(disruptor_halter *halter, size_t halters, size_t handler, uint64_t *count, size_t numbers) {
+    (void)halters, (void)numbers;
+    if (!end_of(halter)) return DISRUPTOR_NOT_OPEN;
+    if (handler >= end_of(halter)->ring->handlers) return DISRUPTOR_NO_HANDLER;
+    *count = atomic_load(&end_of(halter)->ring->completed[handler]);
+    return DISRUPTOR_OK;
+}
+
 uint32_t disruptor_progress_at(void *handle, size_t handles, disruptor_counts *counts, size_t places) {
     const struct end *end = end_of(handle);
     (void)handles, (void)places;

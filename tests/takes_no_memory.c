@@ -111,7 +111,10 @@ static void send_slots(size_t count) {
 
 static void receive_slots(uint32_t last) {
     disruptor_offer offer;
+    uint64_t count;
+    expect("a look at the cursor", disruptor_cursor(&halter, &count), DISRUPTOR_OK);
     for (size_t h = 0; h < HANDLERS; h++) {
+        expect("a look at a count", disruptor_completed_by(&halter, h, &count), DISRUPTOR_OK);
         expect("a poll of slots", disruptor_poll_slots(&receivers[h], SIZE, &offer), DISRUPTOR_OK);
         if (offer.kind == DISRUPTOR_BATCH) expect("a completion", disruptor_complete(&receivers[h], offer.first + offer.count), DISRUPTOR_OK);
         expect("a poll without room", disruptor_poll_slots(&receivers[h], 0, &offer), DISRUPTOR_BAD_COUNT);

@@ -1,6 +1,6 @@
 #!/usr/bin/env bash
 # Packs what `make lib` left in the folder OUT for those who use it without the kit: a tarball with the library, the headers, the
-# packages, and in README the line of the kit that proved it.
+# packages, their examples, and in README the line of the kit that proved it.
 #
 #   tools/dist.sh OUT
 set -eu
@@ -25,17 +25,54 @@ rm -rf "$to/rust/target" "$to/rust/Cargo.lock"
 for it in "$out"/*.whl "$out/disruptor.jar"; do
     if [ -f "$it" ]; then cp "$it" "$to"; fi
 done
-mkdir -p "$to/share/doc/disruptor"
-for it in c cpp java python; do cp "$top/bindings/$it/README.md" "$to/share/doc/disruptor/$it.md"; done
+# The examples, and for Java the sources and the model of the project for a repository.
+cp "$top/bindings/java/pom.xml" "$to/disruptor.pom"
+(cd "$top/bindings/java/src/main/java" && python3 -m zipfile -c "$to/disruptor-sources.jar" module-info.java org)
+mkdir -p "$to/examples" "$to/share/doc/disruptor"
+for it in c cpp java python rust; do cp -r "$top/examples/$it" "$to/examples"; done
+rm -rf "$to/examples/rust/target" "$to/examples/rust/Cargo.lock" "$to/examples/python/__pycache__"
+sed -i 's|\.\./\.\./bindings/rust|../../rust|' "$to/examples/rust/Cargo.toml"
+
+# The README of a package, which says how to use what is packed.
+say() { # PACKAGE FILE
+    "$top/tools/dist_readme.py" "$top/bindings/$1/README.md" > "$to/$2"
+}
+say c share/doc/disruptor/c.md <<'END'
+In the folder where this was unpacked:
+
+```sh
+export PKG_CONFIG_PATH=$PWD/lib/pkgconfig
+cc -O2 my.c $(pkg-config --cflags --libs disruptor) -lpthread -o my
+```
+
+Where the loader does not look in `lib`, set `LD_LIBRARY_PATH`, or link `lib/libdisruptor.a`. `man -M share/man disruptor` begins the man pages.
+END
+say cpp share/doc/disruptor/cpp.md <<'END'
+`CMAKE_PREFIX_PATH` names the folder where this was unpacked, for CMake from 3.10 on, or `PKG_CONFIG_PATH` its `lib/pkgconfig`:
+
+```cmake
+find_package(disruptor REQUIRED)
+target_link_libraries(mine disruptor::static)   # or disruptor::shared
+```
+END
+say java share/doc/disruptor/java.md <<'END'
+`disruptor.jar` is for the class path or the module path, as the module `org.verified.disruptor`, and has the library in it: it runs on Linux, on the same processor. `mvn install:install-file -Dfile=disruptor.jar -Dsources=disruptor-sources.jar -DpomFile=disruptor.pom` puts it into the local repository as `org.verified:disruptor`. From Java 24 on, `--enable-native-access=org.verified.disruptor` (or `ALL-UNNAMED` on the class path) spares a warning.
+END
+say python share/doc/disruptor/python.md <<'END'
+`python3 -m pip install --no-index verified_disruptor-*.whl` in the folder where this was unpacked. The library lies in the wheel; it wants Python 3.9 or later, and nothing else.
+END
+say rust rust/README.md <<'END'
+`rust` is the crate, for a dependency by path. It links `lib/libdisruptor.a`, which lies beside it; `DISRUPTOR_LIB` names another folder. It wants Rust 1.63 or later and no other crate. `cargo test` tests it, offline too.
+END
 cat > "$to/README" <<END
 disruptor $said
 
 C, C++   include and lib: PKG_CONFIG_PATH names lib/pkgconfig, CMAKE_PREFIX_PATH this folder; man -M share/man disruptor
 Rust     rust is the crate, for a dependency by path
 Python   the wheel: pip install --no-index verified_disruptor-*.whl
-Java     disruptor.jar, for the class path or the module path
+Java     disruptor.jar, for the class path or the module path; disruptor.pom and disruptor-sources.jar for a repository
 
-Each begins with a whole program: rust/README.md, and share/doc/disruptor of the others.
+Each begins with a whole program: rust/README.md, and share/doc/disruptor of the others; examples has more.
 END
 tar -C "$room" -czf "$out/$name.tar.gz" "$name"
 echo "$out/$name.tar.gz"

@@ -15,7 +15,7 @@ CALL = re.compile(r"^static inline ([^;{]*?\b(disruptor_\w+)\([^;{]*\)) \{$", re
 
 
 # What only these calls themselves use.
-INNER = "add are_alone die give_up is_over name_thread or_nothing place_of send_rest show take_turns there work_on".split()
+INNER = "add at_fault complete_shown cut die follows give_up is_over name_thread not_alone or_nothing place_of send_rest show take_turns there work_on".split()
 
 
 def text_of(comment):
@@ -62,8 +62,12 @@ def main():
     with open(f"{TOP}/include/disruptor.h", encoding="utf-8") as file:
         version = re.search(r'DISRUPTOR_VERSION "(.*)"', file.read())[1]
     os.makedirs(sys.argv[1], exist_ok=True)
+    written = set()
     for header in ("disruptor.h", "disruptor_threads.h"):
         for name, text in pages_of(header, version).items():
+            if name in written:
+                sys.exit(f"two headers have a call with the name {name}")
+            written.add(name)
             with open(f"{sys.argv[1]}/{name}.3", "w", encoding="utf-8") as file:
                 file.write(text)
 

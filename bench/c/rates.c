@@ -5,7 +5,8 @@
  *
  * With `slots` the events lie in an array of this program, and else in the ring.
  * TOPOLOGY is unicast, pipeline, multicast or diamond, after sendersP- for P senders of one ring, and before -bN for claims
- * of N events. A handler adds up what it receives; a wrong sum ends the program. */
+ * of N events. With `slots`, bytesN- before all that stands for events of 16, 64, 256, 1024 or 4096 bytes, else they have 16. A handler
+ * adds up all words that it receives; a wrong sum ends the program. */
 #define _POSIX_C_SOURCE 200809L
 #include "disruptor.h"
 #include <pthread.h>
@@ -14,17 +15,17 @@
 #include <string.h>
 #include <time.h>
 
-enum { MOST_HANDLERS = 3, MOST_SENDERS = 16, MOST_AT_ONCE = 1024, STRETCH = 65536, MOST_SLOTS = 65536 };
+enum { MOST_HANDLERS = 3, MOST_SENDERS = 16, MOST_AT_ONCE = 1024, STRETCH = 65536, WORD = 8 };
 
 static struct order {
     uint64_t size, claim;
     double seconds;
-    size_t senders, handlers;
+    size_t senders, handlers, words;
     uint64_t upstreams[MOST_HANDLERS];
     bool in_slots;
 } order;
 
-static disruptor_event slots[MOST_SLOTS];
+static uint64_t *slots;
 
 static struct ring {
     disruptor_sender senders[MOST_SENDERS];
@@ -51,15 +52,50 @@ static double now(void) {
     return (double)time.tv_sec + (double)time.tv_nsec * 1e-9;
 }
 
+/* Of one width the compiler knows how many words an event has. */
+#define BY_WIDTH(call) \
+    switch (order.words) { \
+        case 2: call(2); break; \
+        case 8: call(8); break; \
+        case 32: call(32); break; \
+        case 128: call(128); break; \
+        default: call(512); \
+    }
+#define INLINE static inline __attribute__((always_inline))
+
+INLINE void fill(uint64_t lo, uint64_t number, size_t words) {
+    const uint64_t claim = order.claim, size = order.size;
+    uint64_t *const all = slots;
+    for (uint64_t k = 0; k < claim; k++) {
+        uint64_t *event = all + DISRUPTOR_SLOT(lo + k, size) * words;
+        event[0] = number + k;
+        for (size_t word = 1; word < words; word++) event[word] = 0;
+    }
+}
+
+INLINE uint64_t sum_in_slots(const disruptor_offer *offer, size_t words) {
+    uint64_t sum = 0;
+    for (uint64_t k = 0; k < offer->count; k++) {
+        const uint64_t *event = slots + DISRUPTOR_SLOT(offer->first + k, order.size) * words;
+        for (size_t word = 0; word < words; word++) sum += event[word];
+    }
+    return sum;
+}
+
+static void write_all(struct worker *sender, uint64_t lo) {
+    for (uint64_t k = 0; k < order.claim; k++) {
+        disruptor_event event = {sender->count + k, 0};
+        must(disruptor_write(sender->end, lo + k, &event), "write");
+    }
+}
+
 /* Claims, writes and publishes the next events of a sender. */
 static void send_next(struct worker *sender, disruptor_waiting *waiting) {
     uint64_t lo, n = order.claim;
     must(disruptor_claim_within(sender->end, n, &lo, waiting, DISRUPTOR_FOREVER), "claim");
-    for (uint64_t k = 0; k < n; k++) {
-        disruptor_event event = {sender->count + k, 0};
-        if (order.in_slots) slots[DISRUPTOR_SLOT(lo + k, order.size)] = event;
-        else must(disruptor_write(sender->end, lo + k, &event), "write");
-    }
+#define FILL(words) fill(lo, sender->count, words)
+    if (order.in_slots) BY_WIDTH(FILL)
+    else write_all(sender, lo);
     if (order.in_slots) must(disruptor_publish_slots(sender->end, lo, lo + n - 1), "publish");
     else must(disruptor_publish(sender->end, lo, lo + n - 1), "publish");
     sender->count += n;
@@ -79,10 +115,9 @@ static void *send_all(void *given) {
 /* What a handler took: in slots it lies where it was written. */
 static uint64_t sum_of(const disruptor_event *taken, const disruptor_offer *offer) {
     uint64_t sum = 0;
-    for (uint64_t k = 0; k < offer->count; k++) {
-        const disruptor_event *event = order.in_slots ? &slots[DISRUPTOR_SLOT(offer->first + k, order.size)] : &taken[k];
-        sum += event->first + event->second;
-    }
+#define ADD(words) return sum_in_slots(offer, words)
+    if (order.in_slots) BY_WIDTH(ADD)
+    for (uint64_t k = 0; k < offer->count; k++) sum += taken[k].first + taken[k].second;
     return sum;
 }
 
@@ -153,11 +188,24 @@ static double play(uint64_t *events) {
     return took;
 }
 
+/* Whether events may have so many words. */
+static bool has_width(void) {
+    static const size_t widths[] = {2, 8, 32, 128, 512};
+    bool found = false;
+    for (size_t k = 0; k < sizeof widths / sizeof *widths; k++) found |= order.words == widths[k];
+    return found && (order.in_slots || order.words == 2);
+}
+
 /* Reads a topology's name; answers whether there is such a one. */
 static bool read_topology(char *name) {
     static const struct { const char *name; size_t handlers; uint64_t upstreams[MOST_HANDLERS]; } shapes[] = {
         {"unicast", 1, {0}}, {"pipeline", 3, {0, 1, 2}}, {"multicast", 3, {0, 0, 0}}, {"diamond", 3, {0, 0, 3}}};
     char *word = strtok(name, "-");
+    order.words = 2;
+    if (word && strncmp(word, "bytes", 5) == 0) {
+        order.words = strtoull(word + 5, NULL, 10) / WORD;
+        word = strtok(NULL, "-");
+    }
     if (word && strncmp(word, "senders", 7) == 0) {
         order.senders = strtoull(word + 7, NULL, 10);
         if (order.senders < 1 || order.senders > MOST_SENDERS) return false;
@@ -170,7 +218,7 @@ static bool read_topology(char *name) {
     }
     word = strtok(NULL, "-");
     order.claim = word ? strtoull(word + 1, NULL, 10) : 1;
-    return order.handlers > 0 && order.claim > 0;
+    return order.handlers > 0 && order.claim > 0 && has_width();
 }
 
 static int by_rate(const void *one, const void *other) {
@@ -190,6 +238,8 @@ int main(int argc, char **argv) {
     order.size = strtoull(argv[2], NULL, 10);
     order.seconds = strtod(argv[3], NULL);
     if (order.claim > order.size) order.claim = order.size;
+    slots = aligned_alloc(4096, order.size * 4096);
+    if (!slots) exit(6);
     static double rates[1000];
     uint64_t events = 0;
     for (int k = 0; k < rounds; k++) {

@@ -109,13 +109,13 @@ class Refusing:
             file.write(text)
         return self.path(name)
 
-    def run(self, words, **refusing):
+    def run(self, words, text=b"", **refusing):
         """Runs a program, and tells how many requests it made, how many were refused, and how many files it brought to the disk."""
         with open(self.counts, "wb") as file:
             file.write(bytes(24))
         settings = {f"REFUSING_{name.upper()}": str(value) for name, value in refusing.items()}
         settings |= {"LD_PRELOAD": self.library, "REFUSING_COUNTS": self.counts}
-        how = {"stdin": subprocess.DEVNULL, "capture_output": True, "timeout": 60}
+        how = {"input": text, "capture_output": True, "timeout": 60}
         try:
             ran = subprocess.run(words, env=os.environ | settings, **how)
             ran = Ran(ran.returncode, ran.stdout, ran.stderr)
@@ -234,6 +234,35 @@ def refuse_all_once_open(refusing, calls):
         refusing.judge(f"calls of case {case}, all memory refused once it is open", holds, (met, whole))
 
 
+def refuse_in_ledger(refusing, program):
+    """A ledger that finds no memory has stored what it answered, and goes on from that when it is started again."""
+    files = [refusing.path(name) for name in ("journal", "replica")]
+    words = [program, "ledger", "--journal", files[0], "--replica", files[1]]
+    kinds, whole = Counter(), None
+    for at in itertools.count(0):
+        for file in files:
+            if os.path.exists(file):
+                os.remove(file)
+        met = refusing.run(words, OPERATIONS.encode(), **({"at": at} if at else {}))
+        if not at:
+            whole = met.ran
+            refusing.judge("a ledger with ample memory", whole.status == 0 and whole.out.count(b"\n") == 4, met)
+            continue
+        if met.ran == whole and not met.refused:
+            break
+        ends = met.ran.err in (b"no-memory\n", b"recovered 0\nno-memory\n", b"journal: no-memory\n", b"replica: no-memory\n")
+        began = whole.out.startswith(met.ran.out) and met.ran.out[-1:] in (b"", b"\n")
+        again = refusing.run(words).ran
+        stored = int(again.err.split()[-1]) if again.status == 0 else -1
+        # (some requests it can do without)
+        stops = met.ran == whole or met.ran.status == 3 and ends
+        holds = met.refused == 1 and stops and began and stored >= met.ran.out.count(b"\n")
+        if not holds:
+            return refusing.judge(f"a ledger, request {at} refused", False, (met, again))
+        kinds[stored] += 1
+    refusing.judge("a ledger, out of memory before and after it stored", kinds[0] and kinds[4], kinds)
+
+
 def write_to_the_disk(refusing, program):
     """What goes to a file is brought to the disk."""
     for tool, text in (("drive", DIAMOND), ("replay", OPERATIONS)):
@@ -248,6 +277,7 @@ def main():
         refusing = Refusing(folder)
         refuse_in_drive(refusing, program)
         refuse_in_replays(refusing, program)
+        refuse_in_ledger(refusing, program)
         refuse_in_replay_of_one(refusing, program)
         refuse_threads(refusing, program, calls)
         refuse_in_calls(refusing, calls)

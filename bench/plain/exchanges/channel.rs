@@ -1,8 +1,11 @@
-//! Bounded channels, one for each edge of the graph, with a thread for each end. Those of std are crossbeam's. A handler
-//! takes an event from each of its upstreams, and hands it on to each of its followers.
+//! Bounded channels, one for each edge of the graph, with a thread for each end: those of std, which are crossbeam's, or with
+//! `--cfg crossbeam` those of crossbeam's own crate. A handler takes an event from each of its upstreams, and hands it on to each of its followers.
 
 use crate::topology::Shape;
 use crate::{Event, Order, Round, STRETCH, check_total, event_at};
+#[cfg(crossbeam)]
+use crossbeam_channel::{Receiver, Sender as SyncSender, bounded as sync_channel};
+#[cfg(not(crossbeam))]
 use std::sync::mpsc::{Receiver, SyncSender, sync_channel};
 use std::thread;
 use std::time::Instant;

@@ -11,7 +11,7 @@ static void expect(bool holds, const char *what, int line) {
 }
 #define EXPECT(fact) expect(fact, #fact, __LINE__)
 
-static uint64_t events[4], odd[3];
+static uint64_t events[4], odd[3], many[1024];
 static uint64_t most, sum;
 
 static int none(void *own, void *event, uint64_t sequence, bool is_last) {
@@ -42,22 +42,30 @@ static int follows(void *own, void *event, uint64_t sequence, bool is_last) {
     return 0;
 }
 
+static bool is_at_fault(const disruptor_graph *graph, const char *name, const char *why) {
+    return strcmp(graph->at_fault, name) == 0 && strcmp(graph->why, why) == 0;
+}
+
 static void graphs_are_refused(void) {
     disruptor_graph twice_a = DISRUPTOR_GRAPH(events);
     EXPECT(disruptor_handle(&twice_a, "a", none, NULL, "") == DISRUPTOR_OK);
     EXPECT(disruptor_handle(&twice_a, "a", none, NULL, "") == DISRUPTOR_BAD_ORDER);
     EXPECT(disruptor_start(&twice_a) == DISRUPTOR_BAD_ORDER);
+    EXPECT(is_at_fault(&twice_a, "a", "another handler has this name"));
     disruptor_graph unknown = DISRUPTOR_GRAPH(events);
     EXPECT(disruptor_handle(&unknown, "a", none, NULL, "b") == DISRUPTOR_BAD_ORDER);
+    EXPECT(is_at_fault(&unknown, "a", "it follows a name that no handler before it has"));
     disruptor_graph parallel = DISRUPTOR_GRAPH(events);
     EXPECT(disruptor_handle(&parallel, "a", none, NULL, "") == DISRUPTOR_OK);
     EXPECT(disruptor_handle_changing(&parallel, "b", twice, NULL, "") == DISRUPTOR_OK);
     EXPECT(disruptor_start(&parallel) == DISRUPTOR_BAD_ORDER);
+    EXPECT(is_at_fault(&parallel, "b", "it would change events that another handler reads at the same time"));
     disruptor_graph no_power = DISRUPTOR_GRAPH(odd);
     EXPECT(disruptor_handle(&no_power, "a", none, NULL, "") == DISRUPTOR_OK);
     EXPECT(disruptor_start(&no_power) == DISRUPTOR_BAD_SIZE);
     disruptor_graph empty = DISRUPTOR_GRAPH(events);
     EXPECT(disruptor_start(&empty) == DISRUPTOR_NO_HANDLERS);
+    EXPECT(is_at_fault(&empty, "the ring", disruptor_text(DISRUPTOR_NO_HANDLERS)));
 }
 
 static void each_follows_its_own(void) {
@@ -97,6 +105,12 @@ static void a_handler_that_fails_halts_the_ring(void) {
     EXPECT(most < 10);
 }
 
+static int counts(void *own, void *event, uint64_t sequence, bool is_last) {
+    (void)event, (void)sequence, (void)is_last;
+    ++*(uint64_t *)own;
+    return 0;
+}
+
 /* Handles the first two events only once the third is claimed. */
 static int fails_at_one(void *own, void *event, uint64_t sequence, bool is_last) {
     (void)event, (void)is_last;
@@ -106,18 +120,41 @@ static int fails_at_one(void *own, void *event, uint64_t sequence, bool is_last)
 
 static int dies(void *own, void *event, uint64_t sequence, bool is_last) {
     (void)own, (void)event, (void)is_last;
-    if (sequence == 1) pthread_exit(NULL);
+    if (sequence == 3) pthread_exit(NULL);
     return 0;
 }
 
 static void a_handler_whose_thread_ends_halts_the_ring(void) {
-    uint64_t lo;
+    uint64_t lo, followed = 0;
     disruptor_graph graph = DISRUPTOR_GRAPH(events);
     disruptor_handle(&graph, "dies", dies, NULL, NULL);
-    disruptor_handle(&graph, "follows", none, NULL, "dies");
+    disruptor_handle(&graph, "follows", counts, &followed, "dies");
     EXPECT(disruptor_start(&graph) == DISRUPTOR_OK);
-    while (!disruptor_next(&graph, 1, &lo)) disruptor_send(&graph, lo, 1);
+    while (!disruptor_next(&graph, 4, &lo)) disruptor_send(&graph, lo, 4);
     EXPECT(disruptor_finish(&graph) == -1 && strcmp(graph.failed, "dies") == 0);
+    EXPECT(followed == 3);
+}
+
+static int fails_once(void *own, void *event, uint64_t sequence, bool is_last) {
+    bool *has_failed = own;
+    const bool fails = sequence == 3 && !*has_failed;
+    (void)event, (void)is_last;
+    *has_failed = *has_failed || fails;
+    return fails ? 9 : 0;
+}
+
+static void a_graph_that_failed_may_be_started_again(void) {
+    uint64_t lo, followed = 0;
+    bool has_failed = false;
+    disruptor_graph graph = DISRUPTOR_GRAPH(events);
+    disruptor_handle(&graph, "fails", fails_once, &has_failed, NULL);
+    disruptor_handle(&graph, "follows", counts, &followed, "fails");
+    for (int round = 0; round < 2; round++) {
+        EXPECT(disruptor_start(&graph) == DISRUPTOR_OK);
+        EXPECT(disruptor_next(&graph, 4, &lo) == DISRUPTOR_OK && disruptor_send(&graph, lo, 4) == DISRUPTOR_OK);
+        EXPECT(disruptor_finish(&graph) == (round == 0 ? 9 : 0) && !graph.failed == (round == 1));
+        EXPECT(followed == (round == 0 ? 3 : 7) && disruptor_completed(&graph, "fails") == (round == 0 ? 3 : 4));
+    }
 }
 
 /* Its thread stays on the first processor that the program may use. */
@@ -139,12 +176,6 @@ static void a_handler_may_keep_its_thread_on_a_processor(void) {
     EXPECT(!disruptor_pin(1024) && !disruptor_pin(UINT32_MAX));
 }
 
-static int counts(void *own, void *event, uint64_t sequence, bool is_last) {
-    (void)event, (void)sequence, (void)is_last;
-    ++*(uint64_t *)own;
-    return 0;
-}
-
 /* The third event is published only once the handler of the second failed. */
 static void who_follows_has_what_was_completed_and_others_have_all(void) {
     uint64_t lo, followed = 0, counted = 0;
@@ -162,6 +193,31 @@ static void who_follows_has_what_was_completed_and_others_have_all(void) {
     /* (the claim that is open is published) */
     EXPECT(disruptor_finish(&graph) == 5 && strcmp(graph.failed, "fails") == 0);
     EXPECT(followed == 1 && counted == 3);
+}
+
+static int fails_at_500(void *own, void *event, uint64_t sequence, bool is_last) {
+    (void)own, (void)event, (void)is_last;
+    return sequence == 500 ? 42 : 0;
+}
+
+static int is_slow(void *own, void *event, uint64_t sequence, bool is_last) {
+    const struct timespec long_time = {0, 100000000};
+    (void)own, (void)event, (void)is_last;
+    if (sequence == 100) thrd_sleep(&long_time, NULL);
+    return 0;
+}
+
+/* One that it follows fails while the other one is on its way. */
+static void who_follows_two_has_what_both_completed_up_to_the_cut(void) {
+    uint64_t lo, followed = 0;
+    disruptor_graph graph = DISRUPTOR_GRAPH(many);
+    disruptor_handle(&graph, "fails", fails_at_500, NULL, NULL);
+    disruptor_handle(&graph, "slow", is_slow, NULL, NULL);
+    disruptor_handle(&graph, "follows", counts, &followed, "fails slow");
+    EXPECT(disruptor_start(&graph) == DISRUPTOR_OK);
+    EXPECT(disruptor_next(&graph, 800, &lo) == DISRUPTOR_OK && disruptor_send(&graph, lo, 800) == DISRUPTOR_OK);
+    EXPECT(disruptor_finish(&graph) == 42 && strcmp(graph.failed, "fails") == 0);
+    EXPECT(followed == 500 && disruptor_completed(&graph, "slow") == 800);
 }
 
 static void a_deadline_ends_a_wait(void) {
@@ -195,7 +251,9 @@ int main(void) {
     each_follows_its_own();
     a_handler_that_fails_halts_the_ring();
     who_follows_has_what_was_completed_and_others_have_all();
+    who_follows_two_has_what_both_completed_up_to_the_cut();
     a_handler_whose_thread_ends_halts_the_ring();
+    a_graph_that_failed_may_be_started_again();
     a_handler_may_keep_its_thread_on_a_processor();
     puts("each test passed");
     return 0;

@@ -148,6 +148,19 @@ void an_end_that_was_moved_from_is_not_open() {
     EXPECT(receiver.receive(4, fill_nothing).count == 1);
 }
 
+void a_run_that_was_moved_from_is_not_open() {
+    disruptor::builder<int> graph(4);
+    graph.handle("one", [](const int &, std::uint64_t, bool) {});
+    auto one = graph.start();
+    auto moved_one = std::move(one);
+    EXPECT(refused([&] { one.halt(); }) == DISRUPTOR_NOT_OPEN && refused([&] { one.finish(); }) == DISRUPTOR_NOT_OPEN);
+    graph.handle("one", [](const int &, std::uint64_t, bool) {});
+    auto several = graph.start_several(2);
+    auto moved_several = std::move(several);
+    EXPECT(refused([&] { several.halt(); }) == DISRUPTOR_NOT_OPEN && refused([&] { several.finish(); }) == DISRUPTOR_NOT_OPEN);
+    moved_several.finish();
+}
+
 void a_filler_that_publishes_is_refused() {
     auto ring = disruptor::open_in_place<std::uint64_t>(4, {0});
     EXPECT(refused([&] { ring.sender.publish([&](std::uint64_t &) { ring.sender.publish([](std::uint64_t &) {}); }); })
@@ -181,6 +194,24 @@ void who_follows_one_that_fails_has_what_it_completed_and_others_have_all() {
     EXPECT((follows == numbers{0} && counts == numbers{0, 1, 2}));
 }
 
+// One that it follows fails while the other one is on its way.
+void who_follows_two_has_what_both_completed_up_to_the_cut() {
+    std::uint64_t slow = 0, followed = 0;
+    disruptor::builder<std::uint64_t> graph(1024);
+    graph.handle("fails", [](std::uint64_t, std::uint64_t sequence, bool) {
+        if (sequence == 500) throw std::runtime_error("the event 500");
+    });
+    graph.handle("slow", [&](std::uint64_t, std::uint64_t sequence, bool) {
+        if (sequence == 100) std::this_thread::sleep_for(std::chrono::milliseconds(100));
+        slow++;
+    });
+    graph.and_then().handle("follows", [&](std::uint64_t, std::uint64_t, bool) { followed++; });
+    auto ring = graph.start();
+    ring.publish_batch(800, fill);
+    EXPECT(thrown<disruptor::handler_failed>([&] { ring.finish(); }) == "a handler threw: fails");
+    EXPECT(followed == 500 && slow == 800);
+}
+
 void graphs_are_refused_by_name() {
     const auto none = [](const int &, std::uint64_t, bool) {};
     const auto changes = [](int &, std::uint64_t, bool) {};
@@ -206,6 +237,8 @@ void a_handler_that_throws_halts_the_ring_and_is_named() {
         for (std::uint64_t k = 0; k < 100; k++) ring.publish([&](std::uint64_t &event) { event = k; });
     });
     EXPECT(number == DISRUPTOR_HALTED);
+    // (the refusal says which one)
+    EXPECT(thrown<disruptor::handler_failed>([&] { ring.publish([](std::uint64_t &) {}); }) == "a handler threw: first");
     try {
         ring.finish();
         EXPECT(false);
@@ -287,8 +320,10 @@ int main() {
     a_receiver_that_goes_away_halts_the_ring();
     a_sender_that_goes_away_closes_the_ring_or_gives_it_up();
     an_end_that_was_moved_from_is_not_open();
+    a_run_that_was_moved_from_is_not_open();
     a_filler_that_publishes_is_refused();
     who_follows_one_that_fails_has_what_it_completed_and_others_have_all();
+    who_follows_two_has_what_both_completed_up_to_the_cut();
     graphs_are_refused_by_name();
     a_handler_that_throws_halts_the_ring_and_is_named();
     several_senders_share_a_ring();

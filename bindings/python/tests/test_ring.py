@@ -3,6 +3,7 @@
 import array
 import os
 import re
+import struct
 import subprocess
 import sys
 import threading
@@ -146,6 +147,25 @@ class Ring(unittest.TestCase):
                 time.sleep(0.03)
         self.assertEqual((raised.exception.name, follows, counts), ("fails", [0], [0, 1, 2]))
 
+    # (one that it follows fails while the other one is on its way)
+    def test_who_follows_two_has_what_both_completed_up_to_the_cut(self):
+        follows, slow = [], []
+
+        def fail(event, sequence, is_last):
+            if sequence == 500:
+                raise ValueError
+
+        def wait(event, sequence, is_last):
+            if sequence == 100:
+                time.sleep(0.1)
+            slow.append(sequence)
+
+        disruptor = Disruptor(1024, Event).handle("fails", fail).handle("slow", wait).and_then()
+        disruptor.handle("follows", lambda *shown: follows.append(shown[1]))
+        with self.assertRaises(HandlerFailed) as raised, disruptor.sender() as sender:
+            send(sender, range(800))
+        self.assertEqual((raised.exception.name, len(follows), len(slow)), ("fails", 500, 800))
+
     def test_a_sender_has_one_claim_at_a_time(self):
         seen = []
         disruptor = Disruptor(4, Event).handle("sees", lambda event, sequence, is_last: seen.append(sequence))
@@ -180,6 +200,14 @@ class Ring(unittest.TestCase):
         with disruptor.senders(1) as senders:
             senders[0].event()
         self.assertEqual(seen, [])
+
+    def test_once_it_started_no_handler_is_added_and_a_name_is_one_of_its_own(self):
+        disruptor = Disruptor(4, Event).handle("one", lambda *shown: None)
+        for _ in range(2):
+            with self.assertRaisesRegex(ValueError, "has the name two"):
+                disruptor.completed("two")
+            with disruptor.sender(), self.assertRaisesRegex(RuntimeError, "it has started"):
+                disruptor.handle("two", lambda *shown: None)
 
     def test_a_thread_that_does_not_start_ends_the_others(self):
         started, start = [], threading.Thread.start
@@ -250,6 +278,14 @@ class Ring(unittest.TestCase):
                 record[0], record[1] = 60, 1
         self.assertEqual(seen, [it for k in range(61) for it in (k, k + 1)])
         ends = Ends(4, lambda size: Records(size, "QQ"), [0])
+        for other in (array.array("d", [1.0, 2.0]), array.array("q", [1, 2]), array.array("I", [1, 2, 3, 4])):
+            with self.assertRaises(TypeError):
+                ends.senders[0].send(other)
+        self.assertEqual(ends.senders[0].published, 0)
+        like = Ends(4, lambda size: Records(size, "QQ"), [0])
+        like.senders[0].send(array.array("L", [1, 2]))
+        like.senders[0].send(struct.pack("QQ", 3, 4))
+        self.assertEqual([list(it) for it in like.slots.each(0, 2)], [[1, 2], [3, 4]])
         ends.senders[0].send(array.array("Q", range(8)))
         self.refused(Reason.NO_ROOM, ends.senders[0].send, array.array("Q", [1, 2]), 0.02)
         one_by_one = []
@@ -259,6 +295,9 @@ class Ring(unittest.TestCase):
             sender.send(array.array("Q", range(6)))
         self.assertEqual(one_by_one, [(0, 1, 0), (2, 3, 1), (4, 5, 2)])
         self.assertRaises(ValueError, Records, 4, "QI")
+
+    def test_a_reason_prints_its_name(self):
+        self.assertEqual((str(Reason.NO_ROOM), f"{Reason.NO_ROOM}", str(Refusal(1)), int(Reason.NO_ROOM)), ("no-room", "no-room", "no-room", 1))
 
     def test_a_thread_that_sleeps_is_woken(self):
         late = []

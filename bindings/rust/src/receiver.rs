@@ -140,8 +140,8 @@ impl<T> Receiver<T> {
         Ok(Showing { handle: end, bell: &ring.bell, completed, shown, at, upto }.show(front.iter().chain(back), handle))
     }
 
-    /// The same, once there are events: what it finds when the time is up, or when a handler that it follows went away, may be none.
-    /// It may take ten milliseconds more, where it sleeps.
+    /// The same, once there are events: what it finds when the time is up, or at its cut where a handler that it follows went away,
+    /// may be none. It may take ten milliseconds more, where it sleeps.
     pub fn receive_timeout(
         &mut self,
         room: u64,
@@ -149,15 +149,10 @@ impl<T> Receiver<T> {
         mut handle: impl FnMut(&T, u64, bool),
     ) -> Result<Polled, Refusal> {
         let deadline = Instant::now().checked_add(timeout);
-        let mut is_last_look = false;
+        let is_over = || deadline.map_or(false, |it| Instant::now() >= it);
         loop {
             match self.receive(room, &mut handle)? {
-                Polled::Gating | Polled::Idle if !is_last_look => {
-                    is_last_look = self.lost_one() || deadline.map_or(false, |it| Instant::now() >= it);
-                    if !is_last_look {
-                        self.waiting.wait();
-                    }
-                }
+                Polled::Gating | Polled::Idle if !self.is_cut() && !is_over() => self.waiting.wait(),
                 found => {
                     self.waiting.found(if let Polled::Handled(count) = found { count } else { 0 });
                     return Ok(found);
@@ -194,22 +189,19 @@ impl<T> Receiver<T> {
 
     fn take_turns(&mut self, mut turn: impl FnMut(&mut Self, u64) -> Result<Polled, Refusal>) -> Result<(), Broken> {
         let room = self.size();
-        let mut is_last_look = false;
         loop {
             match turn(self, room).expect("a poll with room is not refused") {
                 Polled::Handled(count) => self.waiting.found(count),
                 Polled::Drained => return Ok(()),
-                Polled::Gating | Polled::Idle if is_last_look => return Err(Broken),
-                // (it looks once more for what that one completed)
-                Polled::Gating | Polled::Idle if self.lost_one() => is_last_look = true,
+                Polled::Gating | Polled::Idle if self.is_cut() => return Err(Broken),
                 Polled::Gating | Polled::Idle => self.waiting.wait(),
             }
         }
     }
 
-    /// Whether a handler that it follows went away.
-    fn lost_one(&self) -> bool {
-        self.ring.lacks(self.place.upstreams)
+    /// Whether a handler that it follows went away, and it had all that comes before its cut.
+    fn is_cut(&self) -> bool {
+        self.completed.count() >= self.ring.cut(self.place.upstreams)
     }
 
     /// Whether each other handler comes before it or after it, so that it has its events alone.
@@ -240,7 +232,7 @@ impl<T> Receiver<T> {
 impl<T> Drop for Receiver<T> {
     fn drop(&mut self) {
         if !self.is_drained {
-            self.ring.give_up(self.place.k);
+            self.ring.give_up(self.place.k, self.completed.count());
         }
     }
 }

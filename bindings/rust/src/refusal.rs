@@ -54,6 +54,8 @@ refusals! {
     NotTaken = 9,
     /// The handler has completed more already.
     Behind = 10,
+    /// The ring has no handler of that number.
+    NoHandler = 12,
     /// Another sender claimed meanwhile: try again.
     Contended = 16,
     /// There would be more than 16 handlers.

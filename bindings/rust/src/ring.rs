@@ -6,12 +6,16 @@ use crate::waiting::Bell;
 use std::sync::atomic::{AtomicU64, AtomicUsize, Ordering};
 use std::sync::{Arc, Mutex, PoisonError};
 
+const MOST_HANDLERS: usize = 16;
+
 pub(crate) struct Ring<T> {
     pub slots: Slots<T>,
     pub bell: Arc<Bell>,
     halter: Mutex<Handle>,
     // The handlers that went away before they had every event, so those who follow them never will have.
     gone: AtomicU64,
+    // How many events each of these completed.
+    completed: [AtomicU64; MOST_HANDLERS],
     // How many of its several senders are not dropped.
     senders: AtomicUsize,
 }
@@ -19,7 +23,7 @@ pub(crate) struct Ring<T> {
 impl<T> Ring<T> {
     pub(crate) fn new(slots: Slots<T>, halter: Handle, senders: usize) -> Ring<T> {
         let (gone, senders) = (AtomicU64::new(0), AtomicUsize::new(senders));
-        Ring { slots, bell: Arc::default(), halter: Mutex::new(halter), gone, senders }
+        Ring { slots, bell: Arc::default(), halter: Mutex::new(halter), gone, completed: Default::default(), senders }
     }
 
     /// Halts the ring once the last of several senders is dropped, since nobody claims any more.
@@ -37,14 +41,18 @@ impl<T> Ring<T> {
         self.bell.ring();
     }
 
-    /// Halts the ring, so that no sender waits for handler `k`, which is gone.
-    pub(crate) fn give_up(&self, k: usize) {
+    /// Halts the ring, so that no sender waits for handler `k`, which is gone after so many events.
+    pub(crate) fn give_up(&self, k: usize, completed: u64) {
+        self.completed[k].store(completed, Ordering::SeqCst);
         self.gone.fetch_or(1 << k, Ordering::SeqCst);
         self.halt();
     }
 
-    /// Whether one of these handlers is gone.
-    pub(crate) fn lacks(&self, handlers: u64) -> bool {
-        self.gone.load(Ordering::SeqCst) & handlers != 0
+    /// Where those who follow these handlers are cut: at the least count of those of them that are gone.
+    pub(crate) fn cut(&self, upstreams: u64) -> u64 {
+        let gone = self.gone.load(Ordering::SeqCst) & upstreams;
+        let counts =
+            (0..MOST_HANDLERS).filter(|k| gone >> k & 1 == 1).map(|k| self.completed[k].load(Ordering::SeqCst));
+        counts.min().unwrap_or(u64::MAX)
     }
 }

@@ -195,6 +195,30 @@ fn who_follows_one_that_panics_has_what_it_completed_and_others_have_all() {
     assert_eq!(counted.map(|it| it.load(Ordering::SeqCst)), [3, 1]);
 }
 
+// (one that it follows fails while the other one is on its way)
+#[test]
+fn who_follows_two_has_what_both_completed_up_to_the_cut() {
+    let counted: [Arc<AtomicUsize>; 2] = Default::default();
+    let [slow, follows] = counted.clone();
+    let mut disruptor = Builder::new(1024, || 0u64)
+        .handle("fails", |_, sequence, _| assert!(sequence < 500, "the event 500"))
+        .handle("slow", move |_, sequence, _| {
+            if sequence == 100 {
+                std::thread::sleep(Duration::from_millis(300)); // (a panic takes a while)
+            }
+            slow.fetch_add(1, Ordering::SeqCst);
+        })
+        .and_then()
+        .handle("follows", move |_, _, _| {
+            follows.fetch_add(1, Ordering::SeqCst);
+        })
+        .build()
+        .unwrap();
+    disruptor.publish_batch(800, |_| ()).unwrap();
+    assert_eq!(disruptor.finish().unwrap_err().names(), ["fails"]);
+    assert_eq!(counted.map(|it| it.load(Ordering::SeqCst)), [800, 500]);
+}
+
 #[test]
 fn several_senders_share_a_ring() {
     for wait in [Wait::Parking, Wait::Yielding] {

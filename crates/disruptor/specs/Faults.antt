@@ -4,6 +4,7 @@ use Rattle.dr_check.specs.Verdict.{check_line, check_status}
 use Rattle.dr_command_line.specs.LineFaults.{line_status, line_text}
 use Rattle.dr_drive.specs.Meaning.Causes.{cause_name}
 use Rattle.dr_files.specs.Faults.{fault_line, fault_status}
+use Rattle.dr_ledger.specs.Faults.{ledger_line, ledger_status, start_line, start_status}
 use Rattle.dr_replay.specs.Calls.ReplayFaults.{replay_line, replay_status}
 use Rattle.disruptor.specs.declared.Fault.{Fault}
 use Rattle.disruptor.specs.declared.Fault.TheVariants as ended
@@ -13,6 +14,8 @@ program_line (ended.Line refused) = line_text refused
 program_line (ended.Check fault) = check_line fault
 program_line (ended.Drive fault) = fault_line cause_name fault
 program_line (ended.Replay fault) = replay_line fault
+program_line (ended.Start fault) = start_line fault
+program_line (ended.Ledger fault) = ledger_line fault
 program_line ended.Memory = codes "no-memory"
 program_line ended.Read = codes "cannot read"
 program_line ended.Write = codes "cannot write"
@@ -23,6 +26,8 @@ program_status (ended.Line refused) = line_status refused
 program_status (ended.Check fault) = check_status fault
 program_status (ended.Drive fault) = fault_status fault
 program_status (ended.Replay fault) = replay_status fault
+program_status (ended.Start fault) = start_status fault
+program_status (ended.Ledger fault) = ledger_status fault
 program_status ended.Memory = 3
 program_status ended.Read = 4
 program_status ended.Write = 4

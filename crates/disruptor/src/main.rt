@@ -5,6 +5,7 @@
 ghost use Rattle.std.specs.Prelude.{◌≡◌, Some};
 ghost use Rattle.disruptor.specs.Faults.{program_line, program_status};
 
+mod live;
 mod output;
 mod progress;
 mod watched;
@@ -15,6 +16,7 @@ use crate::watched::{Input, Output};
 use dr_check::{CheckFault, check_drive, check_replay};
 use dr_command_line::{By, LineFault, Plan, Tool, plan};
 use dr_drive::{DriveFault, drive};
+use dr_ledger::{LedgerFault, StartFault};
 use dr_replay::{Counted, ReplayFault, replay_lock, replay_plain, replay_ring};
 use dr_seq::Size;
 use dr_workers::OpenGate;
@@ -37,6 +39,10 @@ enum Fault {
     Drive(DriveFault),
     /// A run over a file of operations ended early.
     Replay(ReplayFault),
+    /// A ledger does not start, or a journal is not printed.
+    Start(StartFault),
+    /// A ledger ended early.
+    Ledger(LedgerFault),
     /// There is no memory for the output's buffer, or for the name of the file beside it.
     Memory,
     /// A file could not be opened.
@@ -54,6 +60,8 @@ impl fmt::Display for Fault {
             Fault::Check(fault) => write!(f, "{fault}"),
             Fault::Drive(fault) => write!(f, "{fault}"),
             Fault::Replay(fault) => write!(f, "{fault}"),
+            Fault::Start(fault) => write!(f, "{fault}"),
+            Fault::Ledger(fault) => write!(f, "{fault}"),
             Fault::Memory => write!(f, "no-memory"),
             Fault::Read => write!(f, "cannot read"),
             Fault::Write => write!(f, "cannot write"),
@@ -71,6 +79,8 @@ impl Fault {
             Fault::Check(fault) => fault.status(),
             Fault::Drive(fault) => fault.status(),
             Fault::Replay(fault) => fault.status(),
+            Fault::Start(fault) => fault.status(),
+            Fault::Ledger(fault) => fault.status(),
             Fault::Memory => 3,
             Fault::Read => 4,
             Fault::Write => 4,
@@ -249,6 +259,8 @@ fn run<T: Threads + Wait + Sync>(rt: &HostRuntime, workers: &T) -> Result<(), Fa
     let (file, output, task) = match read_plan(rt).map_err(Fault::Line)? {
         Plan::Help(text) => return print(rt, text),
         Plan::Check { tool, file } => return check_file(rt, tool, file.as_str()),
+        Plan::Ledger { journal, replica } => return live::serve(rt, journal.as_str(), replica),
+        Plan::Journal { file } => return live::print(rt, file.as_str()),
         Plan::Drive { file, output } => (file, output, Task::Drive),
         Plan::Replay {
             file,

@@ -22,10 +22,6 @@ struct Merged {
 }
 
 impl InPlaceHandler<u64> for Merged {
-    ghost use Rattle.std.specs.Prelude.{⊤};
-
-    ghost goes = { λ old event s end new. ⊤ };
-
     fn on_event_in_place(&mut self, event: &u64, _s: u64, _end: bool) {
         if *event < 100 {
             self.in_order = self.in_order && *event == self.low;

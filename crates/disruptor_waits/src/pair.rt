@@ -40,10 +40,6 @@ pub struct Taker {
 }
 
 impl InPlaceHandler<u64> for Taker {
-    ghost use Rattle.std.specs.Prelude.{⊤};
-
-    ghost goes = { λ old event s end new. ⊤ };
-
     fn on_event_in_place(&mut self, event: &u64, _s: u64, _end: bool) {
         self.taken.number.store(*event, Ordering::SeqCst);
         self.taken.bell.ring();
@@ -55,10 +51,6 @@ impl InPlaceHandler<u64> for Taker {
 pub struct Idler;
 
 impl InPlaceHandler<u64> for Idler {
-    ghost use Rattle.std.specs.Prelude.{⊤};
-
-    ghost goes = { λ old event s end new. ⊤ };
-
     fn on_event_in_place(&mut self, _event: &u64, _s: u64, _end: bool) {}
 }
 

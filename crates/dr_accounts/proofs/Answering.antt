@@ -11,18 +11,19 @@ use Rattle.dr_accounts.specs.Handlers.{Booked, HasBusiness, balance_in, kept}
 use Rattle.dr_accounts.specs.Report.{Line}
 use Rattle.dr_accounts.specs.Responding.{Answered, Answers, IsResponderOf, answering, balances_in}
 use Rattle.dr_accounts.specs.declared.responder.Responder.{Responder}
-use Rattle.dr_accounts.proofs.Shown.{along, booked_goes, front_balances, front_movement, last_movement, one_longer, took}
+use Rattle.dr_workers.proofs.Along.{along}
+use Rattle.dr_accounts.proofs.Shown.{booked_goes, front_balances, front_movement, last_movement, one_longer, took}
 
 -- the lines of places, one place more
 
-same_lines : (f g : ℕ → Line) (a n : ℕ) → ((k : ℕ) → k < a + n → f k ≡ g k) → flat_map f (range_with_len a n) ≡ flat_map g (range_with_len a n)
+pub same_lines : (f g : ℕ → Line) (a n : ℕ) → ((k : ℕ) → k < a + n → f k ≡ g k) → flat_map f (range_with_len a n) ≡ flat_map g (range_with_len a n)
 same_lines f g a zero same = refl
 same_lines f g a (suc n) same =
     let here : f a ≡ g a = same a (omega arith) in
     ap (λ l. l ++ flat_map f (range_with_len (a + 1) n)) here
     ∙ ap (λ l. g a ++ l) (same_lines f g (a + 1) n (λ k less. same k (omega arith)))
 
-one_line_more : (f : ℕ → Line) (a n : ℕ) → flat_map f (range_with_len a (suc n)) ≡ flat_map f (range_with_len a n) ++ f (a + n)
+pub one_line_more : (f : ℕ → Line) (a n : ℕ) → flat_map f (range_with_len a (suc n)) ≡ flat_map f (range_with_len a n) ++ f (a + n)
 one_line_more f a zero = let at : a ≡ a + 0 = omega arith in append-nil (f a) ∙ ap f at
 one_line_more f a (suc n) =
     let at : (a + 1) + n ≡ a + suc n = omega arith in
@@ -34,7 +35,7 @@ abbrev line : ℕ → Movement → Numbers → Line
 line k m balances = answer_line k (is_refused m balances) (balance_by m balances (answered m))
 
 -- events that come later change no answer of before
-front_answer : (es fs : List Event) (k : ℕ) → k < length es → answer_at (es ++ fs) k ≡ answer_at es k
+pub front_answer : (es fs : List Event) (k : ℕ) → k < length es → answer_at (es ++ fs) k ≡ answer_at es k
 unfolding balances_after
 front_answer es fs k less =
     let within : k ≤ length es = omega arith in

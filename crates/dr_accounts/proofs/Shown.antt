@@ -17,16 +17,6 @@ use Rattle.dr_accounts.specs.Handlers.{Booked, Books, Copies, Goes, HasBusiness,
 use Rattle.dr_operations.specs.Operations.{movement_of}
 use Rattle.dr_accounts.specs.Report.{journal_from, journal_line, replica_line}
 
--- what one call keeps, a batch keeps
-pub along : {A : Type 0} (goes : Relation Event A) (Has : A → List Event → Type 0)
-    → ((a b : A) (es : List Event) (e : Event) (s : ℕ) (end : Bool) → Has a es → goes a e s end b → Has b (es ++ e ∷ []))
-    → (a b : A) (es vs : List Event) (first : ℕ) (end : Bool) → Has a es → GoesThrough goes a (showings vs first end) b → Has b (es ++ vs)
-along goes Has one a b es [] first end has is = rw append-nil (subst (λ x. Has x es) is has)
-along goes Has one a b es (e ∷ []) first end has is = subst (λ x. Has x (es ++ e ∷ [])) is.2 (one a is.0 es e first end has is.1)
-along goes Has one a b es (e ∷ f ∷ vs) first end has is =
-    let shown = one a is.0 es e first false has is.1 in
-    subst (λ l. Has b l) (append_assoc es (e ∷ []) (f ∷ vs)) (along goes Has one is.0 b (es ++ e ∷ []) (f ∷ vs) (first + 1) end shown is.2)
-
 -- one that has not failed after a call had not failed before it
 pub took : {T : Type 0} (failed : T → Bool) (Takes : T → T → Type 0) (old new : T) → Goes T failed Takes old new → failed new ≡ false
     → (failed old ≡ false) × Takes old new

@@ -7,4 +7,4 @@ mod answers;
 #[cfg(test)]
 mod arriving;
 #[cfg(test)]
-mod carried;
+mod written;

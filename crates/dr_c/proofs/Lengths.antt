@@ -82,17 +82,3 @@ module _ (n : ℕ) (bytes : List ℕ) (C : List ℕ → List ℕ → Type 0) (se
       let written : now ≡ bytes = sets call.0 now call.3 (has_at n e.cells i call.0 all call.2 ∙ sym same) in
       same_cells n (set e.cells i (Some now)) e'.cells call.4.1.cells (all_have_set n e.cells i now all (ap (λ (ys : List ℕ). length ys) written ∙ same))
   update_keeps (Err refusal) all call = same_cells n e.cells e'.cells (ap (λ (E : SenderEnd (List ℕ)). E.cells) call.1) all
-
--- A change that leaves what lies there.
-module _ (n : ℕ) (C : List ℕ → List ℕ → Type 0) (leaves : (was now : List ℕ) → C was now → now ≡ was) (e : SenderEnd (List ℕ)) (s : ℕ)
-    (e' : SenderEnd (List ℕ)) where
-  pub update_leaves : (result : Result (Unit {0}) Refusal) → UpdateCall C e s e' result → UpdateCall (λ was now. now ≡ was) e s e' result
-  update_leaves (Ok done) call = (call.0, call.1, call.2, leaves call.0 call.1 call.3, call.4)
-  update_leaves (Err refusal) call = call
-
-  pub leaving_keeps : (result : Result (Unit {0}) Refusal) → all_have n e.cells ≡ true → UpdateCall C e s e' result → all_have n e'.cells ≡ true
-  leaving_keeps (Ok done) all call =
-      let now = call.1 in let i : ℕ = s % length e.cells in
-      same_cells n (set e.cells i (Some now)) e'.cells call.4.1.cells
-      (all_have_set n e.cells i now all (ap (λ (ys : List ℕ). length ys) (leaves call.0 now call.3) ∙ has_at n e.cells i call.0 all call.2))
-  leaving_keeps (Err refusal) all call = same_cells n e.cells e'.cells (ap (λ (E : SenderEnd (List ℕ)). E.cells) call.1) all

@@ -1,5 +1,5 @@
 -- What each call from C does to an end, and what it tells.
-use Rattle.std.specs.Prelude.{◌≡◌, ◌≢◌, ◌<◌, ◌^◌, ℕ, ◌==◌, ◌⊎◌, if◌then◌else◌, List, length, Option, None, Some, Result, Ok, Err}
+use Rattle.std.specs.Prelude.{◌≡◌, ◌≢◌, ◌+◌, ◌<◌, ◌^◌, ℕ, ◌==◌, ◌⊎◌, if◌then◌else◌, List, length, Option, None, Some, Result, Ok, Err}
 use Rattle.dr_seq.specs.declared.event.Event.{Event}
 use Rattle.dr_meaning.specs.declared.command.Claimed.{Claimed}
 use Rattle.dr_meaning.specs.declared.command.Polled.{Polled}
@@ -34,7 +34,7 @@ use Rattle.dr_c.specs.declared.batch.Offer.{Offer}
 use Rattle.dr_c.specs.declared.progress.Counts.{Counts}
 use Rattle.dr_c.specs.Numbers.{told, told_of_claim, wrong_end, bad_length, not_in_hand}
 use Rattle.dr_c.specs.Places.{Whether}
-use Rattle.dr_c.specs.Slots.{Leaves, LeavesOfSeveral, PublishesAsLeft, HasEachOnce}
+use Rattle.dr_c.specs.Slots.{LeavesOfSeveral, PublishesAsLeft, HasEachOnce}
 
 -- A call of a sender, which answers C by the number of its own answer; another end is refused, and stays as it was.
 abbrev pub OfSender : {A F : Type 0} → (Result A F → ℕ) → End → End → ℕ → Type 0 → (SenderEnd → SenderEnd → Result A Refusal → Type 0)
@@ -122,8 +122,7 @@ PublishesBy lo hi number end end' =
 -- A stretch is published with what lies in its cells, of a ring of bytes or of several senders. Nothing of one's own is found unwritten.
 abbrev pub PublishesSlotsBy : ℕ → ℕ → ℕ → End → End → Type 0
 PublishesSlotsBy lo hi number (SenderOfBytes w) end' =
-    OfWriter {A = Unit {0}} w end' number (λ s s' answer. PublishesAsLeft Leaves (λ m m'. sends_of_bytes.PublishCall m lo hi m' answer) lo s s'
-    × (hi < 2 ^ 62 → answer ≢ Err NotWritten))
+    OfWriter {A = Unit {0}} w end' number (λ s s' answer. sends_of_bytes.PublishCall (sends_of_bytes.with_lying s (hi + 1)) lo hi s' answer × (answer ≢ Err NotWritten))
 PublishesSlotsBy lo hi number (SenderOfSeveral s) end' =
     (s' : several.SenderEnd Event) × (answer : Result (Unit {0}) Refusal) × (end' ≡ SenderOfSeveral s') × (number ≡ told answer)
     × PublishesAsLeft LeavesOfSeveral (λ m m'. publications_of_several.PublishCall m lo hi m' answer) lo s s'

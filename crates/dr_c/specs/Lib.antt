@@ -9,3 +9,4 @@ pub mod OpeningBytes
 pub mod OpeningSeveral
 pub mod Places
 pub mod Slots
+pub mod Watching

@@ -38,6 +38,7 @@ name_by n =
     if n == 8 then codes "out-of-order" else
     if n == 9 then codes "not-taken" else
     if n == 10 then codes "behind" else
+    if n == 12 then codes "no-handler" else
     if n == 16 then codes "contended" else
     if n == 41 then codes "open-claim" else
     opening_name n

@@ -5,6 +5,10 @@ use Rattle.dr_meaning.specs.Calls.Refusal.{number_of}
 use Rattle.dr_meaning.specs.declared.claim_fault.ClaimFault.{ClaimFault}
 use Rattle.dr_meaning.specs.Calls.ClaimFault as claim_fault
 
+-- there is no handler of that number
+abbrev pub no_handler : ℕ
+no_handler = 12
+
 -- the handle is zero or closed
 abbrev pub not_open : ℕ
 not_open = 61

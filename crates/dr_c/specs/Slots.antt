@@ -1,24 +1,17 @@
 -- A stretch that is published with what lies in its cells, since its events lie in the caller's own memory.
-use Rattle.std.specs.Prelude.{◌≡◌, ◌<◌, ◌≤◌, ◌⊎◌, ℕ, true, false, is_none, length, List, Option, Result}
+use Rattle.std.specs.Prelude.{◌≡◌, ◌<◌, ◌≤◌, ◌⊎◌, ℕ, true, false, is_none, List, Option, Result}
 use mathlib.Core.Option.{some}
 use lib.ListN.{get_elem?}
 use Rattle.std.specs.List.{FoldsTo, range_with_len}
 use Rattle.dr_seq.specs.declared.event.Event.{Event}
 use Rattle.dr_meaning.specs.declared.refusal.Refusal.{Refusal}
-use Rattle.dr_meaning.specs.Calls.Ends.{Sent, claimed_in, open_event}
 use Rattle.dr_plain_senders.specs.declared.record.Own.{Own}
 use Rattle.dr_plain_senders.specs.declared.record.Stage.{Stage}
 use Rattle.dr_plain_senders.specs.Meaning.Records.{Owns, is_published}
 use Rattle.dr_plain_senders.specs.Calls.Ends as several
 use Rattle.dr_plain_senders.specs.Calls.Writing as writes_of_several
-use Rattle.dr_plain.specs.Calls.Ends as plain
-use Rattle.dr_plain.specs.Calls.Sending as sends_of_bytes
 
--- the event of a sequence is written as it lies, or that is refused
-abbrev pub Leaves : plain.SenderEnd (List ℕ) → ℕ → plain.SenderEnd (List ℕ) → Type 0
-Leaves s sequence s' = (answer : Result (Unit {0}) Refusal) × sends_of_bytes.UpdateCall (λ was now. now ≡ was) s sequence s' answer
-
--- the same by one of several senders
+-- one of several senders writes the event of a sequence as it lies, or that is refused
 abbrev pub LeavesOfSeveral : several.SenderEnd Event → ℕ → several.SenderEnd Event → Type 0
 LeavesOfSeveral s sequence s' = (answer : Result (Unit {0}) Refusal) × writes_of_several.UpdateCall (λ was now. now ≡ was) s sequence s' answer
 
@@ -26,10 +19,6 @@ LeavesOfSeveral s sequence s' = (answer : Result (Unit {0}) Refusal) × writes_o
 abbrev pub PublishesAsLeft : {S : Type 0} → (S → ℕ → S → Type 0) → (S → S → Type 0) → ℕ → S → S → Type 0
 PublishesAsLeft {S} Leaves Publishes lo s s' =
     (first : ℕ) × (count : ℕ) × (between : S) × (lo ≤ first) × FoldsTo Leaves s (range_with_len first count) between × Publishes between s'
-
--- the open sequences from lo on up to before k are written
-abbrev pub AreWritten : {E : Type 0} → Sent E → ℕ → ℕ → Type 0
-AreWritten x lo k = (s : ℕ) → lo ≤ s → s < k → length x.published ≤ s → s < claimed_in x → is_none (open_event x s) ≡ false
 
 -- each of these sequences stands once among them, as where each claim gives others
 abbrev pub HasEachOnce : List (Own Event) → Type 0

@@ -7,12 +7,13 @@ ghost use Rattle.dr_c.specs.Numbers.{not_open};
 ghost use Rattle.dr_c.specs.Opening.{OpenedBy};
 ghost use Rattle.dr_c.specs.OpeningBytes.{OpenedBy as OpenedBytesBy};
 ghost use Rattle.dr_c.specs.OpeningSeveral.{OpenedBy as OpenedSeveralBy};
+ghost use Rattle.dr_c.specs.Watching.{TellsCompletedBy, TellsCursorBy};
 
 use crate::batch::Offer;
 use crate::handle::Handle;
 use crate::numbers::NOT_OPEN;
 use crate::progress::{Counts, tell};
-use crate::{opening, opening_bytes, opening_several, receiving, sending};
+use crate::{opening, opening_bytes, opening_several, receiving, sending, watching};
 use dr_seq::Event;
 use std::alloc::Global;
 
@@ -236,6 +237,32 @@ pub(crate) fn halt(alloc: Global, halter: &mut Handle) -> u32
     }
     let mut end = halter.take(alloc);
     let number = receiving::halt(&mut end);
+    halter.keep(end);
+    number
+}
+
+/// Tells the cursor of a halter's ring.
+pub(crate) fn cursor(alloc: Global, halter: &mut Handle, count: &mut u64) -> u32
+    ensures { OnHandle halter.old.held.value halter.new.held.value ((count.new ≡ count.old) × (result ≡ not_open)) (TellsCursorBy count.old count.new result) }
+{
+    if !halter.is_open() {
+        return NOT_OPEN;
+    }
+    let mut end = halter.take(alloc);
+    let number = watching::cursor(&mut end, count);
+    halter.keep(end);
+    number
+}
+
+/// Tells how many events a handler of a halter's ring completed.
+pub(crate) fn completed(alloc: Global, halter: &mut Handle, handler: usize, count: &mut u64) -> u32
+    ensures { OnHandle halter.old.held.value halter.new.held.value ((count.new ≡ count.old) × (result ≡ not_open)) (TellsCompletedBy handler count.old count.new result) }
+{
+    if !halter.is_open() {
+        return NOT_OPEN;
+    }
+    let mut end = halter.take(alloc);
+    let number = watching::completed(&mut end, handler, count);
     halter.keep(end);
     number
 }

@@ -15,6 +15,7 @@ ghost use Rattle.dr_c.specs.Opening.{OpenedBy, ends_in};
 ghost use Rattle.dr_c.specs.OpeningBytes.{OpenedBy as OpenedBytesBy};
 ghost use Rattle.dr_c.specs.OpeningSeveral.{OpenedBy as OpenedSeveralBy};
 ghost use Rattle.dr_c.specs.Places.{AtPlace, AtPlaces, ReadsAt, Whether};
+ghost use Rattle.dr_c.specs.Watching.{TellsCompletedBy, TellsCursorBy};
 
 mod amiss;
 mod batch;
@@ -35,6 +36,7 @@ mod progress;
 mod receiving;
 mod sending;
 mod texts;
+mod watching;
 mod writer;
 
 use batch::Offer;
@@ -309,6 +311,37 @@ pub extern "C" fn disruptor_progress_at(
         return BAD_POINTER;
     }
     calls::progress(alloc, &mut handle[0], &mut counts[0])
+}
+
+/// Tells the cursor of a ring, by its halter: of one sender how many events are published, of several how many sequences are claimed.
+#[unsafe(no_mangle)]
+pub extern "C" fn disruptor_cursor_at(
+    alloc: Global,
+    halter: &mut [Handle],
+    count: &mut [u64],
+) -> u32
+    ensures { AtPlaces halter.old halter.new count.old count.new (result ≡ bad_pointer) (λ h h' n n'. OnHandle h.held.value h'.held.value ((n' ≡ n) × (result ≡ not_open)) (TellsCursorBy n n' result)) }
+{
+    if halter.len() != 1 || count.len() != 1 {
+        return BAD_POINTER;
+    }
+    calls::cursor(alloc, &mut halter[0], &mut count[0])
+}
+
+/// Tells how many events a handler completed, by the halter of its ring.
+#[unsafe(no_mangle)]
+pub extern "C" fn disruptor_completed_at(
+    alloc: Global,
+    halter: &mut [Handle],
+    handler: usize,
+    count: &mut [u64],
+) -> u32
+    ensures { AtPlaces halter.old halter.new count.old count.new (result ≡ bad_pointer) (λ h h' n n'. OnHandle h.held.value h'.held.value ((n' ≡ n) × (result ≡ not_open)) (TellsCompletedBy handler n n' result)) }
+{
+    if halter.len() != 1 || count.len() != 1 {
+        return BAD_POINTER;
+    }
+    calls::completed(alloc, &mut halter[0], handler, &mut count[0])
 }
 
 /// Frees what handles have, of whatever kind, and leaves each without an end.

@@ -5,6 +5,8 @@ ghost use Rattle.dr_c.specs.Numbers.{told};
 
 use dr_meaning::Refusal;
 
+/// There is no handler of that number.
+pub const NO_HANDLER: u32 = 12;
 /// The handle is zero or closed.
 pub const NOT_OPEN: u32 = 61;
 /// The handle has another end than the call is of.

@@ -64,6 +64,8 @@ pub fn name(number: u32) -> &'static str
         "not-taken"
     } else if number == 10 {
         "behind"
+    } else if number == 12 {
+        "no-handler"
     } else if number == 16 {
         "contended"
     } else if number == 41 {

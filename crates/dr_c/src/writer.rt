@@ -1,12 +1,9 @@
 //! The sender of a ring of bytes.
 
-ghost use Rattle.std.specs.Prelude.{◌≡◌, ◌≢◌, ◌<◌, ◌≤◌, ◌^◌, ℕ, Err, true, length};
+ghost use Rattle.std.specs.Prelude.{◌≡◌, ◌≢◌, ◌+◌, Err, true, length};
 ghost use Rattle.dr_meaning.specs.declared.refusal.Refusal.TheVariants.{NotWritten};
-ghost use Rattle.dr_plain.specs.Calls.Ends.{sent_of};
-ghost use Rattle.dr_plain.specs.Calls.Sending.{ClaimCall, UpdateCall, PublishCall, CloseCall};
-ghost use Rattle.std.specs.List.{FoldsTo, range_with_len};
+ghost use Rattle.dr_plain.specs.Calls.Sending.{ClaimCall, UpdateCall, PublishCall, CloseCall, with_lying};
 ghost use Rattle.dr_c.specs.Lengths.{all_have};
-ghost use Rattle.dr_c.specs.Slots.{AreWritten, Leaves, PublishesAsLeft};
 
 use crate::bytes::Bytes;
 use dr_meaning::{Claimed, Refusal};
@@ -55,35 +52,13 @@ impl Writer {
         self.sender.publish(lo, hi)
     }
 
-    // Writes the event of a sequence as it lies.
-    fn leave(&mut self, sequence: u64) -> Result<(), Refusal>
-        ensures bytes { self.new.bytes ≡ self.old.bytes }
-        ensures call { UpdateCall (λ was now. now ≡ was) self.old.sender sequence self.new.sender result }
-    {
-        self.sender.update(sequence, |_event| {})
-    }
-
-    // Writes the open events of the sequences from `lo` up to before `upto` as they lie.
-    fn leave_all(&mut self, lo: u64, upto: u64)
-        ensures bytes { self.new.bytes ≡ self.old.bytes }
-        ensures left { (first : ℕ) × (count : ℕ) × (lo ≤ first) × FoldsTo Leaves self.old.sender (range_with_len first count) self.new.sender }
-        ensures written { AreWritten (sent_of self.new.sender) lo upto }
-    {
-        let first = lo.max(self.sender.published());
-        for sequence in first..upto {
-            if self.leave(sequence).is_err() {
-                return;
-            }
-        }
-    }
-
     /// Publishes the sequences from `lo` to `hi` with what lies in their cells: none is refused as not written.
     pub fn publish_slots(&mut self, lo: u64, hi: u64) -> Result<(), Refusal>
         ensures bytes { self.new.bytes ≡ self.old.bytes }
-        ensures call { PublishesAsLeft Leaves (λ m m'. PublishCall m lo hi m' result) lo self.old.sender self.new.sender }
-        ensures written { hi < 2 ^ 62 → result ≢ Err NotWritten }
+        ensures call { PublishCall (with_lying self.old.sender (hi + 1)) lo hi self.new.sender result }
+        ensures written { result ≢ Err NotWritten }
     {
-        self.leave_all(lo, hi.saturating_add(1));
+        self.sender.write_lying(hi);
         self.publish(lo, hi)
     }
 

@@ -51,6 +51,15 @@ pub enum Plan {
         by: By,
         output: Option<String>,
     },
+    /// Serve operations from standard input, with the named journal, and maybe a replica of it.
+    Ledger {
+        journal: String,
+        replica: Option<String>,
+    },
+    /// Print what a journal stands for, as an event file.
+    Journal {
+        file: String,
+    },
 }
 
 /// Why a command line is refused. Its text is the line that a program prints.

@@ -13,7 +13,8 @@ const VERSION: &str = "0.1.0, proved with rattle-kit-13f logic dac8208d650f15bf"
 
 const EXAMPLES: &str = "\
 `disruptor drive --help` and `disruptor replay --help` show a file, and what it prints.
-`disruptor check --help` shows what is said of a file at fault.";
+`disruptor check --help` shows what is said of a file at fault.
+`disruptor ledger --help` shows what a live ledger answers.";
 
 const DRIVE: &str = "Run a file of commands, and print one line a command";
 
@@ -148,6 +149,45 @@ record. It ends with 0 where all is well, 1 where the command line is at fault,
 2 where the file is at fault, 3 if memory runs out and 4 where reading or writing
 failed.";
 
+const LEDGER: &str = "Serve account movements as they come, each on the disk before it is answered";
+
+const JOURNAL_OPTION: &str = "The journal of all movements, which is made where it is missing";
+
+const REPLICA_OPTION: &str = "A second file, on another disk, that is kept like the journal";
+
+const LEDGER_BY: &str = "By which exchange: plain is one thread";
+
+/// The ways of a ledger.
+const LEDGER_WAYS: &[&str] = &["plain"];
+
+const LEDGER_EXAMPLE: &str = "\
+It reads movements from standard input, one record a line, as replay has them in
+a file. Whole lines are taken as they come: they go into the journal, then into
+the replica, and once they are on the disk they are booked and answered. Of
+
+0,deposit,1,100
+0,withdraw,1,140
+2,transfer,1,7,30
+
+it prints
+
+0 applied 100
+1 refused 100
+2 applied 70
+
+An answer has the movement's sequence, and the balance after it, of a transfer
+that of the account that pays. On standard error it says first how many movements
+the journal had: `recovered 0`. Started again, it goes on from these. `disruptor
+journal FILE` prints them as a file for replay.
+
+It ends with 0 at the end of its input, 1 where the command line is at fault, 2
+where a record or the journal is at fault, 3 if memory runs out and 4 where
+reading or writing failed. What was answered is in the journal, whichever it is.";
+
+const JOURNAL: &str = "Print the movements of a journal, as a file for replay";
+
+const JOURNAL_FILE: &str = "The journal of a ledger, which is only read";
+
 // The option that names where a tool writes to.
 fn output_option<'a>(alloc: Global) -> Arg<'a> {
     Arg::new(alloc, "output")
@@ -216,6 +256,45 @@ fn replay_command<'a>(alloc: Global) -> Result<Command<'a>, AllocError> {
         .arg(file_word(alloc, EVENTS))
 }
 
+fn journal_option<'a>(alloc: Global) -> Arg<'a> {
+    Arg::new(alloc, "journal")
+        .long("journal")
+        .value_name("FILE")
+        .help(JOURNAL_OPTION)
+        .required(true)
+}
+
+fn replica_option<'a>(alloc: Global) -> Arg<'a> {
+    Arg::new(alloc, "replica")
+        .long("replica")
+        .value_name("FILE")
+        .help(REPLICA_OPTION)
+}
+
+fn ledger_by_option<'a>(alloc: Global) -> Arg<'a> {
+    Arg::new(alloc, "by")
+        .long("by")
+        .value_name("WAY")
+        .help(LEDGER_BY)
+        .value_parser(LEDGER_WAYS)
+        .default_value("plain")
+}
+
+fn ledger_command<'a>(alloc: Global) -> Result<Command<'a>, AllocError> {
+    Command::new(alloc, "ledger")
+        .about(LEDGER)
+        .after_help(LEDGER_EXAMPLE)
+        .arg(journal_option(alloc))?
+        .arg(replica_option(alloc))?
+        .arg(ledger_by_option(alloc))
+}
+
+fn journal_command<'a>(alloc: Global) -> Result<Command<'a>, AllocError> {
+    Command::new(alloc, "journal")
+        .about(JOURNAL)
+        .arg(file_word(alloc, JOURNAL_FILE))
+}
+
 fn command<'a>(alloc: Global) -> Result<Command<'a>, AllocError> {
     let drive = drive_command(alloc)?;
     Command::new(alloc, "disruptor")
@@ -225,7 +304,9 @@ fn command<'a>(alloc: Global) -> Result<Command<'a>, AllocError> {
         .subcommand_required(true)
         .subcommand(drive)?
         .subcommand(replay_command(alloc)?)?
-        .subcommand(check_command(alloc)?)
+        .subcommand(check_command(alloc)?)?
+        .subcommand(ledger_command(alloc)?)?
+        .subcommand(journal_command(alloc)?)
 }
 
 // The text of a fault, without the line feed at its end.
@@ -252,10 +333,14 @@ fn file_of(alloc: Global, matches: &ArgMatches<'_>) -> Result<String, AllocError
     }
 }
 
-// The word of `--output`, if the command line has it.
-fn output_of(alloc: Global, matches: &ArgMatches<'_>) -> Result<Option<String>, AllocError> {
-    match matches.get_str("output") {
-        Some(output) => Ok(Some(String::from_str(alloc, output)?)),
+// The word of an option, if the command line has it.
+fn word_of(
+    alloc: Global,
+    matches: &ArgMatches<'_>,
+    name: &str,
+) -> Result<Option<String>, AllocError> {
+    match matches.get_str(name) {
+        Some(word) => Ok(Some(String::from_str(alloc, word)?)),
         None => Ok(None),
     }
 }
@@ -284,7 +369,7 @@ fn replay_plan(alloc: Global, matches: &ArgMatches<'_>) -> Result<Plan, LineFaul
         Some("ring") => By::Ring,
         _ => By::Plain,
     };
-    let output = output_of(alloc, matches)?;
+    let output = word_of(alloc, matches, "output")?;
     Ok(Plan::Replay {
         file,
         size,
@@ -304,8 +389,22 @@ fn check_plan(alloc: Global, matches: &ArgMatches<'_>) -> Result<Plan, AllocErro
 
 fn drive_plan(alloc: Global, matches: &ArgMatches<'_>) -> Result<Plan, AllocError> {
     let file = file_of(alloc, matches)?;
-    let output = output_of(alloc, matches)?;
+    let output = word_of(alloc, matches, "output")?;
     Ok(Plan::Drive { file, output })
+}
+
+fn ledger_plan(alloc: Global, matches: &ArgMatches<'_>) -> Result<Plan, AllocError> {
+    let journal = match word_of(alloc, matches, "journal")? {
+        Some(journal) => journal,
+        None => String::new(alloc),
+    };
+    let replica = word_of(alloc, matches, "replica")?;
+    Ok(Plan::Ledger { journal, replica })
+}
+
+fn journal_plan(alloc: Global, matches: &ArgMatches<'_>) -> Result<Plan, AllocError> {
+    let file = file_of(alloc, matches)?;
+    Ok(Plan::Journal { file })
 }
 
 fn plan_of(alloc: Global, matches: &ArgMatches<'_>) -> Result<Plan, LineFault> {
@@ -314,6 +413,12 @@ fn plan_of(alloc: Global, matches: &ArgMatches<'_>) -> Result<Plan, LineFault> {
     }
     if let Some(matches) = matches.subcommand_matches("check") {
         return Ok(check_plan(alloc, matches)?);
+    }
+    if let Some(matches) = matches.subcommand_matches("ledger") {
+        return Ok(ledger_plan(alloc, matches)?);
+    }
+    if let Some(matches) = matches.subcommand_matches("journal") {
+        return Ok(journal_plan(alloc, matches)?);
     }
     match matches.subcommand_matches("drive") {
         Some(matches) => Ok(drive_plan(alloc, matches)?),

@@ -22,7 +22,7 @@ use Rattle.dr_disruptor.specs.declared.fault.RunFault.TheVariants as fault
 use Rattle.dr_disruptor.specs.declared.feeds.Sent.{Sent}
 use Rattle.dr_disruptor.specs.declared.served.Served.{Served}
 use Rattle.dr_disruptor.specs.Feeding.{AreGiven, AreSent, Feeder, IsUnsent, LeavesClosed, fed_sender, given_feed}
-use Rattle.dr_plain_senders.specs.Calls.InPlace.{SawSome, has_one_stretch}
+use Rattle.dr_plain_senders.specs.Calls.InPlace.{SawSome, does_in_place, has_one_stretch}
 use Rattle.dr_disruptor.specs.Merging.{HaltsOnly, HasAll, LeavesSender, refusal_of}
 use Rattle.dr_disruptor.specs.Serving.{AreServed, IsIdle}
 use Rattle.dr_disruptor.proofs.Through.{end_back, many_back}
@@ -74,14 +74,14 @@ module _ {E : Type 0} where
 
   -- so are what was served
   pub receivers_back : {A : Type 0} (goes : Relation E A) (room : ℕ) (ss : List (SenderEnd E)) (t : HalterStand E) (ends : List (ReceiverEnd E)) (starts : List A)
-      → (served : List (Served (ReceiverEnd E) A)) → AreServed receiver_place received_by is_told SawSome goes room ends starts served → AreAllEnds ss ends t
+      → (served : List (Served (ReceiverEnd E) A)) → AreServed receiver_place received_by is_told SawSome does_in_place goes room ends starts served → AreAllEnds ss ends t
       → AreAllEnds ss (map (λ (b : Served (ReceiverEnd E) A). b.outlet) served) t
   receivers_back goes room ss t ends starts served kept all = record {
     senders = all.senders;
-    receivers = many_back receiver_place received_by is_told SawSome goes room ends starts served kept ∙ all.receivers;
+    receivers = many_back receiver_place received_by is_told SawSome does_in_place goes room ends starts served kept ∙ all.receivers;
     each_sender = all.each_sender;
     each_receiver = λ h e at.
-        let (given, at_given, same, told, idle) = end_back receiver_place received_by is_told SawSome goes room ends starts served kept h e at in
+        let (given, at_given, same, told, idle) = end_back receiver_place received_by is_told SawSome does_in_place goes room ends starts served kept h e at in
         same ∙ all.each_receiver h given at_given;
   }
 

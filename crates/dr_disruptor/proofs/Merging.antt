@@ -35,7 +35,7 @@ use Rattle.dr_disruptor.specs.declared.feeds.Sent.{Sent}
 use Rattle.dr_disruptor.specs.declared.served.Served.{Served}
 use Rattle.dr_disruptor.specs.Feeding.{AreSent, LeavesClosed}
 use Rattle.dr_disruptor.specs.Handlers.{AllWentThrough}
-use Rattle.dr_plain_senders.specs.Calls.InPlace.{SawSome, events_in, has_one_stretch, sending_of}
+use Rattle.dr_plain_senders.specs.Calls.InPlace.{SawSome, does_in_place, events_in, has_one_stretch, sending_of}
 use Rattle.dr_disruptor.specs.Merging.{HaltsOnly, IsRanOver, IsWoundUp, new_receivers, new_sender}
 use Rattle.dr_disruptor.specs.Serving.{AreServed, Worker, given_end, given_handler}
 use Rattle.dr_plain_senders.proofs.InPlaceReceiving.{saw_most}
@@ -147,11 +147,11 @@ module _ {E A B F : Type 0} (goes : Relation E A) (room : ℕ) (k : Shape E) (bl
       ∙ ap (λ (r : TableId). receiver_at r k (fresh_receiver h)) same_ring
 
   -- and the end of each handler is that of its place
-  served_at_places : (given : List A) → given ≡ starts → AreServed receiver_place received_by is_told SawSome goes room (new_receivers ring k) given served
+  served_at_places : (given : List A) → given ≡ starts → AreServed receiver_place received_by is_told SawSome does_in_place goes room (new_receivers ring k) given served
   served_at_places given same =
       let of_ends = ends ∙ fresh.receivers ∙ ap (λ (r : TableId). new_receivers r k) same_ring in
-      subst (λ (l : List (ReceiverEnd E)). AreServed receiver_place received_by is_told SawSome goes room l given served) of_ends
-      (subst (λ (l : List A). AreServed receiver_place received_by is_told SawSome goes room (map given_end ws) l served) (begun ∙ sym same) wound.kept)
+      subst (λ (l : List (ReceiverEnd E)). AreServed receiver_place received_by is_told SawSome does_in_place goes room l given served) of_ends
+      (subst (λ (l : List A). AreServed receiver_place received_by is_told SawSome does_in_place goes room (map given_end ws) l served) (begun ∙ sym same) wound.kept)
 
   many_served : length served ≡ handlers_of k
   many_served =
@@ -171,7 +171,7 @@ module _ {E A B F : Type 0} (goes : Relation E A) (room : ℕ) (k : Shape E) (bl
 
   drained : (h : ℕ) (e : ReceiverEnd E) → get_elem? outlets h ≡ some e → Drained e
   drained h e at =
-      let (given, at_given, place, told, idle) = end_back receiver_place received_by is_told SawSome goes room (map given_end ws) (map given_handler ws) served wound.kept h e at in
+      let (given, at_given, place, told, idle) = end_back receiver_place received_by is_told SawSome does_in_place goes room (map given_end ws) (map given_handler ws) served wound.kept h e at in
       let all = (settles.each h e.knows (at_world h e at)).drained told in
       record {
         plan_is = ap (λ (q : EndPlace E). q.1) place ∙ ap (λ (x : ReceiverEnd E). x.plan) (new_ends h given at_given);
@@ -207,7 +207,7 @@ module _ {E A B F : Type 0} (goes : Relation E A) (room : ℕ) (k : Shape E) (bl
   all_through =
       subst (λ (l : List A). AllWentThrough goes room events starts l) (sym wound.handled)
       (subst (λ (l : List A). AllWentThrough goes room events l (map (λ (s : Served (ReceiverEnd E) A). s.handler) served)) begun
-      (all_went receiver_place received_by is_told SawSome goes room (map given_end ws) (map given_handler ws) served wound.kept events
+      (all_went receiver_place received_by is_told SawSome does_in_place goes room (map given_end ws) (map given_handler ws) served wound.kept events
       (λ h e at. ap (λ (x : ReceiverEnd E). (received_by x).events) (new_ends h e at))
       (λ h e at.
       let d = drained h e at in (

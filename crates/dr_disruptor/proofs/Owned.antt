@@ -14,7 +14,7 @@ use Rattle.dr_plain_senders.specs.declared.record.SenderRecord.{SenderRecord}
 use Rattle.dr_plain_senders.specs.declared.record.Step.{Step}
 use Rattle.dr_plain_senders.specs.declared.record.Step.TheVariants.{SenderLooksAtClaims, SenderLooksAtCount, SenderClaims, SenderPublishes}
 use Rattle.dr_plain_senders.specs.declared.record.Step.TheVariants.{SenderLooksAtMark, SenderHalts, ReceiverLooksAtClaims, ReceiverLooksAtMark}
-use Rattle.dr_plain_senders.specs.declared.record.Step.TheVariants.{ReceiverLooksAtCount, ReceiverCompletes, HalterHalts}
+use Rattle.dr_plain_senders.specs.declared.record.Step.TheVariants.{ReceiverLooksAtCount, ReceiverCompletes, HalterHalts, HalterLooks}
 use Rattle.dr_plain_senders.specs.Meaning.Records.{fresh_stage, fresh_own, published, own_after, brought, sender_looked, mark_found, claimed_from}
 use Rattle.dr_plain_senders.specs.Meaning.Rule.{World, KeepsRule}
 use Rattle.dr_plain_senders.specs.Meaning.Steps.{Happens, PublishesOne, sender_knows, sender_claims}
@@ -176,6 +176,7 @@ module _ {T : Type 0} where
   owns_step k (ReceiverLooksAtCount h c room) w u H K own = subst AreOwn (sym H.2.3) own
   owns_step k (ReceiverCompletes h n) w u H K own = subst AreOwn (sym H.2.2) own
   owns_step k HalterHalts w u H K own = subst AreOwn (sym H) own
+  owns_step k (HalterLooks word) w u H K own = subst AreOwn (sym H.1) own
 
   owns_runs : (k : Shape T) (steps : List (Step T)) (es : Transcript T) (w u : World T) → Runs k steps es w u → KeepsRule k w
       → AreOwn w → AreOwn u

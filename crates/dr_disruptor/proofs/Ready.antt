@@ -23,7 +23,7 @@ use Rattle.dr_plain.specs.Calls.Sending.{CloseCall}
 use Rattle.dr_plain.specs.Calls.Settling.{AreAllEnds, HasRun, IsHalterOf, handler_counts}
 use Rattle.dr_disruptor.specs.declared.fault.RunFault.TheVariants as fault
 use Rattle.dr_disruptor.specs.declared.served.Served.{Served}
-use Rattle.dr_plain.specs.Calls.InPlace.{SawPublished}
+use Rattle.dr_plain.specs.Calls.InPlace.{SawPublished, does_in_place}
 use Rattle.dr_disruptor.specs.Serving.{AreServed, IsIdle}
 use Rattle.dr_disruptor.specs.Handlers.{AllWentThrough}
 use Rattle.dr_disruptor.proofs.Through.{all_went, end_back, many_back}
@@ -63,12 +63,12 @@ module _ {E : Type 0} where
 
   -- what was served comes back as all ends of the ring
   pub receivers_back : {A : Type 0} (goes : Relation E A) (room : ℕ) (s : SenderEnd E) (ends : List (ReceiverEnd E)) (starts : List A)
-      → (served : List (Served (ReceiverEnd E) A)) → AreServed receiver_place received_of is_told saw_by goes room ends starts served → AreAllEnds s ends
+      → (served : List (Served (ReceiverEnd E) A)) → AreServed receiver_place received_of is_told saw_by does_in_place goes room ends starts served → AreAllEnds s ends
       → AreAllEnds s (map (λ (b : Served (ReceiverEnd E) A). b.outlet) served)
   receivers_back goes room s ends starts served are all = record {
-    all = many_back receiver_place received_of is_told saw_by goes room ends starts served are ∙ all.all;
+    all = many_back receiver_place received_of is_told saw_by does_in_place goes room ends starts served are ∙ all.all;
     each = λ h e at.
-        let (given, there, same, told, idle) = end_back receiver_place received_of is_told saw_by goes room ends starts served are h e at in
+        let (given, there, same, told, idle) = end_back receiver_place received_of is_told saw_by does_in_place goes room ends starts served are h e at in
         let was = all.each h given there in
         (ap (λ (q : ReceiverPlace). q.0) same ∙ was.0, ap (λ (q : ReceiverPlace). q.2) same ∙ was.1);
   }
@@ -105,7 +105,7 @@ module _ {E : Type 0} where
   -- all handlers went through what the sender had published before it closed the ring
   pub went_whole : {A : Type 0} (goes : Relation E A) (room : ℕ) (live s : SenderEnd E) (ends : List (ReceiverEnd E)) (starts : List A)
       → (served : List (Served (ReceiverEnd E) A)) (answer : Result (Unit {0}) Refusal) → CloseCall live s answer
-      → AreServed receiver_place received_of is_told saw_by goes room ends starts served
+      → AreServed receiver_place received_of is_told saw_by does_in_place goes room ends starts served
       → Settles s.knows (map (λ (e : ReceiverEnd E). e.knows) (map (λ (b : Served (ReceiverEnd E) A). b.outlet) served))
       → ((h : ℕ) (e : ReceiverEnd E) → get_elem? ends h ≡ some e → (received_of e).events ≡ [])
       → AllWentThrough goes room (events_of live.knows.published) starts (map (λ (b : Served (ReceiverEnd E) A). b.handler) served)
@@ -114,9 +114,9 @@ module _ {E : Type 0} where
       let events = events_of live.knows.published in
       let published = closes live s answer close in
       let many : length s.knows.published ≡ length events = ap length published ∙ sym (length-map live.knows.published (λ l. l.event)) in
-      all_went receiver_place received_of is_told saw_by goes room ends starts served are events fresh
+      all_went receiver_place received_of is_told saw_by does_in_place goes room ends starts served are events fresh
       (λ h e at. (
-        came_to s.knows outlets settles h e at (end_back receiver_place received_of is_told saw_by goes room ends starts served are h e at).3
+        came_to s.knows outlets settles h e at (end_back receiver_place received_of is_told saw_by does_in_place goes room ends starts served are h e at).3
             ∙ ap events_of published,
         λ n saw. (let most = saw_at_most s.knows outlets settles h e at n saw in omega arith),
       ))

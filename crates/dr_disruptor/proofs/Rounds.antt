@@ -4,6 +4,7 @@ use Rattle.std.proofs.lemmas.List.{append-nil, length-set, take_all}
 use mathlib.Core.Option.{some, some-injective, some-ne-none}
 use lib.ListN.{get_elem?}
 use Rattle.atomic_table.proofs.Lists.{at_set}
+use Rattle.dr_meaning.specs.Calls.Calling.{InPlaceCall}
 use Rattle.dr_meaning.specs.Calls.Ends.{Received}
 use Rattle.dr_meaning.specs.Calls.Handling.{Relation}
 use Rattle.dr_runs.proofs.Elements.{at_below, there, value_at}
@@ -38,24 +39,24 @@ pub written_back : {X : Type 0} (xs ys : List X) (n : ℕ) → length xs ≡ len
 written_back xs ys n same many =
     ap (λ l. take n (xs ++ l)) (past_end ys (length xs) (sym same)) ∙ ap (take n) (append-nil xs) ∙ take_all n xs (omega arith)
 
-module _ {O A K E : Type 0} (kept : O → K) (received : O → Received E) (saw : O → ℕ → Type 0) (goes : Relation E A) (room : ℕ) where
+module _ {O A K E : Type 0} (kept : O → K) (received : O → Received E) (saw : O → ℕ → Type 0) (does : O → InPlaceCall → O → Type 0) (goes : Relation E A) (room : ℕ) where
   -- before the first turn
   pub shown_none : (ends : List O) (starts : List A) → length ends ≡ length starts → All (λ o. IsIdle (received o)) ends
-      → AreShown kept received saw goes room ends starts ends starts
+      → AreShown kept received saw does goes room ends starts ends starts
   shown_none ends starts many idle = record {
     many = refl;
     alike = sym many;
     begun = sym many;
     each = λ h outlet handler at_end at_start.
         let is_idle : IsIdle (received outlet) = subst (λ (o : O). IsIdle (received o)) (value_at ends h outlet outlet at_end) (idle h outlet (at_below ends h outlet at_end)) in
-        (outlet, handler, at_end, at_start, shows_none kept received saw goes room handler outlet outlet refl refl (λ n seen. seen) is_idle);
+        (outlet, handler, at_end, at_start, shows_none kept received saw does goes room handler outlet is_idle);
   }
 
   -- a turn of one of them
   pub shown_turn : (ends : List O) (starts : List A) (outlets : List O) (handlers : List A) (h : ℕ) (outlet after : O) (handler gone : A)
-      → AreShown kept received saw goes room ends starts outlets handlers → get_elem? outlets h ≡ some outlet → get_elem? handlers h ≡ some handler
-      → Shows kept received saw goes room handler gone outlet after
-      → AreShown kept received saw goes room ends starts (set outlets h after) (set handlers h gone)
+      → AreShown kept received saw does goes room ends starts outlets handlers → get_elem? outlets h ≡ some outlet → get_elem? handlers h ≡ some handler
+      → Shows kept received saw does goes room handler gone outlet after
+      → AreShown kept received saw does goes room ends starts (set outlets h after) (set handlers h gone)
   shown_turn ends starts outlets handlers h outlet after handler gone are at_outlet at_handler turn = record {
     many = length-set outlets h after ∙ are.many;
     alike = length-set handlers h gone ∙ are.alike ∙ sym (length-set outlets h after);
@@ -71,9 +72,9 @@ module _ {O A K E : Type 0} (kept : O → K) (received : O → Received E) (saw 
                 one.1,
                 ap (λ (i : ℕ). get_elem? ends i) place ∙ one.2,
                 ap (λ (i : ℕ). get_elem? starts i) place ∙ one.3,
-                subst (λ (x : A). Shows kept received saw goes room one.1 x one.0 o) gone_is
-                    (subst (λ (x : O). Shows kept received saw goes room one.1 gone one.0 x) is
-                    (shows_more kept received saw goes room one.1 handler gone one.0 outlet after one.4 turn)),
+                subst (λ (x : A). Shows kept received saw does goes room one.1 x one.0 o) gone_is
+                    (subst (λ (x : O). Shows kept received saw does goes room one.1 gone one.0 x) is
+                    (shows_more kept received saw does goes room one.1 handler gone one.0 outlet after one.4 turn)),
               )
           | inr other ↦
               elim (at_set handlers h j gone a at_a) [
@@ -84,7 +85,7 @@ module _ {O A K E : Type 0} (kept : O → K) (received : O → Received E) (saw 
   }
 
   -- all that were shown have completed what they were shown
-  pub shown_idle : (ends : List O) (starts : List A) (outlets : List O) (handlers : List A) → AreShown kept received saw goes room ends starts outlets handlers
+  pub shown_idle : (ends : List O) (starts : List A) (outlets : List O) (handlers : List A) → AreShown kept received saw does goes room ends starts outlets handlers
       → All (λ o. IsIdle (received o)) outlets
   shown_idle ends starts outlets handlers are = λ h d below.
       let (outlet, at) = there outlets h below in
@@ -95,8 +96,8 @@ module _ {O A K E : Type 0} (kept : O → K) (received : O → Received E) (saw 
 
   -- one round after others
   pub shown_on : (ends : List O) (starts : List A) (outlets : List O) (handlers : List A) (after : List O) (gone : List A)
-      → AreShown kept received saw goes room ends starts outlets handlers → AreShown kept received saw goes room outlets handlers after gone
-      → AreShown kept received saw goes room ends starts after gone
+      → AreShown kept received saw does goes room ends starts outlets handlers → AreShown kept received saw does goes room outlets handlers after gone
+      → AreShown kept received saw does goes room ends starts after gone
   shown_on ends starts outlets handlers after gone are more = record {
     many = more.many ∙ are.many;
     alike = more.alike;
@@ -104,17 +105,17 @@ module _ {O A K E : Type 0} (kept : O → K) (received : O → Received E) (saw 
     each = λ h o a at_o at_a.
         let (outlet, handler, at_outlet, at_handler, shows) = more.each h o a at_o at_a in
         let (end, start, at_end, at_start, before) = are.each h outlet handler at_outlet at_handler in
-        (end, start, at_end, at_start, shows_more kept received saw goes room start handler a end outlet o before shows);
+        (end, start, at_end, at_start, shows_more kept received saw does goes room start handler a end outlet o before shows);
   }
 
   module _ (told : O → Bool) where
     -- nobody was served yet, and one more is
-    pub served_none : AreServed kept received told saw goes room [] [] []
+    pub served_none : AreServed kept received told saw does goes room [] [] []
     served_none = record { many = refl; handlers = refl; each = λ h back at. absurd (some-ne-none back (sym at)) }
 
     pub served_push : (ends : List O) (starts : List A) (served : List (Served O A)) (given : O) (start : A) (back : Served O A)
-        → AreServed kept received told saw goes room ends starts served → Serving kept received told saw goes room start given back
-        → AreServed kept received told saw goes room (ends ++ given ∷ []) (starts ++ start ∷ []) (served ++ back ∷ [])
+        → AreServed kept received told saw does goes room ends starts served → Serving kept received told saw does goes room start given back
+        → AreServed kept received told saw does goes room (ends ++ given ∷ []) (starts ++ start ∷ []) (served ++ back ∷ [])
     served_push ends starts served given start back are serving =
         let many = are.many in
         let handlers = are.handlers in
@@ -131,15 +132,15 @@ module _ {O A K E : Type 0} (kept : O → K) (received : O → Received E) (saw 
                   start,
                   ap (λ (i : ℕ). get_elem? (ends ++ given ∷ []) i) (last.0 ∙ many) ∙ pushed ends given,
                   ap (λ (i : ℕ). get_elem? (starts ++ start ∷ []) i) (last.0 ∙ handlers) ∙ pushed starts start,
-                  subst (λ (x : Served O A). Serving kept received told saw goes room start given x) last.1 serving,
+                  subst (λ (x : Served O A). Serving kept received told saw does goes room start given x) last.1 serving,
                 )
               ];
         }
 
     -- what was served after some rounds
     pub served_after : (ends : List O) (starts : List A) (outlets : List O) (handlers : List A) (served : List (Served O A))
-        → AreShown kept received saw goes room ends starts outlets handlers → AreServed kept received told saw goes room outlets handlers served
-        → AreServed kept received told saw goes room ends starts served
+        → AreShown kept received saw does goes room ends starts outlets handlers → AreServed kept received told saw does goes room outlets handlers served
+        → AreServed kept received told saw does goes room ends starts served
     served_after ends starts outlets handlers served are come = record {
       many = come.many ∙ are.many;
       handlers = come.many ∙ are.many ∙ sym are.begun;
@@ -151,7 +152,7 @@ module _ {O A K E : Type 0} (kept : O → K) (received : O → Received E) (saw 
             at_end,
             at_start,
             record {
-              shows = shows_more kept received saw goes room start handler back.handler end outlet back.outlet before serving.shows;
+              shows = shows_more kept received saw does goes room start handler back.handler end outlet back.outlet before serving.shows;
               drained = serving.drained;
             },
           );

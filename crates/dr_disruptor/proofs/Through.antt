@@ -2,6 +2,7 @@
 use Rattle.std.proofs.Common.{◌≡◌, ℕ, ◌≤◌, Bool, true, List, [], ◌++◌, length, map, refl, sym, subst, ap, ◌∙◌, arith}
 use mathlib.Core.Option.{some, some-injective}
 use lib.ListN.{get_elem?, length-map}
+use Rattle.dr_meaning.specs.Calls.Calling.{InPlaceCall}
 use Rattle.dr_meaning.specs.Calls.Ends.{Received}
 use Rattle.dr_meaning.specs.Calls.Handling.{Relation}
 use Rattle.dr_workers.specs.Meaning.Work.{FollowFrom, dealt_events}
@@ -10,11 +11,11 @@ use Rattle.dr_runs.proofs.Lists.{at_map, map_there}
 use Rattle.dr_disruptor.specs.declared.served.Served.{Served}
 use Rattle.dr_disruptor.specs.Handlers.{AllWentThrough, WentThrough}
 use Rattle.dr_disruptor.proofs.Showing.{weaken}
-use Rattle.dr_disruptor.specs.Serving.{AreInBatches, AreServed, CameBackServed, GaveBack, IsIdle, Serving, Shows, Worker, given_end, given_handler}
+use Rattle.dr_disruptor.specs.Serving.{AreInBatches, AreServed, CameBackServed, GaveBack, IsIdle, Serving, Shows, TakesInTurn, Worker, given_end, given_handler}
 
-module _ {O A K E : Type 0} (kept : O → K) (received : O → Received E) (told : O → Bool) (saw : O → ℕ → Type 0) (goes : Relation E A) (room : ℕ) where
+module _ {O A K E : Type 0} (kept : O → K) (received : O → Received E) (told : O → Bool) (saw : O → ℕ → Type 0) (does : O → InPlaceCall → O → Type 0) (goes : Relation E A) (room : ℕ) where
   -- over an end that handed out nothing before
-  pub went : (start after : A) (given back : O) (events : List E) → Shows kept received saw goes room start after given back
+  pub went : (start after : A) (given back : O) (events : List E) → Shows kept received saw does goes room start after given back
       → (received given).events ≡ [] → (received back).events ≡ events → ((n : ℕ) → saw back n → n ≤ length events) → WentThrough goes room start after events
   went start after given back events s none all most = record {
     batches = s.batches;
@@ -25,8 +26,8 @@ module _ {O A K E : Type 0} (kept : O → K) (received : O → Received E) (told
   }
 
   -- what workers gave back that poll with so much room
-  pub served_by : (ws : List (Worker O A)) (served : List (Served O A)) → AreInBatches room ws → GaveBack kept received told saw goes ws served
-      → AreServed kept received told saw goes room (map given_end ws) (map given_handler ws) served
+  pub served_by : (ws : List (Worker O A)) (served : List (Served O A)) → AreInBatches room ws → GaveBack kept received told saw does goes ws served
+      → AreServed kept received told saw does goes room (map given_end ws) (map given_handler ws) served
   served_by ws served polls are = record {
     many = are.many ∙ sym (length-map ws given_end);
     handlers = are.many ∙ sym (length-map ws given_handler);
@@ -37,27 +38,27 @@ module _ {O A K E : Type 0} (kept : O → K) (received : O → Received E) (told
           given_handler w,
           map_there given_end ws h w at_w,
           map_there given_handler ws h w at_w,
-          subst (λ (n : ℕ). Serving kept received told saw goes n (given_handler w) (given_end w) back) polls_so serving,
+          subst (λ (n : ℕ). Serving kept received told saw does goes n (given_handler w) (given_end w) back) polls_so serving,
         );
   }
 
   -- what came back so also came back of lists that are the same
   pub served_as : (ends ends' : List O) (starts starts' : List A) (outlets outlets' : List O) (handlers handlers' : List A)
       → ends ≡ ends' → starts ≡ starts' → outlets ≡ outlets' → handlers ≡ handlers'
-      → CameBackServed kept received told saw goes room ends starts outlets handlers → CameBackServed kept received told saw goes room ends' starts' outlets' handlers'
+      → CameBackServed kept received told saw does goes room ends starts outlets handlers → CameBackServed kept received told saw does goes room ends' starts' outlets' handlers'
   served_as ends ends' starts starts' outlets outlets' handlers handlers' of_ends of_starts of_outlets of_handlers back = record {
     served = back.served;
-    are = subst (λ (l : List O). AreServed kept received told saw goes room l starts' back.served) of_ends
-        (subst (λ (l : List A). AreServed kept received told saw goes room ends l back.served) of_starts back.are);
+    are = subst (λ (l : List O). AreServed kept received told saw does goes room l starts' back.served) of_ends
+        (subst (λ (l : List A). AreServed kept received told saw does goes room ends l back.served) of_starts back.are);
     ends_back = sym of_outlets ∙ back.ends_back;
     handlers_back = sym of_handlers ∙ back.handlers_back;
   }
 
   -- the handler at a place was shown what the end at that place handed out
   pub served_at : (ends : List O) (starts : List A) (outlets : List O) (handlers : List A)
-      → CameBackServed kept received told saw goes room ends starts outlets handlers → (h : ℕ) (start : A) → get_elem? starts h ≡ some start
+      → CameBackServed kept received told saw does goes room ends starts outlets handlers → (h : ℕ) (start : A) → get_elem? starts h ≡ some start
       → (after : A) × (outlet : O) × (given : O) × (get_elem? handlers h ≡ some after) × (get_elem? outlets h ≡ some outlet) × (get_elem? ends h ≡ some given)
-      × Shows kept received saw goes room start after given outlet
+      × Shows kept received saw does goes room start after given outlet
   served_at ends starts outlets handlers back h start at =
       let inside = at_below starts h start at in
       let many = back.are.handlers in
@@ -70,28 +71,32 @@ module _ {O A K E : Type 0} (kept : O → K) (received : O → Received E) (told
         ap (λ (l : List A). get_elem? l h) back.handlers_back ∙ map_there (λ (s : Served O A). s.handler) back.served h b.0 b.1,
         ap (λ (l : List O). get_elem? l h) back.ends_back ∙ map_there (λ (s : Served O A). s.outlet) back.served h b.0 b.1,
         at_given,
-        subst (λ (a : A). Shows kept received saw goes room a b.0.handler given b.0.outlet) is serving.shows,
+        subst (λ (a : A). Shows kept received saw does goes room a b.0.handler given b.0.outlet) is serving.shows,
       )
 
-  -- of ends that began with nothing it went through just what the end at its place handed out, where no end saw more
-  pub shown_from_none : (ends : List O) (starts : List A) (outlets : List O) (handlers : List A) (place : ℕ → K)
-      → ((h : ℕ) (given : O) → get_elem? ends h ≡ some given → (kept given ≡ place h) × ((received given).events ≡ []))
+  -- of ends that began with nothing it went through just what the end at its place handed out in turn, where no end saw more
+  pub shown_from_none : (ends : List O) (starts : List A) (outlets : List O) (handlers : List A) (new : ℕ → O)
+      → ((h : ℕ) (given : O) → get_elem? ends h ≡ some given → given ≡ new h) → ((h : ℕ) → (received (new h)).events ≡ [])
       → ((h : ℕ) (e : O) → get_elem? outlets h ≡ some e → (n : ℕ) → saw e n → n ≤ length (received e).events)
-      → CameBackServed kept received told saw goes room ends starts outlets handlers → (h : ℕ) (start : A) → get_elem? starts h ≡ some start
-      → (after : A) × (end : O) × (get_elem? handlers h ≡ some after) × (get_elem? outlets h ≡ some end) × (kept end ≡ place h)
-      × WentThrough goes room start after (received end).events
-  shown_from_none ends starts outlets handlers place new most back h start at =
+      → CameBackServed kept received told saw does goes room ends starts outlets handlers → (h : ℕ) (start : A) → get_elem? starts h ≡ some start
+      → (after : A) × (end : O) × (get_elem? handlers h ≡ some after) × (get_elem? outlets h ≡ some end) × (kept end ≡ kept (new h))
+      × ((w : WentThrough goes room start after (received end).events) × TakesInTurn does room w.batches (new h) end)
+  unfolding went served_at
+  shown_from_none ends starts outlets handlers new are_new none most back h start at =
       let (after, end, given, at_after, at_end, at_given, shows) = served_at ends starts outlets handlers back h start at in
-      let (stands, none) = new h given at_given in (
+      let is : given ≡ new h = are_new h given at_given in (
         after,
         end,
         at_after,
         at_end,
-        shows.place ∙ stands,
-        went start after given end (received end).events shows none refl (most h end at_end),
+        shows.place ∙ ap kept is,
+        (
+          went start after given end (received end).events shows (ap (λ (o : O). (received o).events) is ∙ none h) refl (most h end at_end),
+          subst (λ (o : O). TakesInTurn does room shows.batches o end) is shows.turns,
+        ),
       )
 
-  module _ (ends : List O) (starts : List A) (served : List (Served O A)) (are : AreServed kept received told saw goes room ends starts served) where
+  module _ (ends : List O) (starts : List A) (served : List (Served O A)) (are : AreServed kept received told saw does goes room ends starts served) where
     abbrev outlets : List O
     outlets = map (λ (s : Served O A). s.outlet) served
 

@@ -6,7 +6,7 @@ use Rattle.dr_meaning.specs.Calls.Handling.{GoesThrough, Relation}
 use Rattle.dr_workers.specs.Meaning.Work.{Dealt, FollowFrom, dealt_events, shown_of}
 use Rattle.dr_disruptor.specs.Serving.{IsPolled}
 
--- a handler went from one meaning to another through exactly these events: each once, in sequence order from 0 on, in batches of at most so many, each of which ends with a mark, unless it is of so many and others come after it
+-- a handler went from one meaning to another through exactly these events: each once, in sequence order from 0 on, in batches, each of as many as were offered then but at most of so many, of which the last is marked if and only if no more were offered
 pub record WentThrough {E A : Type 0} (goes : Relation E A) (most : ℕ) (start after : A) (events : List E) : Type 0 where
   pub batches : List (Dealt E)
   pub through : GoesThrough goes start (shown_of batches) after

@@ -2,6 +2,7 @@
 use Rattle.std.specs.Prelude.{◌≡◌, ◌≢◌, ℕ, List, Ok, length}
 use mathlib.Core.Option.{some}
 use lib.ListN.{get_elem?}
+use Rattle.dr_meaning.specs.Calls.Calling.{InPlaceCall}
 use Rattle.dr_meaning.specs.Calls.Ends.{Received}
 use Rattle.dr_meaning.specs.Calls.Handling.{Relation}
 use Rattle.dr_plain.specs.Calls.Ends.{ReceiverEnd, SenderEnd, SenderPlace, sender_place}
@@ -10,18 +11,18 @@ use Rattle.dr_meaning.specs.declared.claim_fault.ClaimFault.TheVariants.{Refused
 use Rattle.dr_meaning.specs.declared.command.Polled.{Polled}
 use Rattle.dr_meaning.specs.declared.refusal.Refusal.TheVariants.{NoRoom}
 use Rattle.dr_meaning.specs.Calls.InPlaceInlets.{Sending}
-use Rattle.dr_plain.specs.Calls.InPlace.{RefusesClaim, sending_of}
+use Rattle.dr_plain.specs.Calls.InPlace.{RefusesClaim, StoresStretch, sending_of}
 use Rattle.dr_plain.specs.Calls.Turning.{TurnCall}
 use Rattle.dr_disruptor.specs.Serving.{Shows}
 
 -- each of some handlers was shown what its end handed out, from what both were before
-pub record AreShown {O A K E : Type 0} (kept : O → K) (received : O → Received E) (saw : O → ℕ → Type 0) (goes : Relation E A) (room : ℕ)
+pub record AreShown {O A K E : Type 0} (kept : O → K) (received : O → Received E) (saw : O → ℕ → Type 0) (does : O → InPlaceCall → O → Type 0) (goes : Relation E A) (room : ℕ)
     (ends : List O) (starts : List A) (outlets : List O) (handlers : List A) : Type 0 where
   pub many : length outlets ≡ length ends
   pub alike : length handlers ≡ length outlets
   pub begun : length starts ≡ length ends
   pub each : (h : ℕ) (outlet : O) (handler : A) → get_elem? outlets h ≡ some outlet → get_elem? handlers h ≡ some handler
-      → (end : O) × (start : A) × (get_elem? ends h ≡ some end) × (get_elem? starts h ≡ some start) × Shows kept received saw goes room start handler end outlet
+      → (end : O) × (start : A) × (get_elem? ends h ≡ some end) × (get_elem? starts h ≡ some start) × Shows kept received saw does goes room start handler end outlet
 
 -- each of a ring's handlers had one turn, with room for so many: it was shown what its poll found and completed that, or its poll's looks found nothing for it
 pub record HadTurns {E A : Type 0} (goes : Relation E A) (room : ℕ) (ends : List (ReceiverEnd E)) (starts : List A) (receivers : List (ReceiverEnd E)) (handlers : List A) : Type 0 where
@@ -59,3 +60,7 @@ module _ {E A : Type 0} where
   -- a refused claim tells all that the ring's own does, and which turns it gave
   abbrev pub refuses_here : Relation E A → HereEnd E A → ℕ → ClaimFault → HereEnd E A → Type 0
   refuses_here goes e n fault e' = RefusesClaim e.sender n fault e'.sender × TurnsAt goes fault e e'
+
+  -- a publication tells all that the ring's own does, and no handler has a turn
+  abbrev pub stores_here : HereEnd E A → ℕ → ℕ → HereEnd E A → Type 0
+  stores_here e lo hi e' = StoresStretch e.sender lo hi e'.sender × (e'.receivers ≡ e.receivers) × (e'.handlers ≡ e.handlers)

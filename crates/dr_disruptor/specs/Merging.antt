@@ -25,7 +25,7 @@ use Rattle.dr_disruptor.specs.declared.feeds.Sent.{Sent}
 use Rattle.dr_disruptor.specs.declared.running.Ran.{Ran}
 use Rattle.dr_disruptor.specs.declared.served.Served.{Served}
 use Rattle.dr_disruptor.specs.Feeding.{LeavesClosed}
-use Rattle.dr_plain_senders.specs.Calls.InPlace.{SawSome, sending_of}
+use Rattle.dr_plain_senders.specs.Calls.InPlace.{SawSome, does_in_place, sending_of}
 use Rattle.dr_disruptor.specs.Serving.{AreServed, CameBackServed, Worker, given_end, given_handler}
 
 -- of a graph of so many handlers, where so many handlers and closures were given: that the handlers differ, then that no ring has so many senders, and else a lack of memory or of a thread
@@ -49,7 +49,7 @@ module _ {E : Type 0} where
   -- each handler was shown what the receiver at its place took, in polls with so much room, and came back at its place
   abbrev pub AreServedBack : {A : Type 0} → Relation E A → ℕ → List (ReceiverEnd E) → List A → List (ReceiverEnd E) → List A → Type 0
   AreServedBack goes most ends starts outlets handlers =
-      CameBackServed receiver_place (λ e. received_of e.knows) (λ e. e.knows.told) SawSome goes most ends starts outlets handlers
+      CameBackServed receiver_place (λ e. received_of e.knows) (λ e. e.knows.told) SawSome does_in_place goes most ends starts outlets handlers
 
   -- a receiver took and completed all that is published
   abbrev pub HasAll : World E → ReceiverEnd E → Type 0
@@ -77,7 +77,7 @@ module _ {E : Type 0} where
   pub record IsWoundUp {A B : Type 0} (goes : Relation E A) (room : ℕ) (workers : List (Worker (ReceiverEnd E) A)) (sent : List (Sent E B)) (halter : HalterStand E)
       (handlers : List A) (settled : Settled E) (values : List E) (answers : List B) : Type 0 where
     pub served : List (Served (ReceiverEnd E) A)
-    pub kept : AreServed receiver_place (λ e. received_of e.knows) (λ e. e.knows.told) SawSome goes room (map given_end workers) (map given_handler workers) served
+    pub kept : AreServed receiver_place (λ e. received_of e.knows) (λ e. e.knows.told) SawSome does_in_place goes room (map given_end workers) (map given_handler workers) served
     pub after : HalterStand E
     pub halts : HaltsOnly halter after
     pub ends : AreSettled settled (map (λ s. s.sender) sent) (map (λ s. s.outlet) served) after

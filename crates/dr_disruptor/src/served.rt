@@ -50,7 +50,7 @@ impl<O, H> Drop for ServesPromise<O, H> {
 }
 
 impl<O: InPlaceOutlet, H: InPlaceHandler<O::Event>> Promise<Served<O, H>> for ServesPromise<O, H> {
-    ghost kept_by = { λ p r. Serving O.kept O.received O.told O.saw H.goes p.batch p.start.value p.end.value r };
+    ghost kept_by = { λ p r. Serving O.kept O.received O.told O.saw O.does H.goes p.batch p.start.value p.end.value r };
 }
 
 // Shows a handler what its end has in hand, `count` events from `first` on. Where `end` is true the last is marked.
@@ -84,7 +84,7 @@ fn turn<O: InPlaceOutlet, H: InPlaceHandler<O::Event>, P: Patience>(
 ) -> bool
     requires idle { IsIdle (O.received outlet.old) }
     requires batch { 0 < batch }
-    ensures shows { Shows O.kept O.received O.saw H.goes batch handler.old handler.new outlet.old outlet.new }
+    ensures shows { Shows O.kept O.received O.saw O.does H.goes batch handler.old handler.new outlet.old outlet.new }
     ensures told { result ≡ false → O.told outlet.new ≡ true }
 {
     match outlet.poll(batch) {
@@ -118,7 +118,7 @@ fn turns<R: Wait, O: InPlaceOutlet, H: InPlaceHandler<O::Event>, P: Patience>(
 )
     requires idle { IsIdle (O.received outlet.old) }
     requires batch { 0 < batch }
-    ensures shows { Shows O.kept O.received O.saw H.goes batch handler.old handler.new outlet.old outlet.new }
+    ensures shows { Shows O.kept O.received O.saw O.does H.goes batch handler.old handler.new outlet.old outlet.new }
     ensures told { O.told outlet.new ≡ true }
 {
     for _ in rt.forever() {
@@ -141,7 +141,7 @@ pub fn serve<R: Wait, O: InPlaceOutlet, H: InPlaceHandler<O::Event>>(
 ) -> Served<O, H>
     requires idle { IsIdle (O.received outlet) }
     requires batch { 0 < way.batch }
-    ensures { Serving O.kept O.received O.told O.saw H.goes way.batch handler outlet result }
+    ensures { Serving O.kept O.received O.told O.saw O.does H.goes way.batch handler outlet result }
 {
     let mut waits = way.strategy.begin(rt, bell, way.batch);
     turns(rt, &mut outlet, &mut handler, bell, &mut waits, way.batch);

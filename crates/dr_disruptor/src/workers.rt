@@ -97,7 +97,7 @@ pub fn join<R: Threads, O: InPlaceOutlet + Drop, H: InPlaceHandler<O::Event> + D
     rt: &R,
     workers: Vec<Worker<O, H>>,
 ) -> Result<Vec<Served<O, H>>, AllocError>
-    ensures { IfOk result (λ served. GaveBack O.kept O.received O.told O.saw H.goes workers.items served.items) }
+    ensures { IfOk result (λ served. GaveBack O.kept O.received O.told O.saw O.does H.goes workers.items served.items) }
 {
     match join_promised(rt, workers) {
         Ok(served) => Ok(served),

@@ -99,11 +99,30 @@ last_ends room end (b ∷ []) full is = let one : IsFull room b = full.0 in show
 last_ends room end (b ∷ c ∷ bs) full is =
     last_ends room end (c ∷ bs) full.1 (ends_behind end (showings b.events b.first b.end) (shown_of (c ∷ bs)) is)
 
+-- it had all that was offered, where others come behind each that is not marked
+polled_by : (room total : ℕ) (b : Dealt Event) (end : Bool) → b.end ≡ end → IsFull room b → b.first + length b.events ≤ total
+    → (end ≡ false → b.first + length b.events < total) → IsPolled room (λ n. n ≤ total) b
+polled_by room total b true is full below more =
+    let fits : length b.events ≤ room = full.1 in
+    (b.first + length b.events, below, omega arith, (λ ends. refl, λ same. is))
+polled_by room total b false is full below more =
+    let fills : length b.events ≡ room = elim full.2 [
+      | inl ends ↦ absurd (cc)
+      | inr fills ↦ fills
+    ]
+    in
+    let less : b.first + length b.events < total = more refl in
+    (b.first + length b.events + 1, omega arith, omega arith, (λ ends. let also : b.end ≡ true = ends in absurd (cc), λ same. absurd (omega arith)))
+
 polled : (room n total : ℕ) (bs : List (Dealt Event)) → AreFull room bs → FollowFrom n bs → LastEnds true bs → n + length (dealt_events bs) ≡ total
     → All (IsPolled room (λ n. n ≤ total)) bs
 polled room n total [] full follow last all = All-nil (IsPolled room (λ n. n ≤ total))
 polled room n total (b ∷ []) full follow last all =
-    let one : IsFull room b = full.0 in All-cons (IsPolled room (λ n. n ≤ total)) b [] (one.1, inl last) (All-nil (IsPolled room (λ n. n ≤ total)))
+    let one : IsFull room b = full.0 in
+    let first : b.first ≡ n = follow.0 in
+    let long : length (dealt_events (b ∷ [])) ≡ length b.events + 0 = length-append b.events [] in
+    All-cons (IsPolled room (λ n. n ≤ total)) b [] (polled_by room total b b.end refl one (omega arith) (λ no. absurd (cc)))
+    (All-nil (IsPolled room (λ n. n ≤ total)))
 polled room n total (b ∷ c ∷ bs) full follow last all =
     let one : IsFull room b = full.0 in
     let next : IsFull room c = full.1.0 in
@@ -112,13 +131,8 @@ polled room n total (b ∷ c ∷ bs) full follow last all =
     let long : length (dealt_events (b ∷ c ∷ bs)) ≡ length b.events + length (dealt_events (c ∷ bs)) = length-append b.events (dealt_events (c ∷ bs)) in
     let more : length (dealt_events (c ∷ bs)) ≡ length c.events + length (dealt_events bs) = length-append c.events (dealt_events bs) in
     let left : n + length b.events + length (dealt_events (c ∷ bs)) ≡ total = omega arith in
-    All-cons (IsPolled room (λ n. n ≤ total)) b (c ∷ bs) (
-      one.1,
-      elim one.2 [
-        | inl ends ↦ inl ends
-        | inr fills ↦ inr (fills, omega arith)
-      ],
-    )
+    let less : b.first + length b.events < total = omega arith in
+    All-cons (IsPolled room (λ n. n ≤ total)) b (c ∷ bs) (polled_by room total b b.end refl one (omega arith) (λ no. less))
     (polled room (n + length b.events) total (c ∷ bs) full.1 follow.2 last left)
 
 -- Of the handler that lists them.

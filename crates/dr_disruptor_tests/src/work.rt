@@ -15,10 +15,6 @@ pub struct Tally {
 }
 
 impl InPlaceHandler<u64> for Tally {
-    ghost use Rattle.std.specs.Prelude.{⊤};
-
-    ghost goes = { λ old event s end new. ⊤ };
-
     fn on_event_in_place(&mut self, event: &u64, s: u64, end: bool) {
         self.sum = self.sum.wrapping_add(*event);
         if end {
@@ -32,10 +28,6 @@ impl InPlaceHandler<u64> for Tally {
 pub struct Count(pub u64);
 
 impl InPlaceHandler<u64> for Count {
-    ghost use Rattle.std.specs.Prelude.{⊤};
-
-    ghost goes = { λ old event s end new. ⊤ };
-
     fn on_event_in_place(&mut self, _event: &u64, _s: u64, _end: bool) {
         self.0 = self.0.wrapping_add(1);
     }
@@ -60,10 +52,6 @@ impl Default for InOrder {
 }
 
 impl InPlaceHandler<u64> for InOrder {
-    ghost use Rattle.std.specs.Prelude.{⊤};
-
-    ghost goes = { λ old event s end new. ⊤ };
-
     fn on_event_in_place(&mut self, event: &u64, _s: u64, _end: bool) {
         if *event == self.low {
             self.low = self.low.wrapping_add(1);
@@ -80,10 +68,6 @@ impl InPlaceHandler<u64> for InOrder {
 pub struct Greatest(pub u64);
 
 impl Handler<u64> for Greatest {
-    ghost use Rattle.std.specs.Prelude.{⊤};
-
-    ghost goes = { λ old event s end new. ⊤ };
-
     fn on_event(&mut self, event: u64, _s: u64, _end: bool) {
         self.0 = self.0.max(event);
     }
@@ -94,10 +78,6 @@ impl Handler<u64> for Greatest {
 pub struct Calls(pub Arc<AtomicU64, Global>);
 
 impl InPlaceHandler<u64> for Calls {
-    ghost use Rattle.std.specs.Prelude.{⊤};
-
-    ghost goes = { λ old event s end new. ⊤ };
-
     fn on_event_in_place(&mut self, _event: &u64, _s: u64, _end: bool) {
         self.0.fetch_add(1, Ordering::SeqCst);
     }
@@ -112,10 +92,6 @@ pub struct Mixing {
 }
 
 impl InPlaceHandler<u64> for Mixing {
-    ghost use Rattle.std.specs.Prelude.{⊤};
-
-    ghost goes = { λ old event s end new. ⊤ };
-
     fn on_event_in_place(&mut self, event: &u64, _s: u64, _end: bool) {
         if *event == 1 {
             self.ones = self.ones.wrapping_add(1);

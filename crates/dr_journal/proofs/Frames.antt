@@ -40,7 +40,7 @@ clean_ends (b ∷ l) clean = let tail = clean_ends l clean.2 in let step = more 
 pub whole_frame : (batch : List (List ℕ)) → IsWhole (frame batch)
 whole_frame batch = clean_ends (coded_records batch) (clean_lines batch) ∙ sym (length-append (coded_records batch) (2 ∷ []))
 
-push_own : (so_far : List ℕ) (less b : ℕ) (rest : List ℕ) → b ≢ 1 → b ≢ 2 → b ≢ 3 → records_from so_far less (b ∷ rest) ≡ records_from (so_far ++ (b - less) ∷ []) 0 rest
+pub push_own : (so_far : List ℕ) (less b : ℕ) (rest : List ℕ) → b ≢ 1 → b ≢ 2 → b ≢ 3 → records_from so_far less (b ∷ rest) ≡ records_from (so_far ++ (b - less) ∷ []) 0 rest
 push_own so_far less b rest not_1 not_2 not_3 = grind (arith, nat_tests)
 
 read_coded : (so_far bytes rest : List ℕ) → records_from so_far 0 (coded bytes ++ 1 ∷ rest) ≡ (so_far ++ bytes) ∷ records_from [] 0 rest

@@ -2,5 +2,6 @@
 pub mod Faults
 pub mod Journals
 pub mod Opening
+pub mod Reading
 pub mod Records
 pub mod Handling

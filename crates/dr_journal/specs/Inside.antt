@@ -4,3 +4,5 @@ pub mod Past
 pub mod Memory
 pub mod File
 pub mod Handler
+pub mod Reading
+pub mod Opened

@@ -1,8 +1,7 @@
-//! Batches of records as bytes, and back.
+//! Batches of records as bytes.
 
-ghost use Rattle.std.specs.Prelude.{◌≡◌, ◌≤◌, ◌++◌, [], ◌∷◌, length, drop, replicate, IfOk, OnOk};
-ghost use Rattle.dr_journal.specs.declared.coding.Beginning.TheVariants.{Journal, New, Foreign};
-ghost use Rattle.dr_journal.specs.Meaning.Format.{header, IsJournal, IsNew, IsForeign, whole_length, records_from, coded, frame};
+ghost use Rattle.std.specs.Prelude.{◌≡◌, ◌≤◌, ◌++◌, [], ◌∷◌, drop, replicate, IfOk, OnOk};
+ghost use Rattle.dr_journal.specs.Meaning.Format.{header, coded, frame};
 ghost use Rattle.dr_journal.specs.Calls.Journals.{bytes_of};
 
 use std::alloc::{AllocError, Global};
@@ -12,41 +11,18 @@ pub(crate) const HEADER: [u8; 8] = *b"DISRUPT1";
 
 pub(crate) const HEADER_LENGTH: usize = 8;
 
-const END_OF_RECORD: u8 = 1;
+pub(crate) const END_OF_RECORD: u8 = 1;
 
-const END_OF_BATCH: u8 = 2;
+pub(crate) const END_OF_BATCH: u8 = 2;
 
-const FOUR_LESS: u8 = 3;
+pub(crate) const FOUR_LESS: u8 = 3;
 
-/// What a file is by its first bytes.
-#[derive(Clone, Copy, PartialEq, Eq)]
-pub(crate) enum Beginning {
-    Journal,
-    New,
-    Foreign,
-}
-
-/// How a file begins.
-pub(crate) fn beginning_of(bytes: &[u8]) -> Beginning
-    ensures journal { result ≡ Journal → IsJournal bytes.now }
-    ensures new { result ≡ New → IsNew bytes.now }
-    ensures foreign { result ≡ Foreign → IsForeign bytes.now }
+/// What a new file of so many bytes lacks of a header and a byte 0.
+pub(crate) fn rest_of_header(alloc: Global, len: usize) -> Result<Vec<u8>, AllocError>
+    requires { len ≤ 8 }
+    ensures { IfOk result (λ rest. rest.items ≡ drop len header ++ 0 ∷ []) }
 {
-    if bytes.starts_with(&HEADER) {
-        Beginning::Journal
-    } else if HEADER.starts_with(bytes) {
-        Beginning::New
-    } else {
-        Beginning::Foreign
-    }
-}
-
-/// What a new file of these bytes lacks of a header and a byte 0.
-pub(crate) fn rest_of_header(alloc: Global, bytes: &[u8]) -> Result<Vec<u8>, AllocError>
-    requires { length bytes.now ≤ 8 }
-    ensures { IfOk result (λ rest. rest.items ≡ drop (length bytes.now) header ++ 0 ∷ []) }
-{
-    let mut rest = HEADER[bytes.len()..].to_vec(alloc)?;
+    let mut rest = HEADER[len..].to_vec(alloc)?;
     rest.push(0)?;
     Ok(rest)
 }
@@ -84,49 +60,4 @@ pub(crate) fn zeros(alloc: Global, n: usize) -> Result<Vec<u8>, AllocError>
     ensures { IfOk result (λ bytes. bytes.items ≡ replicate n 0) }
 {
     vec![in alloc; 0u8; n]
-}
-
-/// How many bytes there are up to the last end of a batch before the first 0.
-pub(crate) fn measure(bytes: &[u8]) -> usize
-    ensures end { result ≡ whole_length bytes.now }
-    ensures within { result ≤ length bytes.now }
-{
-    let mut end = 0;
-    for (k, byte) in bytes.iter().enumerate() {
-        if *byte == 0 {
-            return end;
-        }
-        if *byte == END_OF_BATCH {
-            end = k + 1;
-        }
-    }
-    end
-}
-
-/// The records of whole batches.
-pub(crate) fn read_records(alloc: Global, bytes: &[u8]) -> Result<Vec<Vec<u8>>, AllocError>
-    ensures { IfOk result (λ records. bytes_of records.items ≡ records_from [] 0 bytes.now) }
-{
-    let mut records = Vec::new(alloc);
-    let mut record = Vec::new(alloc);
-    let mut less = 0u8;
-    for byte in bytes {
-        match *byte {
-            END_OF_RECORD => {
-                records.push(record)?;
-                record = Vec::new(alloc);
-                less = 0;
-            }
-            END_OF_BATCH => {
-                record = Vec::new(alloc);
-                less = 0;
-            }
-            FOUR_LESS => less = 4,
-            own => {
-                record.push(own.saturating_sub(less))?;
-                less = 0;
-            }
-        }
-    }
-    Ok(records)
 }

@@ -2,26 +2,22 @@
 //! contracts alone see. No clause can say that the system does as they say: each method below has to be
 //! read, whether it makes the call that it notes.
 
-ghost use Rattle.std.specs.Prelude.{◌≡◌, ◌<◌, ◌^◌, length, IfOk, true, false, Ok, Err};
-ghost use Rattle.dr_journal.specs.Meaning.Disk.{Only};
+ghost use Rattle.std.specs.Prelude.{◌≡◌, length, true, false, Ok, Err};
 ghost use Rattle.dr_journal.specs.Inside.File.{seen_in, faults_in};
 ghost use Rattle.dr_journal.specs.declared.fault.JournalFault.TheVariants.{Failed};
 
 use crate::{Device, JournalFault};
-use std::alloc::Global;
 use std::fs::File;
 use std::mem;
 use std::os::unix::fs::FileExt;
 use std::snapshot::Snapshot;
 
-const MOST: u64 = 1 << 60;
-
-/// All calls so far, and whether they were answered: what the file had as it was opened, or those before the last one, and
-/// that.
+/// All calls so far, and whether they were answered: those before the last one, and that. They begin with
+/// what was read as the file was opened, piece by piece.
 #[derive(Drop)]
 pub(crate) enum Calls {
     Unopened,
-    Opened(Snapshot<Vec<u8>>),
+    Read(Snapshot<Calls>, Snapshot<Vec<u8>>),
     Overwritten(Snapshot<Calls>, usize, Snapshot<Vec<u8>>, bool),
     Extended(Snapshot<Calls>, u64, Snapshot<Vec<u8>>, bool),
     Synced(Snapshot<Calls>, bool),
@@ -53,47 +49,19 @@ fn told(done: bool) -> Result<(), JournalFault>
     }
 }
 
-fn read_all(alloc: Global, file: &File) -> Result<Vec<u8>, JournalFault>
-    ensures { IfOk result (λ bytes. length bytes.items < 2 ^ 63) }
-{
-    let Ok(metadata) = file.metadata() else {
-        return Err(JournalFault::Failed);
-    };
-    if metadata.len() > MOST {
-        return Err(JournalFault::NoMemory);
-    }
-    let mut bytes = vec![in alloc; 0u8; metadata.len() as usize]?;
-    match file.read_exact_at(&mut bytes, 0) {
-        Ok(()) => Ok(bytes),
-        Err(_) => Err(JournalFault::Failed),
-    }
-}
-
 impl FileDevice {
-    ghost use Rattle.dr_journal.specs.Inside.File.{left_in, moment_in};
-
-    /// An open file, and the bytes that it has, all of them on the disk.
-    pub(crate) fn new(alloc: Global, file: File) -> Result<(FileDevice, Vec<u8>), JournalFault>
-        ensures bytes { IfOk result (λ r. r.1.items ≡ seen_in r.0.calls.value) }
-        ensures small { IfOk result (λ r. length r.1.items < 2 ^ 63) }
-        ensures durable { IfOk result (λ r. Only (seen_in r.0.calls.value) (left_in r.0.calls.value)) }
-        ensures moment { IfOk result (λ r. moment_in r.0.calls.value ≡ 0) }
+    /// A file of so many bytes, all of which were read, and are on the disk.
+    pub(crate) fn new(file: File, len: u64, calls: Snapshot<Calls>) -> FileDevice
+        requires len { len ≡ length (seen_in calls.value) }
+        requires works { faults_in calls.value ≡ 0 }
+        ensures calls { result.calls.value ≡ calls.value }
     {
-        if file.sync_all().is_err() {
-            return Err(JournalFault::Failed);
+        FileDevice {
+            file,
+            len,
+            is_broken: false,
+            calls,
         }
-        let bytes = read_all(alloc, &file)?;
-        let len = bytes.len() as u64;
-        let calls = Snapshot::of(&Calls::Opened(Snapshot::of(&bytes)));
-        Ok((
-            FileDevice {
-                file,
-                len,
-                is_broken: false,
-                calls,
-            },
-            bytes,
-        ))
     }
 }
 

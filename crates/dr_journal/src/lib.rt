@@ -24,6 +24,8 @@ mod memory;
 mod opening;
 mod record;
 mod recovery;
+mod repair;
+mod scan;
 
 pub use device::Device;
 pub use fault::{JournalFault, OpenFault};
@@ -32,6 +34,6 @@ pub use handler::Journaling;
 pub use journal::Journal;
 pub use lawful::{batches_come_back, what_was_shown_is_kept};
 pub use memory::MemoryDevice;
-pub use opening::open;
+pub use opening::{Opening, open};
 pub use record::{AsRecord, RecordFault, read_events};
-pub use recovery::recover;
+pub use recovery::{Recovery, recover};

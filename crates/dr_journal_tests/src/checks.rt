@@ -2,7 +2,7 @@
 ghost use Rattle.std.specs.Prelude.{◌<◌, ◌^◌, length, IfOk};
 ghost use Rattle.dr_journal.specs.Calls.Journals.{IsAtRest};
 
-use dr_journal::{Device, Journal, MemoryDevice, OpenFault, recover};
+use dr_journal::{Device, Journal, MemoryDevice, OpenFault, Recovery, recover};
 use std::alloc::Global;
 use std::process::Abort;
 use std::test::Fail;
@@ -21,6 +21,25 @@ pub fn opened(alloc: Global, bytes: &[u8]) -> Result<(Journal<MemoryDevice>, Vec
     match recover(alloc, device, bytes) {
         Ok(opened) => Ok(opened),
         Err((OpenFault::NotAJournal, _device)) => Err(Fail::from("not a journal")),
+        Err(_) => Err(Fail::from("no memory")),
+    }
+}
+
+/// The same, of a file that comes byte by byte.
+pub fn opened_by_bytes(
+    alloc: Global,
+    bytes: &[u8],
+) -> Result<(Journal<MemoryDevice>, Vec<Vec<u8>>), Fail>
+    requires { length bytes.now < 2 ^ 63 }
+{
+    let mut recovery = Recovery::new(alloc);
+    let mut records = Vec::new(alloc);
+    for byte in bytes {
+        recovery.feed(&[*byte], &mut records)?;
+    }
+    let device = MemoryDevice::new(alloc, bytes.to_vec(alloc)?);
+    match recovery.finish(alloc, device) {
+        Ok(journal) => Ok((journal, records)),
         Err(_) => Err(Fail::from("no memory")),
     }
 }

@@ -47,10 +47,6 @@ struct Keeper {
 }
 
 impl Handler<Event> for Keeper {
-    ghost use Rattle.std.specs.Prelude.{⊤};
-
-    ghost goes = { λ old event s end new. ⊤ };
-
     fn on_event(&mut self, event: Event, s: u64, end: bool) {
         if self.calls < 3 {
             self.shown[self.calls] = (event.first, s, end);
@@ -132,10 +128,6 @@ struct Count {
 }
 
 impl<E> InPlaceHandler<E> for Count {
-    ghost use Rattle.std.specs.Prelude.{⊤};
-
-    ghost goes = { λ old event s end new. ⊤ };
-
     fn on_event_in_place(&mut self, _event: &E, _s: u64, end: bool) {
         self.shown = self.shown.wrapping_add(1);
         self.marks = self.marks.wrapping_add(u64::from(end));

@@ -308,10 +308,6 @@ impl Adder<'_> {
 }
 
 impl Handler<Event> for Adder<'_> {
-    ghost use Rattle.std.specs.Prelude.{⊤};
-
-    ghost goes = { λ old event s end new. ⊤ };
-
     fn on_event(&mut self, event: Event, _s: u64, end: bool) {
         self.shown.fetch_add(1, Ordering::SeqCst);
         self.marks = self.marks.wrapping_add(u64::from(end));

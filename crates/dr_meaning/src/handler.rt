@@ -7,8 +7,8 @@ ghost use Rattle.dr_meaning.specs.Calls.Handling.{GoesThrough, showings};
 /// Where an [`InPlaceHandler`] is wanted, pass it as [`ByValue`].
 pub trait Handler<E> {
     /// How the handler's meaning goes from before a call to after it: a relation, since a handler
-    /// that grows may find no memory.
-    ghost goes: { Self → E → ℕ → Bool → Self → Type 0 };
+    /// that grows may find no memory. It says nothing, unless the type says what.
+    ghost goes: { Self → E → ℕ → Bool → Self → Type 0 } = { λ _ _ _ _ _. Unit {0} };
 
     /// Handles the event of a sequence. `end` marks the last event that was available, so that a
     /// handler may put its work off until then, as LMAX's end of batch does.
@@ -20,7 +20,7 @@ pub trait Handler<E> {
 /// handler, and what workers and runs serve. It cannot fail either.
 pub trait InPlaceHandler<E> {
     /// How the handler's meaning goes from before a call to after it, as [`Handler`] has it.
-    ghost goes: { Self → E → ℕ → Bool → Self → Type 0 };
+    ghost goes: { Self → E → ℕ → Bool → Self → Type 0 } = { λ _ _ _ _ _. Unit {0} };
 
     /// Handles the event of a sequence, as [`Handler::on_event`] does.
     fn on_event_in_place(&mut self, event: &E, s: u64, end: bool)

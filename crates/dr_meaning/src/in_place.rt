@@ -4,6 +4,7 @@ ghost use Rattle.std.specs.Prelude.{◌≡◌, ◌||◌, ◌<◌, ◌≤◌, ℕ
 ghost use Rattle.std.specs.Fn.{FnOnceReturnsAtMut};
 ghost use mathlib.Core.Option.{some};
 ghost use lib.ListN.{get_elem?};
+ghost use Rattle.dr_meaning.specs.Calls.Calling.{CompletesUpTo, InPlaceCall, Polls};
 ghost use Rattle.dr_meaning.specs.Calls.Ends.{IsStretch, Received, tells_drained, with_completed};
 ghost use Rattle.dr_meaning.specs.Calls.Filling.{FillsFrom, FillsOne};
 ghost use Rattle.dr_meaning.specs.Calls.InPlaceInlets.{Changes, IsOpen, IsWhole, Opens, Publishes, Sending};
@@ -30,6 +31,9 @@ pub trait InPlaceInlet {
 
     /// What it tells of a claim of so many that was refused, by the end before and after it.
     ghost refuses: { Self → ℕ → ClaimFault → Self → Type 0 };
+
+    /// And of a publication, from its first sequence to its last: so that this changes nothing else.
+    ghost stores: { Self → ℕ → ℕ → Self → Type 0 };
 
     /// Claims the next `n` sequences. It waits for nothing.
     fn try_claim(&mut self, n: u64) -> Result<Claimed, ClaimFault>
@@ -66,7 +70,8 @@ pub trait InPlaceInlet {
     fn publish(&mut self, lo: u64, hi: u64)
         requires whole { IsWhole lo hi (sending self.old) }
         ensures kept { kept self.new ≡ kept self.old }
-        ensures publishes { Publishes (sending self.old) (sending self.new) };
+        ensures publishes { Publishes (sending self.old) (sending self.new) }
+        ensures stores { stores self.old lo hi self.new };
 }
 
 /// A handler's end that shows what it took, of a handler that never retires. No call that it allows is refused: what
@@ -89,14 +94,22 @@ pub trait InPlaceOutlet {
     /// Whether it saw that at least so many events are published.
     ghost saw: { Self → ℕ → Type 0 };
 
-    /// Takes some of the next events, at most `room`, whose first and number are told. It may read them until it
-    /// completes them.
+    /// How many events in all it found offered when it last took some.
+    ghost offered: { Self → ℕ };
+
+    /// What a call with its answer tells of the end before and after it, beside what it shows: nothing, unless the
+    /// type says more.
+    ghost does: { Self → InPlaceCall → Self → Type 0 } = { λ _ _ _. Unit {0} };
+
+    /// Takes the next events, all that are offered but at most `room`, whose first and number are told. It may read
+    /// them until it completes them.
     fn poll(&mut self, room: u64) -> Polled
         requires room { 0 < room }
         ensures kept { kept self.new ≡ kept self.old }
         ensures told { told self.new ≡ (told self.old || tells_drained result) }
         ensures saw { SawMore (saw self.old) (saw self.new) }
-        ensures taken { TakesUpTo room (saw self.new) result (received self.old) (received self.new) };
+        ensures taken { TakesUpTo room (offered self.new) (saw self.new) result (received self.old) (received self.new) }
+        ensures called { does self.old (Polls room result) self.new };
 
     /// An event that it took and did not complete, where it lies: so a handler is shown an event before it is
     /// completed.
@@ -112,5 +125,7 @@ pub trait InPlaceOutlet {
         ensures kept { kept self.new ≡ kept self.old }
         ensures told { told self.new ≡ told self.old }
         ensures saw { SawMore (saw self.old) (saw self.new) }
-        ensures completed { received self.new ≡ with_completed (received self.old) upto };
+        ensures offered { offered self.new ≡ offered self.old }
+        ensures completed { received self.new ≡ with_completed (received self.old) upto }
+        ensures called { does self.old (CompletesUpTo upto) self.new };
 }

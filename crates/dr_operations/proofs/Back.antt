@@ -14,8 +14,7 @@ use Rattle.dr_records.specs.Records.{Field, Record}
 use Rattle.dr_operations.specs.declared.operation.Movement.{Movement}
 use Rattle.dr_operations.specs.declared.operation.Movement.TheVariants.{Deposit, Withdraw, Transfer}
 use Rattle.dr_operations.specs.declared.operation.Operation.{Operation}
-use Rattle.dr_operations.specs.Bytes.{IsMovementOfFile}
-use Rattle.dr_operations.specs.EventFile.{events_in, events_of, operation_in}
+use Rattle.dr_operations.specs.EventFile.{IsMovementOfFile, events_in, events_of, operation_in}
 use Rattle.dr_operations.specs.Operations.{movement_text, operation_of, operation_text}
 use Rattle.dr_operations.specs.Written.{AreOfFile, file_of}
 use Rattle.dr_operations.proofs.Decimals.{decimal_digits, number_back, plain_decimal}

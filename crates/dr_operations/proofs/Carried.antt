@@ -1,13 +1,11 @@
--- What an event carries, and the bytes of its words.
-use Rattle.std.proofs.Common.{◌≡◌, ◌<◌, ◌+◌, ◌*◌, ◌/◌, ◌%◌, ◌^◌, ℕ, List, [], ◌∷◌, ◌++◌, take, drop, refl, sym, ap, subst, arith, ◌∙◌, inl, inr}
-use Rattle.std.specs.Int.{from_le_bytes, to_le_bytes, w64}
+-- What an event carries.
+use Rattle.std.proofs.Common.{◌≡◌, ◌<◌, ◌+◌, ◌*◌, ◌/◌, ◌%◌, ◌^◌, ℕ, List, [], ◌∷◌, ◌++◌, refl, sym, ap, subst, arith, ◌∙◌, inl, inr}
 use Rattle.std.proofs.lemmas.Bool.{cases_eq, eq-eqb, ne_eqb}
-use Rattle.std.proofs.lemmas.Nat.{from_le_bytes-to_le_bytes_8}
 use Rattle.dr_seq.specs.declared.event.Event.{Event}
 use Rattle.dr_operations.specs.declared.operation.Movement.{Movement}
 use Rattle.dr_operations.specs.declared.operation.Movement.TheVariants.{Deposit, Withdraw, Transfer}
 use Rattle.dr_operations.specs.declared.operation.Operation.{Operation}
-use Rattle.dr_operations.specs.Bytes.{IsMovementOfFile, IsOfFile, event_bytes}
+use Rattle.dr_operations.specs.EventFile.{IsMovementOfFile, IsOfFile}
 use Rattle.dr_operations.specs.Written.{AreOfFile}
 use Rattle.dr_operations.specs.Operations.{HasPlace, code_of, event_for, movement_of, moves, operation_of, producer_of}
 
@@ -44,17 +42,6 @@ carried o is =
     ap (λ (n : ℕ). the_operation n (movement_of (event_for o))) (producer_back o.producer o.movement is.0 is.1)
     ∙ ap (λ (m : Movement). the_operation o.producer m) (movement_back o.producer o.movement is.0 is.1)
 
--- its words fit
-pub first_fits : (producer : ℕ) (m : Movement) → producer < 16 → IsMovementOfFile m → (moves producer m).first < 2 ^ 64
-first_fits producer (Deposit account amount) few is = omega (arith, is.0, is.1)
-first_fits producer (Withdraw account amount) few is = omega (arith, is.0, is.1)
-first_fits producer (Transfer from to amount) few is = omega (arith, is.0)
-
-pub second_fits : (producer : ℕ) (m : Movement) → IsMovementOfFile m → (moves producer m).second < 2 ^ 64
-second_fits producer (Deposit account amount) is = omega arith
-second_fits producer (Withdraw account amount) is = omega arith
-second_fits producer (Transfer from to amount) is = omega (arith, is.1, is.2)
-
 -- what an event carries has its place in an event
 pub has_place : (e : Event) → HasPlace (movement_of e)
 has_place e = elim (cases_eq (code_of e) 2) [
@@ -79,23 +66,6 @@ is_movement e =
         | inr none ↦ rw (ne_eqb (code_of e) 3 none) (account, amount)
       ])
     ]
-
--- two events of the same bytes are one
-words : (a b c d : ℕ) → a < 2 ^ 64 → b < 2 ^ 64 → c < 2 ^ 64 → d < 2 ^ 64 → to_le_bytes w64 a ++ to_le_bytes w64 b ≡ to_le_bytes w64 c ++ to_le_bytes w64 d → (a ≡ c) × (b ≡ d)
-words a b c d fa fb fc fd same =
-    let first : to_le_bytes w64 a ≡ to_le_bytes w64 c = ap (take 8) same in
-    let second : to_le_bytes w64 b ≡ to_le_bytes w64 d = ap (drop 8) same in (
-      sym (from_le_bytes-to_le_bytes_8 a fa) ∙ ap (from_le_bytes w64) first ∙ from_le_bytes-to_le_bytes_8 c fc,
-      sym (from_le_bytes-to_le_bytes_8 b fb) ∙ ap (from_le_bytes w64) second ∙ from_le_bytes-to_le_bytes_8 d fd,
-    )
-
-abbrev pub the_event : ℕ → ℕ → Event
-the_event a b = record { first = a; second = b }
-
-pub one_event : (e f : Event) → e.first < 2 ^ 64 → e.second < 2 ^ 64 → f.first < 2 ^ 64 → f.second < 2 ^ 64 → event_bytes e ≡ event_bytes f → e ≡ f
-one_event e f fa fb fc fd same =
-    let both = words e.first e.second f.first f.second fa fb fc fd same in
-    ap (λ (n : ℕ). the_event n e.second) both.0 ∙ ap (λ (n : ℕ). the_event f.first n) both.1
 
 -- an event of an event file's operation, behind others
 pub filed : (events : List Event) (o : Operation) → IsOfFile o → AreOfFile events → AreOfFile (events ++ event_for o ∷ [])

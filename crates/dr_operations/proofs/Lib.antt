@@ -6,4 +6,3 @@ pub mod Decimals
 pub mod Lines
 pub mod Back
 pub mod Pieces
-pub mod Words

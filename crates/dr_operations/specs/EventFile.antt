@@ -1,5 +1,5 @@
 -- The event file: an operation a record.
-use Rattle.std.specs.Prelude.{ℕ, ◌+◌, ◌^◌, Bool, ◌==◌, ◌&&◌, not, nat_lt, if◌then◌else◌, List, length, map, Option, Some, None, Result, Ok, Err, bytes_eq, codes}
+use Rattle.std.specs.Prelude.{ℕ, ◌+◌, ◌<◌, ◌^◌, Bool, ◌==◌, ◌&&◌, not, nat_lt, if◌then◌else◌, List, length, map, Option, Some, None, Result, Ok, Err, bytes_eq, codes}
 use Rattle.std.specs.Option.{is_some}
 use Rattle.std.specs.List.{filter_map, list_all, position_or_len}
 use Rattle.dr_seq.specs.declared.event.Event.{Event}
@@ -64,3 +64,13 @@ events_in records =
 -- the events of a file's bytes, or the number of its first bad record
 abbrev pub events_of : List ℕ → Result (List Event) ℕ
 events_of input = events_in (records_of input)
+
+-- accounts and amounts that a record can name
+abbrev pub IsMovementOfFile : Movement → Type 0
+IsMovementOfFile (Deposit account amount) = (account < 2 ^ 16) × (amount < 2 ^ 32)
+IsMovementOfFile (Withdraw account amount) = (account < 2 ^ 16) × (amount < 2 ^ 32)
+IsMovementOfFile (Transfer from to amount) = (from < 2 ^ 16) × (to < 2 ^ 16) × (amount < 2 ^ 48)
+
+-- an operation that a record can say
+abbrev pub IsOfFile : Operation → Type 0
+IsOfFile o = (o.producer < 16) × IsMovementOfFile o.movement

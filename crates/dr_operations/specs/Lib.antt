@@ -2,5 +2,4 @@ pub mod Operations
 pub mod EventFile
 pub mod Reading
 pub mod Arriving
-pub mod Bytes
 pub mod Written

@@ -1,7 +1,7 @@
 -- Operations as the event file has them.
 use Rattle.std.specs.Prelude.{◌≡◌, ℕ, List, [], ◌∷◌, ◌++◌, codes, flat_map}
 use Rattle.dr_seq.specs.declared.event.Event.{Event}
-use Rattle.dr_operations.specs.Bytes.{IsOfFile}
+use Rattle.dr_operations.specs.EventFile.{IsOfFile}
 use Rattle.dr_operations.specs.Operations.{event_for, operation_of, operation_text}
 
 -- the record of an event's operation, with its line's end

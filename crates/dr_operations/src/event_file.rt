@@ -4,8 +4,7 @@ ghost use Rattle.std.specs.Prelude.{◌≡◌, ◌<◌, ◌-◌, ◌^◌, IfSome
 ghost use Rattle.csv.specs.Records.{fields_of};
 ghost use Rattle.dr_files.specs.Counting.{faults_of, inner_of};
 ghost use Rattle.dr_files.specs.Outcome.{CountsFaults};
-ghost use Rattle.dr_operations.specs.Bytes.{IsOfFile};
-ghost use Rattle.dr_operations.specs.EventFile.{deposit as deposit_in, events_of as events_in, is_kind as is_kind_in, number_below as number_in, operation_in, transfer as transfer_in, withdraw as withdraw_in};
+ghost use Rattle.dr_operations.specs.EventFile.{IsOfFile, deposit as deposit_in, events_of as events_in, is_kind as is_kind_in, number_below as number_in, operation_in, transfer as transfer_in, withdraw as withdraw_in};
 ghost use Rattle.dr_operations.specs.Operations.{IsOperation};
 ghost use Rattle.dr_operations.specs.Reading.{FileIs, ReadsAs};
 ghost use Rattle.dr_records.specs.Rows.{rows_left};

@@ -2,11 +2,9 @@
 //!
 //! Begin with `specs/Operations`, the words of an event, and `specs/EventFile`, the records of a file.
 //! [`read_events`] reads such a file, whichever tool it is for, and [`EventStream`] one that comes in
-//! pieces (`specs/Arriving`). [`push_event_file`] writes one (`specs/Written`), and
-//! [`Operation::push_bytes`] an operation as bytes, which [`Operation::of_bytes`] reads (`specs/Bytes`).
+//! pieces (`specs/Arriving`). [`push_event_file`] writes one (`specs/Written`).
 #![tactic(auto)]
 
-mod bytes;
 mod cause;
 mod event_file;
 mod event_stream;

@@ -23,18 +23,18 @@ use Rattle.dr_plain.specs.declared.record.ReceiverRecord.{ReceiverRecord}
 use Rattle.dr_plain.specs.declared.record.HalterRecord.{HalterRecord}
 use Rattle.dr_plain.specs.declared.record.Step.{Step}
 use Rattle.dr_plain.specs.declared.record.Step.TheVariants.{SenderLooksAtCount, SenderLooksAtHalt, SenderPublishes, SenderHalts, SenderCloses}
-use Rattle.dr_plain.specs.declared.record.Step.TheVariants.{ReceiverLooksAtClosed, ReceiverLooksAtCursor, ReceiverLooksAtCount, ReceiverCompletes, HalterHalts}
+use Rattle.dr_plain.specs.declared.record.Step.TheVariants.{ReceiverLooksAtClosed, ReceiverLooksAtCursor, ReceiverLooksAtCount, ReceiverCompletes, HalterHalts, HalterLooks}
 use Rattle.dr_plain.specs.Meaning.Records.{events_of, claimed, laid, sender_looked, halt_looked, published_more, sender_halted, sender_closed}
-use Rattle.dr_plain.specs.Meaning.Records.{closed_looked, receiver_looked, taken_at, cursor_looked, completed_to, halter_halted, SeesRoom}
+use Rattle.dr_plain.specs.Meaning.Records.{closed_looked, receiver_looked, taken_at, cursor_looked, completed_to, halter_halted, halter_looked, SeesRoom}
 use Rattle.dr_plain.specs.Meaning.Rule.{World, KeepsRule}
 use Rattle.dr_plain.specs.Meaning.Lying.{LiesBy, Lies}
 use Rattle.dr_plain.specs.Meaning.Steps.{Happens, next_of}
-use Rattle.dr_plain.specs.Calls.Finds.{FindsCompleted, FindsHalt, FindsEvents}
+use Rattle.dr_plain.specs.Calls.Finds.{FindsMore, FindsCompleted, FindsHalt, FindsEvents}
 use Rattle.dr_plain.specs.Inside.Seats.{End, Hand, Sitting, Tells, ring_ends, Loads, Stores, world_of, Ruled, as_sender, as_receiver, as_halter}
 use Rattle.dr_plain.specs.Inside.Seats.{sender_of, receiver_of, halter_of, IsSender, IsReceiver, IsHalter}
 use Rattle.dr_plain.specs.Inside.Seats.{lent_all, taken_by_claim, given_by_publication, taken_by_poll, given_by_completion, SenderLookedAtCount}
 use Rattle.dr_plain.specs.Inside.Seats.{SenderLookedAtHalt, SenderPublished, SenderHalted, SenderClosed}
-use Rattle.dr_plain.specs.Inside.Seats.{ReceiverLookedAtClosed, ReceiverLookedAtCursor, ReceiverLookedAtCount, ReceiverCompleted, HalterHalted}
+use Rattle.dr_plain.specs.Inside.Seats.{ReceiverLookedAtClosed, ReceiverLookedAtCursor, ReceiverLookedAtCount, ReceiverCompleted, HalterHalted, HalterLooked}
 use Rattle.dr_runs.proofs.Elements.{at_below}
 use Rattle.dr_runs.proofs.Offers.{final_inside}
 use Rattle.dr_runs.proofs.Looks.{last_look_le}
@@ -308,3 +308,18 @@ module _ {T : Type 0} where
       (by_halter k slots id HalterHalts (λ stores. stores ++ HalterHalts ∷ []) me.0.pasts r halt_word (λ _. 1) (λ _. halter_halted r) (λ _. HalterHalted (step slots halt_word 1 0 none) (as_halter r) 1)
       (adds_one ring_ends 1 HalterHalts (λ n. refl))
       (λ w e K. (subst (λ (q : HalterRecord T). Happens k HalterHalts w (world_of (set w.words halt_word 1) w.sender w.receivers (halter_halted q))) e refl, refl)))
+
+  pub halter_looks : (k : Shape) {slots : ℕ} (id : ℕ) (me : Sitting T) (i : ℕ) → i < words_of (halter_of me.0.ends).plan → IsHalter (end_of me)
+      → MayLoad k slots id me i HalterLooked
+  halter_looks k {slots = slots} id me i within is = let r = halter_of me.0.ends in along_halter (λ m. MayLoad k slots id m i HalterLooked) me is
+      (by_halter k slots id (HalterLooks i) (λ stores. stores) me.0.pasts r i (λ n. n) (λ n. halter_looked r i n) (HalterLooked (step slots i 0 0 none) (as_halter r))
+      (adds_nothing ring_ends 1 (HalterLooks i) (λ n. refl))
+      (λ w e K. let n = get_or w.words i 0 in
+      let plan : r.plan ≡ k = ap (λ (q : HalterRecord T). q.plan) (sym e) ∙ K.halter_plan in let lt = subst (λ (p : Shape). i < words_of p) plan within in (
+        subst (λ (q : HalterRecord T). Happens k (HalterLooks i) w (world_of (set w.words i n) w.sender w.receivers (halter_looked q i n))) e
+            (same_words k (HalterLooks i) w i w.sender w.receivers (halter_looked w.halter i n) (lt, refl)),
+        (
+          refl,
+          subst (λ (q : HalterRecord T). FindsMore q.looks i n) e (last_look_le (words_of k) w.words 0 w.halter.looks i (omega arith) K.watched),
+        ),
+      )))

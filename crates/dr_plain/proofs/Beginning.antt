@@ -15,7 +15,7 @@ use Rattle.dr_runs.specs.Words.{cursor_word, closed_word, halt_word, count_word}
 use Rattle.dr_plain.specs.declared.record.ReceiverRecord.{ReceiverRecord}
 use Rattle.dr_plain.specs.declared.record.Step.{Step}
 use Rattle.dr_plain.specs.declared.record.Step.TheVariants.{SenderLooksAtCount, SenderLooksAtHalt, SenderPublishes, SenderHalts, SenderCloses}
-use Rattle.dr_plain.specs.declared.record.Step.TheVariants.{ReceiverLooksAtClosed, ReceiverLooksAtCursor, ReceiverLooksAtCount, ReceiverCompletes, HalterHalts}
+use Rattle.dr_plain.specs.declared.record.Step.TheVariants.{ReceiverLooksAtClosed, ReceiverLooksAtCursor, ReceiverLooksAtCount, ReceiverCompletes, HalterHalts, HalterLooks}
 use Rattle.dr_plain.specs.Meaning.Rule.{World, KeepsRule, ReceiverKept}
 use Rattle.dr_plain.specs.Meaning.Steps.{Happens}
 use Rattle.dr_plain.specs.Meaning.Moments.{fresh_receiver, fresh_receivers, new_world, taken_of, picture_of, Runs}
@@ -23,7 +23,7 @@ use Rattle.dr_runs.proofs.Elements.{at_below, zeros, all_zero}
 use Rattle.dr_runs.proofs.Offers.{final_inside}
 use Rattle.dr_runs.proofs.Completions.{upstream_inside}
 use Rattle.dr_plain.proofs.Keeps.{keeps_sender_looks, keeps_halt_look}
-use Rattle.dr_plain.proofs.Stores.{keeps_publishes, keeps_sender_halts, keeps_halter_halts, keeps_closes, keeps_closed_look, keeps_receiver_looks}
+use Rattle.dr_plain.proofs.Stores.{keeps_publishes, keeps_sender_halts, keeps_halter_halts, keeps_halter_looks, keeps_closes, keeps_closed_look, keeps_receiver_looks}
 use Rattle.dr_plain.proofs.Stores.{keeps_cursor_look, keeps_completes}
 
 no_counts : (m a n : ℕ) → map (λ h. get_or (zeros m) (count_word h) 0) (range_with_len a n) ≡ replicate n 0
@@ -69,6 +69,7 @@ kept_opening T k graph some_slot = let n = words_of k in let ws = zeros n in let
   room = λ f final. omega arith;
   flags = record { halt = omega arith; close = omega arith; by_sender = λ y. absurd (cc); by_halter = λ y. absurd (cc); closed = λ y. absurd (cc); known_halt = λ y. absurd (omega arith); known_close = λ y. absurd (omega arith); complete = λ y. absurd (omega arith) };
   looks = λ i x there. absurd (some-ne-none x (sym there));
+  watched = λ i x there. absurd (some-ne-none x (sym there));
 }
 
 pub opens : (T : Type 0) (k : Shape) → picture_of {T = T} k (new_world k) ≡ machine.opening (ring_setup k)
@@ -94,6 +95,7 @@ module _ {T : Type 0} where
       subst (KeepsRule k) (sym H.2.1) (keeps_receiver_looks k w h (count_word c) room H.0 (omega arith) H.1 K)
   keeps_step k (ReceiverCompletes h n) w u H K = subst (KeepsRule k) (sym H.2.2) (keeps_completes k w h n H.0 H.1 H.2.0 H.2.1 K)
   keeps_step k HalterHalts w u H K = subst (KeepsRule k) (sym H) (keeps_halter_halts k w K)
+  keeps_step k (HalterLooks word) w u H K = subst (KeepsRule k) (sym H.1) (keeps_halter_looks k w word H.0 K)
 
   pub keeps_runs : (k : Shape) (steps : List (Step T)) (es : Transcript T) (w u : World T) → Runs k steps es w u → KeepsRule k w → KeepsRule k u
   keeps_runs k [] es w u R K = subst (KeepsRule k) R.1 K

@@ -7,7 +7,7 @@ use Rattle.dr_plain.specs.Meaning.Shape.{Shape}
 use Rattle.dr_runs.specs.Words.{cursor_word, closed_word, halt_word, count_word}
 use Rattle.dr_plain.specs.declared.record.Step.{Step}
 use Rattle.dr_plain.specs.declared.record.Step.TheVariants.{SenderLooksAtCount, SenderLooksAtHalt, SenderPublishes, SenderHalts, SenderCloses}
-use Rattle.dr_plain.specs.declared.record.Step.TheVariants.{ReceiverLooksAtClosed, ReceiverLooksAtCursor, ReceiverLooksAtCount, ReceiverCompletes, HalterHalts}
+use Rattle.dr_plain.specs.declared.record.Step.TheVariants.{ReceiverLooksAtClosed, ReceiverLooksAtCursor, ReceiverLooksAtCount, ReceiverCompletes, HalterHalts, HalterLooks}
 use Rattle.dr_plain.specs.Meaning.Records.{claimed}
 use Rattle.dr_plain.specs.Meaning.Rule.{World, KeepsRule}
 use Rattle.dr_plain.specs.Meaning.Steps.{Happens}
@@ -39,6 +39,7 @@ module _ {T : Type 0} where
   halted_step k (ReceiverLooksAtCount h c room) w u n H K is = subst (HaltedAt n) (sym H.2.1) is
   halted_step k (ReceiverCompletes h m) w u n H K is = subst (HaltedAt n) (sym H.2.2) (other_word w (count_word h) m (λ e. omega arith) is.0, is.1)
   halted_step k HalterHalts w u n H K is = let wide = K.wide in subst (HaltedAt n) (sym H) (get_or-set_same w.words halt_word 1 0 (omega arith), is.1)
+  halted_step k (HalterLooks word) w u n H K is = subst (HaltedAt n) (sym H.1) is
 
   pub halted_runs : (k : Shape) (steps : List (Step T)) (es : Transcript T) (w u : World T) (n : ℕ) → Runs k steps es w u → KeepsRule k w
       → HaltedAt n w → HaltedAt n u

@@ -1,37 +1,48 @@
 -- What a poll of a receiver takes and sees, of a ring with one sender.
-use Rattle.std.proofs.Common.{◌≡◌, ◌⊎◌, Bool, true, ◌<◌, ◌≤◌, ◌+◌, ◌-◌, ◌^◌, ℕ, zero, suc, min, List, [], ◌∷◌, ◌++◌, length, Ok, inl, inr, ⊎_elim, refl, sym, ap, ◌∙◌, arith}
-use Rattle.std.proofs.lemmas.Bool.{cases_eq}
+use Rattle.std.proofs.Common.{◌≡◌, ◌<◌, ◌≤◌, ◌+◌, ◌-◌, ◌^◌, ℕ, zero, suc, min, List, [], ◌∷◌, ◌++◌, length, Ok, inl, inr, refl, sym, ap, subst, ◌∙◌, arith, append_assoc}
+use Rattle.std.specs.Prelude.{max}
 use Rattle.std.proofs.lemmas.List.{append-nil, length-append, length-map, map-append}
 use mathlib.Core.Option.{some, some-ne-none}
 use lib.ListN.{get_elem?}
-use Rattle.dr_graph.specs.Meaning.Graph.{upstreams_of}
+use Rattle.dr_graph.specs.Meaning.Graph.{least_of, upstreams_of}
 use Rattle.dr_meaning.proofs.Leasts.{least_of-le}
 use Rattle.dr_meaning.specs.declared.command.Polled.{Polled}
 use Rattle.dr_meaning.specs.declared.command.Polled.TheVariants.{Batch, Drained, Gating, Idle}
 use Rattle.dr_lent.specs.declared.lent.Lent.{Lent}
 use Rattle.dr_runs.specs.declared.look.Look.{Look}
 use Rattle.dr_runs.specs.Looks.{count_looks, look, offered_by}
+use Rattle.dr_runs.specs.LastLooks.{found_last}
 use Rattle.dr_runs.specs.Polls.{PollLooks, offer}
 use Rattle.dr_runs.specs.Words.{closed_word, count_word, cursor_word}
+use Rattle.dr_runs.proofs.LastLooks.{found_behind, found_counts}
 use Rattle.dr_runs.proofs.Lists.{at_behind}
 use Rattle.dr_plain.specs.declared.record.ReceiverRecord.{ReceiverRecord}
 use Rattle.dr_plain.specs.Meaning.Records.{events_of}
 use Rattle.dr_plain.specs.Meaning.Replies as replies
 use Rattle.dr_plain.specs.Calls.Ends.{ReceiverEnd, received_of}
 use Rattle.dr_plain.specs.Calls.Receiving.{PollCall}
-use Rattle.dr_meaning.specs.Calls.InPlaceOutlets.{SawMore, TakesUpTo}
-use Rattle.dr_plain.specs.Calls.InPlace.{SawPublished}
-
--- a batch is as long as the room allows, and ends what was offered unless it fills the room
-marks : (room first count off : ℕ) (end : Bool) → first < off → count ≡ min (off - first) room → (first + count ≡ off → end ≡ true)
-    → (end ≡ true) ⊎ ((count ≡ room) × (first + room + 1 ≤ off))
-marks room first count off end there many ends =
-    elim (cases_eq (first + count) off) [ inl whole ↦ inl (ends whole) | inr more ↦ inr (omega arith, omega arith) ]
+use Rattle.dr_meaning.specs.Calls.InPlaceOutlets.{SawMore, TakesNext, TakesUpTo}
+use Rattle.dr_plain.specs.Calls.InPlace.{SawPublished, offered_in, offered_of}
 
 at_front : {A : Type 0} (xs ys : List A) (i : ℕ) (x : A) → get_elem? xs i ≡ some x → get_elem? (xs ++ ys) i ≡ some x
 at_front [] ys i x at = absurd (some-ne-none x (sym at))
 at_front (y ∷ xs) ys zero x at = at
 at_front (y ∷ xs) ys (suc i) x at = at_front xs ys i x at
+
+-- its last looks found what its barrier offered
+offered_is : (old : List Look) (closed cursor : ℕ) (ups counts : List ℕ) → length counts ≡ length ups
+    → offered_in (length ups) (old ++ look closed_word closed ∷ look cursor_word cursor ∷ count_looks ups counts) ≡ offered_by cursor counts
+offered_is old closed cursor [] [] many =
+    ap least_of (ap (found_last 1) (sym (append_assoc old (look closed_word closed ∷ []) (look cursor_word cursor ∷ [])))
+    ∙ found_behind (old ++ look closed_word closed ∷ []) (look cursor_word cursor ∷ []) 1 refl)
+offered_is old closed cursor [] (c ∷ counts) many = absurd (omega arith)
+offered_is old closed cursor (u ∷ ups) [] many = absurd (omega arith)
+offered_is old closed cursor (u ∷ ups) (c ∷ counts) many =
+    let looks : List Look = count_looks (u ∷ ups) (c ∷ counts) in
+    let all : max 1 (length (u ∷ ups)) ≡ length (u ∷ ups) = omega arith in
+    ap least_of (ap (λ (n : ℕ). found_last n (old ++ look closed_word closed ∷ look cursor_word cursor ∷ looks)) all
+    ∙ ap (found_last (length (u ∷ ups))) (sym (append_assoc old (look closed_word closed ∷ look cursor_word cursor ∷ []) looks))
+    ∙ found_counts count_word (old ++ look closed_word closed ∷ look cursor_word cursor ∷ []) (u ∷ ups) (c ∷ counts) many)
 
 module _ {T : Type 0} where
   -- what it looked at further
@@ -78,7 +89,7 @@ module _ {T : Type 0} where
   saw_same r r' same = saw_more r r' [] (same ∙ sym (append-nil r.looks))
 
   pub takes : (room : ℕ) (e e' : ReceiverEnd T) (polled : Polled) → PollCall e room e' (Ok polled) → length e'.knows.received < 2 ^ 64 → 0 < room
-      → TakesUpTo room (SawPublished e'.knows) polled (received_of e) (received_of e')
+      → TakesUpTo room (offered_of e') (SawPublished e'.knows) polled (received_of e) (received_of e')
   takes room e e' (Batch first count end) call fits there =
       let sees = call.1.1 in
       let seen : PollLooks = sees.0 in
@@ -94,22 +105,22 @@ module _ {T : Type 0} where
       ap (λ (r : ReceiverRecord T). events_of r.received) A.5.2 ∙ map-append (λ (l : Lent T). l.event) e.knows.received lents in
       let completed = ap (λ (r : ReceiverRecord T). r.completed) A.5.2 in
       let looks = ap (λ (r : ReceiverRecord T). r.looks) A.5.2 in
-      record {
+      let ups = upstreams_of e.knows.plan.upstreams e.knows.number in
+      let off : offered_of e' ≡ offer seen =
+      ap (λ (r : ReceiverRecord T). offered_in (length (upstreams_of r.plan.upstreams r.number)) r.looks) A.5.2
+      ∙ offered_is e.knows.looks seen.closed seen.cursor ups seen.counts sees.1 in
+      subst (λ (o : ℕ). TakesNext room o (SawPublished e'.knows) first count end (received_of e) (received_of e')) (sym off) (record {
         events = events_of lents;
         many = length-map lents (λ (l : Lent T). l.event) ∙ taken;
-        some = omega arith;
-        within = omega arith;
-        fits = omega arith;
         begins = next ∙ sym (length-map e.knows.received (λ (l : Lent T). l.event));
-        marked = ⊎_elim (λ last. inl last)
-            (λ full. inr (
-              full.0,
-              saw_offer e'.knows (first + room + 1) seen.closed seen.cursor e.knows.looks
-                  (upstreams_of e.knows.plan.upstreams e.knows.number) seen.counts sees.1 looks full.1,
-            ))
-            (marks room first count (offer seen) end offered many A.3.1);
+        some = omega arith;
+        whole = many;
+        marked = A.3;
+        saw = (let least : offer seen ≤ offered_by seen.cursor seen.counts = omega arith in
+            saw_offer e'.knows (offer seen) seen.closed seen.cursor e.knows.looks ups seen.counts sees.1 looks least);
+        fits = omega arith;
         taken = λ i. record { events = events i; completed = completed i };
-      }
+      })
   takes room e e' Drained call fits there = ap replies.received_of call.1.1.2.3
   takes room e e' Gating call fits there = ap replies.received_of call.1.1.2.3
   takes room e e' Idle call fits there = ap replies.received_of call.1.1.2.3

@@ -99,6 +99,7 @@ module _ {T : Type 0} where
     room = room;
     flags = flags;
     looks = past;
+    watched = K.watched;
   }
 
   pub keeps_sender_looks : (k : Shape) (w : World T) (i : ℕ) → i < words_of k → KeepsRule k w

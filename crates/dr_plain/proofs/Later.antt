@@ -19,7 +19,7 @@ use Rattle.dr_runs.specs.declared.look.Look.{Look}
 use Rattle.dr_plain.specs.declared.record.ReceiverRecord.{ReceiverRecord}
 use Rattle.dr_plain.specs.declared.record.Step.{Step}
 use Rattle.dr_plain.specs.declared.record.Step.TheVariants.{SenderLooksAtCount, SenderLooksAtHalt, SenderPublishes, SenderHalts, SenderCloses}
-use Rattle.dr_plain.specs.declared.record.Step.TheVariants.{ReceiverLooksAtClosed, ReceiverLooksAtCursor, ReceiverLooksAtCount, ReceiverCompletes, HalterHalts}
+use Rattle.dr_plain.specs.declared.record.Step.TheVariants.{ReceiverLooksAtClosed, ReceiverLooksAtCursor, ReceiverLooksAtCount, ReceiverCompletes, HalterHalts, HalterLooks}
 use Rattle.dr_plain.specs.Meaning.Records.{closed_looked, receiver_looked, taken_at, cursor_looked, completed_to}
 use Rattle.dr_runs.specs.Looks.{look, last_look, offered_by, count_looks}
 use Rattle.dr_plain.specs.Meaning.Rule.{World, KeepsRule}
@@ -133,6 +133,7 @@ module _ {T : Type 0} where
   seen_step k (ReceiverCompletes g n) w u h r H at =
       subst (Stood w h r) (sym H.2.2) (changes w h g r H.0 (completed_to H.0 n) at H.1 (nothing_seen w H.0 (completed_to H.0 n) refl))
   seen_step k HalterHalts w u h r H at = subst (Stood w h r) (sym H) (stays w h r at)
+  seen_step k (HalterLooks word) w u h r H at = subst (Stood w h r) (sym H.1) (stays w h r at)
 
   -- what was found after a later moment was found after an earlier one
   earlier : (k : Shape) (s : Step T) (w u : World T) (xs : List Look) → Happens k s w u → KeepsRule k w → All (FoundLater u.words) xs

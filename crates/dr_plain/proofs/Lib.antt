@@ -39,6 +39,7 @@ pub mod Told
 pub mod Noting
 pub mod Publishing
 pub mod Writing
+pub mod LyingWrites
 pub mod ManyWrites
 pub mod Crossing
 pub mod InPlaceReceiving

@@ -26,7 +26,7 @@ use Rattle.dr_plain.specs.Meaning.Records.{taken_at, tells_drained, cursor_looke
 use Rattle.dr_plain.specs.Meaning.Rule.{World, KeepsRule, ArePast}
 use Rattle.dr_plain.specs.declared.record.Step.{Step}
 use Rattle.dr_plain.specs.declared.record.Step.TheVariants.{SenderLooksAtCount, SenderLooksAtHalt, SenderPublishes, SenderHalts, SenderCloses}
-use Rattle.dr_plain.specs.declared.record.Step.TheVariants.{ReceiverLooksAtClosed, ReceiverLooksAtCursor, ReceiverLooksAtCount, ReceiverCompletes, HalterHalts}
+use Rattle.dr_plain.specs.declared.record.Step.TheVariants.{ReceiverLooksAtClosed, ReceiverLooksAtCursor, ReceiverLooksAtCount, ReceiverCompletes, HalterHalts, HalterLooks}
 use Rattle.dr_plain.specs.Meaning.Steps.{Happens, sender_knows, sender_stores, receiver_knows, receiver_stores, next_of}
 use Rattle.dr_plain.specs.Meaning.Moments.{fresh_receiver, taken_of, picture_of, writes_of, poll_of, receiver_at, entries_of, Runs}
 use Rattle.dr_runs.specs.Entries.{entry}
@@ -327,6 +327,7 @@ module _ {T : Type 0} where
   lead_step k HalterHalts w u rest end H K L =
       leads_one (ring_setup k) Halt Halting [] rest (parts k w) (record (parts k w) { halted = true }) end refl
       (lead_flag k w halt_word rest end true (omega arith) (omega arith) (halt_on k w K) (subst (λ (x : World T). Leads k rest (picture_of k x) end) H L))
+  lead_step k (HalterLooks word) w u rest end H K L = subst (λ (x : World T). Leads k rest (picture_of k x) end) H.1 L
 
   pub lead_runs : (k : Shape) (steps : List (Step T)) (es : Transcript T) (w u : World T) → Runs k steps es w u → KeepsRule k w
       → Leads k es (picture_of k w) (picture_of k u)

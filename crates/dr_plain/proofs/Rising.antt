@@ -6,7 +6,7 @@ use Rattle.dr_plain.specs.Meaning.Shape.{Shape}
 use Rattle.dr_runs.specs.Words.{cursor_word, closed_word, halt_word, count_word}
 use Rattle.dr_plain.specs.declared.record.Step.{Step}
 use Rattle.dr_plain.specs.declared.record.Step.TheVariants.{SenderLooksAtCount, SenderLooksAtHalt, SenderPublishes, SenderHalts, SenderCloses}
-use Rattle.dr_plain.specs.declared.record.Step.TheVariants.{ReceiverLooksAtClosed, ReceiverLooksAtCursor, ReceiverLooksAtCount, ReceiverCompletes, HalterHalts}
+use Rattle.dr_plain.specs.declared.record.Step.TheVariants.{ReceiverLooksAtClosed, ReceiverLooksAtCursor, ReceiverLooksAtCount, ReceiverCompletes, HalterHalts, HalterLooks}
 use Rattle.dr_plain.specs.Meaning.Rule.{World, KeepsRule}
 use Rattle.dr_plain.specs.Meaning.Steps.{Happens}
 use Rattle.dr_plain.specs.Meaning.Moments.{Runs}
@@ -42,6 +42,7 @@ module _ {T : Type 0} (i : ℕ) where
       let wide = K.wide in let up = H.2.0 in let was = (K.received h H.0 H.1).count in let inside = at_below w.receivers h H.0 H.1 in let ends = K.ends in
       subst (Rises w) (sym H.2.2) (raised_word w.words i (count_word h) n (omega arith) (omega arith))
   rises_step k HalterHalts w u H K = let wide = K.wide in subst (Rises w) (sym H) (raised_word w.words i halt_word 1 (omega arith) K.flags.halt)
+  rises_step k (HalterLooks word) w u H K = subst (Rises w) (sym H.1) (omega arith)
 
   pub rises_runs : (k : Shape) (steps : List (Step T)) (es : Transcript T) (w u : World T) → Runs k steps es w u → KeepsRule k w → Rises w u
   rises_runs k [] es w u R K = subst (Rises w) R.1 (omega arith)

@@ -15,7 +15,7 @@ use Rattle.dr_plain.specs.declared.record.ReceiverRecord.{ReceiverRecord}
 use Rattle.dr_plain.specs.Meaning.Records.{claimed, taken_at, published_more, seen_before, sender_halted, sender_closed, closed_looked}
 use Rattle.dr_runs.specs.declared.look.Look.{Look}
 use Rattle.dr_runs.specs.Looks.{look}
-use Rattle.dr_plain.specs.Meaning.Records.{receiver_looked, tells_drained, cursor_looked, completed_to, halter_halted}
+use Rattle.dr_plain.specs.Meaning.Records.{receiver_looked, tells_drained, cursor_looked, completed_to, halter_halted, halter_looked}
 use Rattle.dr_plain.specs.Meaning.Rule.{World, Room, ReceiverKept, KeepsRule}
 use Rattle.dr_plain.specs.Meaning.Steps.{sender_stores, receiver_knows, receiver_stores, next_of}
 use Rattle.dr_runs.proofs.Elements.{at_below, each_set}
@@ -59,6 +59,7 @@ module _ {T : Type 0} where
         room = subst (Room k us) (sym whole) (room_stays k.upstreams w.words k.size (claimed w.sender) us (λ h lt'. (let e = stays (count_word h) (omega arith) in omega arith)) K.room);
         flags = flags_open us w.sender.pending (w.sender.pending - length lents) w.sender.halted w.sender.closed w.halter.halted (λ y. not_closed (sym two ∙ y)) (flags_stay w.words us w.sender.pending w.sender.halted w.sender.closed w.halter.halted one two K.flags);
         looks = past_set (words_of k) w.words cursor_word n w.sender.looks inside rises K.looks;
+        watched = past_set (words_of k) w.words cursor_word n w.halter.looks inside rises K.watched;
       }
 
   -- halt or closed becomes 1: what speaks of neither stays
@@ -84,6 +85,7 @@ module _ {T : Type 0} where
         room = room_stays k.upstreams w.words k.size (claimed w.sender) us (λ h lt'. (let e = stays (count_word h) (λ e. omega arith) in omega arith)) K.room;
         flags = flags;
         looks = past_set (words_of k) w.words i 1 w.sender.looks inside rises K.looks;
+        watched = past_set (words_of k) w.words i 1 w.halter.looks inside rises K.watched;
       }
 
   pub keeps_sender_halts : (k : Shape) (w : World T) → KeepsRule k w → KeepsRule k (sender_stores w halt_word 1 (sender_halted w.sender))
@@ -114,6 +116,25 @@ module _ {T : Type 0} where
     room = K.room;
     flags = K.flags;
     looks = K.looks;
+    watched = K.watched;
+  }
+
+  -- the halter looks at a word
+  pub keeps_halter_looks : (k : Shape) (w : World T) (i : ℕ) → i < words_of k → KeepsRule k w
+      → KeepsRule k (record w { halter = halter_looked w.halter i (word_at w.words i) })
+  keeps_halter_looks k w i lt K = record {
+    graph = K.graph;
+    some_slot = K.some_slot;
+    wide = K.wide;
+    ends = K.ends;
+    sender_plan = K.sender_plan;
+    halter_plan = K.halter_plan;
+    counts = K.counts;
+    received = K.received;
+    room = K.room;
+    flags = K.flags;
+    looks = K.looks;
+    watched = past_more (words_of k) w.words i (word_at w.words i) w.halter.looks lt (omega arith) K.watched;
   }
 
   inside_of : (k : Shape) (w : World T) (h : ℕ) (r : ReceiverRecord T) → KeepsRule k w → get_elem? w.receivers h ≡ some r → h < handlers_of k
@@ -227,4 +248,5 @@ module _ {T : Type 0} where
         room = room_stays k.upstreams w.words k.size (claimed w.sender) us up K.room;
         flags = flags_stay w.words us w.sender.pending w.sender.halted w.sender.closed w.halter.halted one two K.flags;
         looks = past_set (words_of k) w.words i n w.sender.looks inside rises K.looks;
+        watched = past_set (words_of k) w.words i n w.halter.looks inside rises K.watched;
       }

@@ -12,7 +12,7 @@ use Rattle.dr_plain.specs.Meaning.Shape.{Shape, handlers_of}
 use Rattle.dr_plain.specs.declared.record.ReceiverRecord.{ReceiverRecord}
 use Rattle.dr_plain.specs.declared.record.Step.{Step}
 use Rattle.dr_plain.specs.declared.record.Step.TheVariants.{SenderLooksAtCount, SenderLooksAtHalt, SenderPublishes, SenderHalts, SenderCloses}
-use Rattle.dr_plain.specs.declared.record.Step.TheVariants.{ReceiverLooksAtClosed, ReceiverLooksAtCursor, ReceiverLooksAtCount, ReceiverCompletes, HalterHalts}
+use Rattle.dr_plain.specs.declared.record.Step.TheVariants.{ReceiverLooksAtClosed, ReceiverLooksAtCursor, ReceiverLooksAtCount, ReceiverCompletes, HalterHalts, HalterLooks}
 use Rattle.dr_plain.specs.Meaning.Records.{tells_drained, closed_looked, cursor_looked, receiver_looked, completed_to, taken_at}
 use Rattle.dr_plain.specs.Meaning.Rule.{World}
 use Rattle.dr_plain.specs.Meaning.Steps.{Happens, next_of}
@@ -70,6 +70,7 @@ module _ {T : Type 0} where
       inl (quiet w u g h H.0 (receiver_looked H.0 (count_word c) found (next_of w H.0 (taken_at H.0 (count_word c) found room))) H.1 (ap (λ (x : World T). x.receivers) H.2.1) refl now)
   told_step k tell (ReceiverCompletes g n) w u h H now = inl (quiet w u g h H.0 (completed_to H.0 n) H.1 (ap (λ (x : World T). x.receivers) H.2.2) refl now)
   told_step k tell HalterHalts w u h H now = inl (stays w u h (ap (λ (x : World T). x.receivers) H) now)
+  told_step k tell (HalterLooks word) w u h H now = inl (stays w u h (ap (λ (x : World T). x.receivers) H.1) now)
 
   -- and nobody was told anything before a ring begins
   pub were_told : (k : Shape) → LooksTell T k → (steps : List (Step T)) (es : Transcript T) (w : World T) → Runs k steps es (new_world k) w → WereTold w es

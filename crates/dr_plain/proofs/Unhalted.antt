@@ -11,7 +11,7 @@ use Rattle.dr_runs.specs.Words.{halt_word, count_word}
 use Rattle.dr_plain.specs.Meaning.Shape.{Shape}
 use Rattle.dr_plain.specs.declared.record.Step.{Step}
 use Rattle.dr_plain.specs.declared.record.Step.TheVariants.{SenderLooksAtCount, SenderLooksAtHalt, SenderPublishes, SenderHalts, SenderCloses}
-use Rattle.dr_plain.specs.declared.record.Step.TheVariants.{ReceiverLooksAtClosed, ReceiverLooksAtCursor, ReceiverLooksAtCount, ReceiverCompletes, HalterHalts}
+use Rattle.dr_plain.specs.declared.record.Step.TheVariants.{ReceiverLooksAtClosed, ReceiverLooksAtCursor, ReceiverLooksAtCount, ReceiverCompletes, HalterHalts, HalterLooks}
 use Rattle.dr_plain.specs.Meaning.Rule.{World, KeepsRule}
 use Rattle.dr_plain.specs.Meaning.Settling.{FoundUnhalted}
 use Rattle.dr_plain.specs.Meaning.Steps.{Happens}
@@ -61,6 +61,7 @@ module _ {T : Type 0} where
   unhalted_step k (ReceiverLooksAtCount h c room) w u H K is = subst Unhalted (sym H.2.1) is
   unhalted_step k (ReceiverCompletes h m) w u H K is = subst Unhalted (sym H.2.2) is
   unhalted_step k HalterHalts w u H K is = subst Unhalted (sym H) (λ off. absurd (false≢true (sym off)))
+  unhalted_step k (HalterLooks word) w u H K is = subst Unhalted (sym H.1) is
 
   unhalted_runs : (k : Shape) (steps : List (Step T)) (es : Transcript T) (w u : World T) → Runs k steps es w u → KeepsRule k w → Unhalted w → Unhalted u
   unhalted_runs k [] es w u R K is = subst Unhalted R.1 is

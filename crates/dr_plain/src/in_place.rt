@@ -1,7 +1,7 @@
 //! The ends of a ring over plain memory with one sender fill and show events where they lie.
 
 ghost use Rattle.dr_meaning.specs.Calls.Filling.{FillsOne};
-ghost use Rattle.dr_plain.specs.Calls.InPlace.{RefusesClaim, SawPublished, sending_of};
+ghost use Rattle.dr_plain.specs.Calls.InPlace.{RefusesClaim, SawPublished, StoresStretch, does_in_place, offered_of, sending_of};
 ghost use Rattle.dr_plain.specs.Calls.Ends.{receiver_place, received_of, sender_place};
 
 use crate::receiver::Receiver;
@@ -20,6 +20,8 @@ impl<T> InPlaceInlet for Sender<T> {
     ghost sending = { sending_of };
 
     ghost refuses = { RefusesClaim };
+
+    ghost stores = { StoresStretch };
 
     fn try_claim(&mut self, n: u64) -> Result<Claimed, ClaimFault> {
         match Sender::try_claim(self, n) {
@@ -79,6 +81,10 @@ impl<T> InPlaceOutlet for Receiver<T> {
     ghost told = { λ e. e.knows.told };
 
     ghost saw = { λ e n. SawPublished e.knows n };
+
+    ghost offered = { offered_of };
+
+    ghost does = { does_in_place };
 
     fn poll(&mut self, room: u64) -> Polled {
         match Receiver::poll(self, room) {

@@ -1,7 +1,7 @@
 //! The steps of a ring over its table, and what every list of them comes to.
 //!
 //! Each end has a station, which is what its steps need, and each kind of step is one function of
-//! a station (the halter's is [`halt`](crate::Halter::halt)): one load or one store of one word. Its
+//! a station (the halter's are calls of [`Halter`](crate::Halter)): one load or one store of one word. Its
 //! contract gives what the end knows afterwards, and which slots it then has in hand, from what it
 //! knew before and the word loaded or stored.
 

@@ -29,10 +29,11 @@ pub struct ReceiverRecord<T> {
     pub looks: LinkedList<Look>,
 }
 
-/// What the halter knows: whether it halted the ring.
+/// What the halter knows: whether it halted the ring, and what it saw.
 pub struct HalterRecord<T> {
     pub plan: Plan<T>,
     pub halted: bool,
+    pub looks: LinkedList<Look>,
 }
 
 /// What one of the ends knows.
@@ -78,6 +79,10 @@ pub enum Step<T> {
         upto: u64,
     },
     HalterHalts,
+    /// The halter looks at a word.
+    HalterLooks {
+        word: u64,
+    },
 }
 
 /// What a seat of a ring stands for.

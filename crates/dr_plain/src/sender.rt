@@ -1,10 +1,10 @@
 //! The one end that claims, writes and publishes.
 
-ghost use Rattle.std.specs.Prelude.{◌≡◌, length};
+ghost use Rattle.std.specs.Prelude.{◌≡◌, ◌+◌, length};
 ghost use Rattle.dr_runs.specs.Looks.{looks_counted};
 ghost use Rattle.dr_plain.specs.Meaning.Records.{claimed as claimed_by};
 ghost use Rattle.std.specs.Arc.{arc_value};
-ghost use Rattle.dr_plain.specs.Calls.Sending.{ClaimCall, WriteCall, PublishCall, CloseCall};
+ghost use Rattle.dr_plain.specs.Calls.Sending.{ClaimCall, WriteCall, PublishCall, CloseCall, with_lying, AreWrittenBelow};
 ghost use Rattle.dr_plain.specs.Inside.Leaving.{BelongsSender};
 
 use crate::body::RingBody;
@@ -85,6 +85,23 @@ impl<T> Sender<T> {
         self.station.collect(lo, upto, &mut self.tokens);
         self.claimed = upto;
         Ok(Claimed { lo, hi: upto - 1 })
+    }
+
+    /// Writes the open sequences up to `hi` with what lies in their cells: what an earlier sequence left
+    /// there, or what the ring began with. It takes one step, however many they are. So a stretch whose
+    /// events lie in memory of your own is ready to be published.
+    pub fn write_lying(&mut self, hi: u64)
+        // Of each open sequence up to `hi` what lies in its cell is written, and all else is as it was.
+        ensures lying { self.new ≡ with_lying self.old (hi + 1) }
+        // So none of these is refused as not written.
+        ensures written { AreWrittenBelow self.new (hi + 1) }
+    {
+        let upto = if hi < self.claimed {
+            hi + 1
+        } else {
+            self.claimed
+        };
+        self.written.upto = self.written.upto.max(upto);
     }
 
     /// Publishes the sequences from `lo` to `hi`, both in the stretch: every receiver without

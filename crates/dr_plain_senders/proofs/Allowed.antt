@@ -17,6 +17,7 @@ use Rattle.atomic_table.proofs.Lists.{set_here, at_longer}
 use Rattle.dr_cells.specs.declared.token.Token.{Token}
 use Rattle.dr_graph.specs.Meaning.Graph.{finals}
 use Rattle.dr_runs.specs.Seats.{end_of, seat_at}
+use Rattle.dr_runs.specs.Looks.{last_look}
 use Rattle.dr_runs.proofs.Elements.{at_below}
 use Rattle.dr_runs.proofs.Looks.{last_look_le}
 use Rattle.dr_runs.proofs.Offers.{final_inside}
@@ -31,8 +32,8 @@ use Rattle.dr_plain_senders.specs.declared.record.EndRecord.TheVariants.{Sends, 
 use Rattle.dr_plain_senders.specs.declared.record.Step.{Step}
 use Rattle.dr_plain_senders.specs.declared.record.Step.TheVariants.{SenderLooksAtClaims, SenderLooksAtCount, SenderClaims, SenderPublishes}
 use Rattle.dr_plain_senders.specs.declared.record.Step.TheVariants.{SenderLooksAtMark, SenderHalts}
-use Rattle.dr_plain_senders.specs.declared.record.Step.TheVariants.{HalterHalts}
-use Rattle.dr_plain_senders.specs.Meaning.Records.{events_of, Owns, has_published, sender_looked, mark_found, claimed_from, halter_halted, SeesRoom}
+use Rattle.dr_plain_senders.specs.declared.record.Step.TheVariants.{HalterHalts, HalterLooks}
+use Rattle.dr_plain_senders.specs.Meaning.Records.{events_of, Owns, has_published, sender_looked, mark_found, claimed_from, halter_halted, halter_looked, SeesRoom}
 use Rattle.dr_plain_senders.specs.Meaning.Records.{fresh_stage}
 use Rattle.dr_plain_senders.specs.Meaning.Rule.{World, KeepsRule}
 use Rattle.dr_plain_senders.specs.Meaning.Lying.{Laid, Lies}
@@ -42,7 +43,7 @@ use Rattle.dr_plain_senders.specs.Inside.Seats.{End, Hand, Sitting, Tells, ring_
 use Rattle.dr_plain_senders.specs.Inside.Seats.{halter_of, IsSender, IsHalter}
 use Rattle.dr_plain_senders.specs.Inside.Seats.{LayIn, LayAsLent, taken_by_claim, given_by_publication, SenderLooked, SenderLookedAtClaims}
 use Rattle.dr_plain_senders.specs.Inside.Seats.{SenderClaimed, SenderPublished, SenderLookedAtMark, SenderHalted}
-use Rattle.dr_plain_senders.specs.Inside.Seats.{HalterHalted}
+use Rattle.dr_plain_senders.specs.Inside.Seats.{HalterHalted, HalterLooked}
 use Rattle.dr_plain_senders.proofs.Places.{word_at, claimed_low}
 use Rattle.dr_plain_senders.proofs.Facts.{near_open, owned}
 use Rattle.dr_plain_senders.proofs.KeepsClaims.{keeps_claims}
@@ -385,4 +386,32 @@ module _ {T : Type 0} where
         hand_after = [];
         moves = stays k u [] homes lies;
         tells = refl;
+      }))
+
+  pub halter_looks : (k : Shape T) {slots : ℕ} (id : ℕ) (me : Sitting T) (i : ℕ) → i < mark_start k → IsHalter (end_of me) → MayLoad k slots id me i HalterLooked
+  halter_looks k {slots = slots} id me i low is =
+      let r = halter_of me.0.ends in
+      along_halter (λ m. MayLoad k slots id m i HalterLooked) me is
+      (by_end k slots id (HalterLooks i) (λ xs. xs) me.0.pasts (Halts r) [] i (λ n. n)
+      (HalterLooked (step slots i 0 0 none) (as_halter r))
+      (adds_nothing ring_ends _ (HalterLooks i) (λ n. refl))
+      (λ w at K small homes lies. let n = word_at w.words i in
+      let u : World T = record w { halter = halter_looked w.halter i n } in record {
+        mine = Halts (halter_looked r i n);
+        same = refl;
+        does = record {
+          after = u;
+          happens = (low, refl);
+          words = same_words w.words i;
+          stands = ap (λ (x : HalterRecord). halter_looked x i n) at;
+          others = but_halter w u refl refl;
+        };
+        hand_after = [];
+        moves = stays k u [] homes lies;
+        tells = (
+          refl,
+          subst (λ (x : HalterRecord). FindsMore x.looks i n) at (last_look_le (mark_start k) w.words 0 w.halter.looks i (omega arith) K.halter),
+          subst (λ (x : HalterRecord). i ≡ claim_word → claimed_in (last_look 0 x.looks claim_word) ≤ claimed_in n) at
+              (λ here. (let a = ap (λ (j : ℕ). claimed_in (word_at w.words j)) here in let b = K.claim in let c = K.halter_claims in omega arith)),
+        );
       }))

@@ -75,6 +75,7 @@ module _ (T : Type 0) where
           looks = λ i x there. absurd (some-ne-none x (sym there));
         }));
     halter = λ i x there. absurd (some-ne-none x (sym there));
+    halter_claims = omega arith;
   }
 
   none_taken : (h n : ℕ) → map taken_of (fresh_receivers {T = T} h n) ≡ replicate n 0

@@ -11,7 +11,7 @@ use Rattle.dr_plain_senders.specs.declared.record.Step.{Step}
 use Rattle.dr_plain_senders.specs.declared.record.Step.TheVariants.{SenderLooksAtClaims, SenderLooksAtCount, SenderClaims, SenderPublishes}
 use Rattle.dr_plain_senders.specs.declared.record.Step.TheVariants.{SenderLooksAtMark, SenderHalts}
 use Rattle.dr_plain_senders.specs.declared.record.Step.TheVariants.{ReceiverLooksAtClaims, ReceiverLooksAtMark, ReceiverLooksAtCount}
-use Rattle.dr_plain_senders.specs.declared.record.Step.TheVariants.{ReceiverCompletes, HalterHalts}
+use Rattle.dr_plain_senders.specs.declared.record.Step.TheVariants.{ReceiverCompletes, HalterHalts, HalterLooks}
 use Rattle.dr_plain_senders.specs.Meaning.Records.{published, sender_looked, SeesRoom}
 use Rattle.dr_plain_senders.specs.Meaning.Rule.{World, KeepsRule}
 use Rattle.dr_plain_senders.specs.Meaning.Steps.{Happens, PublishesOne, sender_knows, sender_claims}
@@ -65,6 +65,7 @@ module _ {T : Type 0} where
   halted_step k (ReceiverLooksAtCount h c room) w u n H K is = subst (HaltedAt n) (sym H.2.3) is
   halted_step k (ReceiverCompletes h m) w u n H K is = subst (HaltedAt n) (sym H.2.2) (other_word w (count_word h) m (λ e. omega arith) is.0, is.1)
   halted_step k HalterHalts w u n H K is = subst (HaltedAt n) (sym H) (halted_more k w K, is.1)
+  halted_step k (HalterLooks word) w u n H K is = subst (HaltedAt n) (sym H.1) is
 
   pub halted_runs : (k : Shape T) (steps : List (Step T)) (es : Transcript T) (w u : World T) (n : ℕ)
       → Runs k steps es w u → KeepsRule k w → HaltedAt n w → HaltedAt n u

@@ -1,19 +1,20 @@
 -- What a poll of a receiver takes and sees, of a ring with several senders.
-use Rattle.std.proofs.Common.{◌≡◌, ◌⊎◌, ◌≤◌, ◌<◌, ◌+◌, ◌-◌, ◌^◌, ℕ, min, Bool, true, List, [], ◌∷◌, ◌++◌, length, Ok, inl, inr, ⊎_elim}
+use Rattle.std.proofs.Common.{◌≡◌, ◌≤◌, ◌<◌, ◌+◌, ◌-◌, ◌^◌, ℕ, min, List, [], ◌∷◌, ◌++◌, length, Ok, inl, inr}
 use Rattle.std.proofs.Common.{refl, sym, ap, ◌∙◌, subst, arith, append_assoc, length-append}
-use Rattle.std.specs.Prelude.{Contains, slice_index}
+use Rattle.std.specs.Prelude.{◌↔◌, Contains, IsTrue, slice_index}
 use Rattle.std.proofs.Math.Seq.{get_or-append_seam}
-use Rattle.std.proofs.lemmas.Bool.{cases_eq}
 use Rattle.std.proofs.lemmas.List.{append-nil, length-map, map-append}
 use mathlib.Core.Option.{some}
 use lib.ListN.{get_elem?}
-use Rattle.dr_graph.specs.Meaning.Graph.{upstreams_of}
+use Rattle.dr_graph.specs.Meaning.Graph.{least_of, upstreams_of}
 use Rattle.dr_meaning.proofs.Leasts.{least_of-le}
 use Rattle.dr_meaning.specs.declared.command.Polled.{Polled}
 use Rattle.dr_meaning.specs.declared.command.Polled.TheVariants.{Batch, Drained, Gating, Idle}
 use Rattle.dr_runs.specs.declared.look.Look.{Look}
+use Rattle.dr_runs.specs.LastLooks.{found_last}
 use Rattle.dr_runs.specs.Looks.{look, offered_by}
 use Rattle.dr_runs.proofs.Elements.{at_index}
+use Rattle.dr_runs.proofs.LastLooks.{found_counts}
 use Rattle.dr_lent.specs.declared.lent.Lent.{Lent}
 use Rattle.dr_plain_senders.specs.declared.record.MarkLook.{MarkLook}
 use Rattle.dr_plain_senders.specs.Meaning.Records.{events_of, mark_look}
@@ -24,15 +25,9 @@ use Rattle.dr_plain_senders.specs.Meaning.Words.{claim_word, claimed_in, count_w
 use Rattle.dr_plain_senders.specs.Calls.Ends.{EndPlace, ReceiverEnd, count_looks, mark_looks, receiver_place, received_of}
 use Rattle.dr_plain_senders.specs.Calls.Receiving.{CompleteCall, LooksInOrder, PollCall, PollLooks, WalksTo, looked_round, offer, ups_of, walk_end}
 use Rattle.dr_plain_senders.proofs.Facts.{handler_inside, receiver_of_handler, taken_claimed, upstream_inside}
-use Rattle.dr_plain_senders.specs.Calls.InPlace.{SawAtMost, SawSome}
+use Rattle.dr_plain_senders.specs.Calls.InPlace.{SawAtMost, SawSome, marks_upto, offered_in, offered_of}
 use Rattle.dr_meaning.specs.Calls.InPlaceOutlets.{SawMore, TakesUpTo}
 use Rattle.dr_plain_senders.proofs.MarksFound.{MarksWithin}
-
--- a batch is as long as the room allows, and ends what was offered unless it fills the room
-marks : (room first count off : ℕ) (end : Bool) → first < off → count ≡ min (off - first) room → (first + count ≡ off → end ≡ true)
-    → (end ≡ true) ⊎ ((count ≡ room) × (first + room + 1 ≤ off))
-marks room first count off end there many ends =
-    elim (cases_eq (first + count) off) [ inl whole ↦ inl (ends whole) | inr more ↦ inr (omega arith, omega arith) ]
 
 -- what stands there
 seam : {A : Type 0} (before after : List A) (x : A) → get_elem? (before ++ x ∷ after) (length before) ≡ some x
@@ -187,8 +182,40 @@ module _ {T : Type 0} where
   saw_most k w h e plan at K all n saw =
       saw (length w.stages) (subst (λ (q : Shape T). SawAtMost (length w.stages) q (ups_of q e.knows) e.knows) (sym plan) (saw_claimed k w h e.knows at K all))
 
+  -- What it found offered at its last looks.
+
+  last_marks : (k : Shape T) (old : List MarkLook) (x : MarkLook) (new : List MarkLook) → marks_upto k (old ++ x ∷ new) ≡ marks_upto k (x ∷ new)
+  last_marks k [] x new = refl
+  last_marks k (o ∷ []) x new = refl
+  last_marks k (o ∷ p ∷ old) x new = last_marks k (p ∷ old) x new
+
+  walked_upto : (k : Shape T) (looks : List Look) (end s m : ℕ) (marks : List ℕ) (upto : ℕ) → WalksTo k end s (m ∷ marks) upto
+      → marks_upto k (mark_looks k looks s (m ∷ marks)) ≡ upto
+  walked_upto k looks end s m [] upto W = elim W.1 [ inl here ↦ sym here.1.1 | inr stop ↦ sym stop.2 ]
+  walked_upto k looks end s m (next ∷ ms) upto W = elim W.1 [
+    | inl here ↦ walked_upto k looks end (s + marked_from k s m) next ms upto here.1
+    | inr stop ↦ (let no = stop.1 in absurd (cc))
+  ]
+
+  -- of a walk that came further
+  walk_is : (k : Shape T) (looks : List Look) (end s : ℕ) (old : List MarkLook) (marks : List ℕ) (upto : ℕ) → WalksTo k end s marks upto → s < upto
+      → marks_upto k (old ++ mark_looks k looks s marks) ≡ upto
+  walk_is k looks end s old [] upto W further = let at = W.1 in absurd (omega arith)
+  walk_is k looks end s old (m ∷ marks) upto W further =
+      last_marks k old (mark_look looks s m) (mark_looks k looks (s + marked_from k s m) marks) ∙ walked_upto k looks end s m marks upto W
+
+  offered_is : (k : Shape T) (claims upto : ℕ) (r : ReceiverRecord T) (old : List Look) (ups counts : List ℕ) → length counts ≡ length ups
+      → r.looks ≡ old ++ look claim_word claims ∷ count_looks ups counts → (ups ≡ [] → marks_upto k r.marks ≡ upto)
+      → offered_in k ups r.marks r.looks ≡ offered_by upto counts
+  offered_is k claims upto r old [] [] many is marks = marks refl
+  offered_is k claims upto r old [] (c ∷ counts) many is marks = absurd (omega arith)
+  offered_is k claims upto r old (u ∷ ups) [] many is marks = absurd (omega arith)
+  offered_is k claims upto r old (u ∷ ups) (c ∷ counts) many is marks =
+      ap least_of (ap (found_last (length (u ∷ ups))) (is ∙ sym (append_assoc old (look claim_word claims ∷ []) (count_looks (u ∷ ups) (c ∷ counts))))
+      ∙ found_counts count_word (old ++ look claim_word claims ∷ []) (u ∷ ups) (c ∷ counts) many)
+
   pub takes : (room : ℕ) (e e' : ReceiverEnd T) (polled : Polled) → PollCall e room e' (Ok polled) → length e'.knows.received < 2 ^ 64 → 0 < room
-      → TakesUpTo room (SawSome e') polled (received_of e.knows) (received_of e'.knows)
+      → TakesUpTo room (offered_of e') (SawSome e') polled (received_of e.knows) (received_of e'.knows)
   takes room e e' (Batch first count end) call fits some_room =
       let sees = call.1.1 in
       let seen : PollLooks = sees.0 in
@@ -206,22 +233,28 @@ module _ {T : Type 0} where
       let marked = ap (λ (r : ReceiverRecord T). r.marks) A.5.2 in
       let grew = ap (λ (r : ReceiverRecord T). r.looks) A.5.2 in
       let on = looked e e' seen lents call.0 A.5.2 in
+      let ups = ups_of e.plan e.knows in
+      let off : offered_of e' ≡ offer seen =
+      ap (λ (q : EndPlace T). offered_in q.1 (upstreams_of q.1.upstreams q.2) e'.knows.marks e'.knows.looks) on.place
+      ∙ offered_is e.plan seen.claims seen.upto e'.knows e.knows.looks ups seen.counts sees.1.each grew
+      (λ none.
+      let upto = by_marks seen.upto ups seen.counts sees.1.each none in
+      ap (marks_upto e.plan) marked
+      ∙ walk_is e.plan (e.knows.looks ++ look claim_word seen.claims ∷ []) (walk_end e.knows (claimed_in seen.claims) room) (length e.knows.received) e.knows.marks
+      seen.marks seen.upto (sees.1.walks none) (omega arith)) in
       record {
         events = events_of lents;
         many = length-map lents (λ (l : Lent T). l.event) ∙ taken;
-        some = omega arith;
-        within = omega arith;
-        fits = omega arith;
         begins = next ∙ sym (length-map e.knows.received (λ (l : Lent T). l.event));
-        marked = ⊎_elim (λ last. inl last) (λ full. inr (
-          full.0,
-          λ m most.
-              (let low = offer_within m room e.plan e.knows e'.knows seen sees.1 marked grew (omega arith)
-              (subst (λ (k : Shape T). SawAtMost m k (ups_of e.plan e.knows) e'.knows) (ap (λ (q : EndPlace T). q.1) on.place)
-              (subst (λ (us : List ℕ). SawAtMost m e'.plan us e'.knows) (ap (λ (q : EndPlace T). upstreams_of q.1.upstreams q.2) on.place) most)) in
-              let high = full.1 in omega arith),
-        ))
-            (marks room first count (offer seen) end offered_more many A.3.1);
+        some = omega arith;
+        whole = many ∙ ap (λ (n : ℕ). min (n - first) room) (sym off);
+        marked = subst (λ (n : ℕ). IsTrue end ↔ (first + count ≡ n)) (sym off) A.3;
+        saw = λ m most.
+            (let low = offer_within m room e.plan e.knows e'.knows seen sees.1 marked grew (omega arith)
+            (subst (λ (k : Shape T). SawAtMost m k (ups_of e.plan e.knows) e'.knows) (ap (λ (q : EndPlace T). q.1) on.place)
+            (subst (λ (us : List ℕ). SawAtMost m e'.plan us e'.knows) (ap (λ (q : EndPlace T). upstreams_of q.1.upstreams q.2) on.place) most)) in
+            omega arith);
+        fits = omega arith;
         taken = λ i. record { events = events i; completed = completed i };
       }
   takes room e e' Drained call fits some_room = ap received_of call.1.1.2.3

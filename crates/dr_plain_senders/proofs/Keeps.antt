@@ -12,14 +12,14 @@ use Rattle.dr_plain_senders.specs.declared.record.Step.{Step}
 use Rattle.dr_plain_senders.specs.declared.record.Step.TheVariants.{SenderLooksAtClaims, SenderLooksAtCount, SenderClaims, SenderPublishes}
 use Rattle.dr_plain_senders.specs.declared.record.Step.TheVariants.{SenderLooksAtMark, SenderHalts}
 use Rattle.dr_plain_senders.specs.declared.record.Step.TheVariants.{ReceiverLooksAtClaims, ReceiverLooksAtMark, ReceiverLooksAtCount}
-use Rattle.dr_plain_senders.specs.declared.record.Step.TheVariants.{ReceiverCompletes, HalterHalts}
+use Rattle.dr_plain_senders.specs.declared.record.Step.TheVariants.{ReceiverCompletes, HalterHalts, HalterLooks}
 use Rattle.dr_plain_senders.specs.Meaning.Records.{sender_looked, SeesRoom}
 use Rattle.dr_plain_senders.specs.Meaning.Rule.{World, KeepsRule}
 use Rattle.dr_plain_senders.specs.Meaning.Steps.{Happens, PublishesOne, PublishesAll, sender_knows, sender_claims}
 use Rattle.dr_plain_senders.specs.Meaning.Moments.{Runs}
 use Rattle.dr_plain_senders.proofs.Places.{word_at}
 use Rattle.dr_plain_senders.proofs.Facts.{handler_inside, upstream_inside}
-use Rattle.dr_plain_senders.proofs.KeepsClaims.{keeps_sender_looks, keeps_mark_found, keeps_claims, keeps_sender_halts, keeps_halter_halts}
+use Rattle.dr_plain_senders.proofs.KeepsClaims.{keeps_sender_looks, keeps_mark_found, keeps_claims, keeps_sender_halts, keeps_halter_halts, keeps_halter_looks}
 use Rattle.dr_plain_senders.proofs.KeepsPublishes.{keeps_publishes}
 use Rattle.dr_plain_senders.proofs.KeepsReceiving.{keeps_claims_look, keeps_mark_look, keeps_count_look, keeps_completes}
 
@@ -65,6 +65,7 @@ module _ {T : Type 0} where
       subst (KeepsRule k) (sym H.2.3) (keeps_count_look k w h (count_word c) room H.0 H.2.1 (omega arith) (omega arith) H.1 H.2.2 K)
   keeps_step k (ReceiverCompletes h n) w u H K = subst (KeepsRule k) (sym H.2.2) (keeps_completes k w h n H.0 H.1 H.2.0 H.2.1 K)
   keeps_step k HalterHalts w u H K = subst (KeepsRule k) (sym H) (keeps_halter_halts k w K)
+  keeps_step k (HalterLooks word) w u H K = subst (KeepsRule k) (sym H.1) (keeps_halter_looks k w word H.0 K)
 
   pub keeps_runs : (k : Shape T) (steps : List (Step T)) (es : Transcript T) (w u : World T) → Runs k steps es w u → KeepsRule k w → KeepsRule k u
   keeps_runs k [] es w u R K = subst (KeepsRule k) R.1 K

@@ -1,9 +1,11 @@
 -- A sender that looks or claims keeps the rule, and so does a halt.
-use Rattle.std.proofs.Common.{◌≡◌, ℕ, zero, suc, ◌+◌, ◌<◌, inl, inr, false, List, ◌++◌, length, set, replicate, sym, ap, ◌∙◌, subst, arith}
+use Rattle.std.proofs.Common.{◌≡◌, ℕ, zero, suc, ◌+◌, ◌<◌, ◌≤◌, inl, inr, false, List, [], ◌∷◌, ◌++◌, length, set, replicate, sym, ap, ◌∙◌, subst, arith}
 use Rattle.std.proofs.Common.{length-set, get_or-set_same, get_or-set_other}
+use Rattle.std.proofs.lemmas.Bool.{cases_eq}
 use Rattle.std.proofs.lemmas.List.{length-append, length-replicate}
 use mathlib.Core.Option.{some, some-injective, some-ne-none}
 use lib.ListN.{get_elem?}
+use Rattle.dr_runs.specs.Looks.{look, last_look}
 use Rattle.dr_runs.proofs.Elements.{at_below, each_set}
 use Rattle.dr_runs.proofs.Offers.{final_inside}
 use Rattle.dr_plain_senders.specs.Meaning.Shape.{Shape}
@@ -12,13 +14,13 @@ use Rattle.dr_plain_senders.specs.declared.record.Stage.{Stage}
 use Rattle.dr_plain_senders.specs.declared.record.Own.{Own}
 use Rattle.dr_plain_senders.specs.declared.record.SenderRecord.{SenderRecord}
 use Rattle.dr_plain_senders.specs.declared.record.HalterRecord.{HalterRecord}
-use Rattle.dr_plain_senders.specs.Meaning.Records.{fresh_stage, fresh_own, sender_looked, claimed_from, halter_halted, SeesRoom, Owns, mark_found}
+use Rattle.dr_plain_senders.specs.Meaning.Records.{fresh_stage, fresh_own, sender_looked, claimed_from, halter_halted, halter_looked, SeesRoom, Owns, mark_found}
 use Rattle.dr_plain_senders.specs.Meaning.Rule.{World, ArePast, SenderKept, KeepsRule, IsOut}
 use Rattle.dr_plain_senders.specs.Meaning.Steps.{sender_knows, sender_claims, halted_words}
 use Rattle.atomic_table.proofs.Lists.{at_longer}
 use Rattle.dr_plain_senders.proofs.Places.{word_at, more_right, more_cases, at_replicate, in_replicate, claimed_low, halted_low, claimed_halted}
 use Rattle.dr_plain_senders.proofs.Places.{halted_rises, is_halted_from, Rises, rises_set, past_rises}
-use Rattle.dr_runs.proofs.Looks.{past_more, last_look_le}
+use Rattle.dr_runs.proofs.Looks.{past_more, last_look_more, last_look_else, last_look_le}
 use Rattle.dr_plain_senders.proofs.Facts.{handler_inside, none_or_some}
 use Rattle.dr_plain_senders.proofs.Stays.{Lasts, out_lasts, room_stays, receiver_stays, sender_stays}
 
@@ -39,6 +41,7 @@ module _ {T : Type 0} where
     sent = each_set (SenderKept k w.words w.stages) w.senders p r now (λ q x ne there. K.sent q x there);
     received = K.received;
     halter = K.halter;
+    halter_claims = K.halter_claims;
   }
 
   -- a sender looks
@@ -150,13 +153,15 @@ module _ {T : Type 0} where
             receiver_stays k w.words us w.stages more h q K.shape.graph (handler_inside k w h q there K) (stays (count_word h) (omega arith)) rises lasts
             (omega arith) (λ y. absurd (let t = (old.told y).0 in cc)) old);
         halter = past_rises k w.words us w.halter.looks rises K.halter;
+        halter_claims = let a = K.halter_claims in omega arith;
       }
 
   -- the highest bit of the claim word is set
   halting : (k : Shape T) (w : World T) (senders : List (SenderRecord T)) (halter : HalterRecord) → length senders ≡ k.senders
       → ((p : ℕ) (r : SenderRecord T) → get_elem? senders p ≡ some r → SenderKept k (halted_words w) w.stages p r) → ArePast k (halted_words w) halter.looks
+      → claimed_in (last_look 0 halter.looks claim_word) ≤ length w.stages
       → KeepsRule k w → KeepsRule k (record w { words = halted_words w; senders = senders; halter = halter })
-  halting k w senders halter count sent looks K =
+  halting k w senders halter count sent looks claims K =
       let n = word_at w.words claim_word in let us = halted_words w in let wide = K.wide in
       let here : word_at us claim_word ≡ halted_from n = get_or-set_same w.words claim_word (halted_from n) 0 (omega arith) in
       let stays : (j : ℕ) → 0 < j → word_at us j ≡ word_at w.words j =
@@ -176,6 +181,7 @@ module _ {T : Type 0} where
             receiver_stays k w.words us w.stages w.stages h q K.shape.graph (handler_inside k w h q there K) (stays (count_word h) (omega arith)) rises
             (λ s l x. x) (omega arith) (λ y. (ap is_halted here ∙ is_halted_from n, (old.told y).1)) old);
         halter = looks;
+        halter_claims = claims;
       }
 
   halt_rises : (k : Shape T) (w : World T) → KeepsRule k w → Rises k w.words (halted_words w)
@@ -202,7 +208,7 @@ module _ {T : Type 0} where
             past_more (mark_start k) us claim_word (halted_from n) r.looks (omega arith) (omega arith) (past_rises k w.words us r.looks rises was.looks);
       })
       (λ q x ne there. sender_stays k w.words us w.stages w.stages q x rises (λ s t old _. old) (λ s t old _. old) (K.sent q x there)))
-      (past_rises k w.words us w.halter.looks rises K.halter) K
+      (past_rises k w.words us w.halter.looks rises K.halter) K.halter_claims K
 
   pub keeps_halter_halts : (k : Shape T) (w : World T) → KeepsRule k w
       → KeepsRule k (record w { words = halted_words w; halter = halter_halted w.halter (word_at w.words claim_word) })
@@ -212,4 +218,29 @@ module _ {T : Type 0} where
       (λ p x there. sender_stays k w.words us w.stages w.stages p x rises (λ s t old _. old) (λ s t old _. old) (K.sent p x there))
       (past_more (mark_start k) us claim_word (halted_from n) w.halter.looks (omega arith)
       (omega arith) (past_rises k w.words us w.halter.looks rises K.halter))
+      (let a = ap claimed_in (last_look_more 0 w.halter.looks claim_word (halted_from n)) in let b = claimed_halted n in let c = K.claim in omega arith)
       K
+
+  -- the halter looks at a word
+  pub keeps_halter_looks : (k : Shape T) (w : World T) (i : ℕ) → i < mark_start k → KeepsRule k w
+      → KeepsRule k (record w { halter = halter_looked w.halter i (word_at w.words i) })
+  keeps_halter_looks k w i low K =
+      let looks = w.halter.looks in record {
+        shape = K.shape;
+        wide = K.wide;
+        inlets = K.inlets;
+        outlets = K.outlets;
+        claim = K.claim;
+        limit = K.limit;
+        room = K.room;
+        marks = K.marks;
+        marked = K.marked;
+        sent = K.sent;
+        received = K.received;
+        halter = past_more (mark_start k) w.words i (word_at w.words i) looks low (omega arith) K.halter;
+        halter_claims = elim (cases_eq i claim_word) [
+          | inl e ↦ subst (λ (j : ℕ). claimed_in (last_look 0 (looks ++ look j (word_at w.words j) ∷ []) claim_word) ≤ length w.stages) (sym e)
+              (let a = ap claimed_in (last_look_more 0 looks claim_word (word_at w.words claim_word)) in let b = K.claim in omega arith)
+          | inr ne ↦ (let a = ap claimed_in (last_look_else 0 looks i claim_word (word_at w.words i) ne) in let b = K.halter_claims in omega arith)
+        ];
+      }

@@ -204,4 +204,5 @@ module _ {T : Type 0} where
             receiver_stays k w.words us w.stages more h q K.shape.graph in_graph (stays (count_word h) (omega arith)) rises lasts (omega arith)
             (λ y. (ap is_halted (stays claim_word (omega arith)) ∙ (old.told y).0, (let c = (old.told y).1 in omega arith))) old);
         halter = past_rises k w.words us w.halter.looks rises K.halter;
+        halter_claims = let a = K.halter_claims in omega arith;
       }

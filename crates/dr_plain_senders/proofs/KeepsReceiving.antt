@@ -41,6 +41,7 @@ module _ {T : Type 0} where
     sent = K.sent;
     received = each_set (ReceiverKept k w.words w.stages) w.receivers h r now (λ j q ne there. K.received j q there);
     halter = K.halter;
+    halter_claims = K.halter_claims;
   }
 
   -- a look that tells a receiver that the ring drained tells the truth
@@ -143,4 +144,5 @@ module _ {T : Type 0} where
             (stays (count_word j) (λ e. ne (omega arith))) rises (λ s l x. x) (omega arith)
             (λ yes. (ap is_halted one ∙ (old.told yes).0, (old.told yes).1)) old));
         halter = past_rises k w.words us w.halter.looks rises K.halter;
+        halter_claims = K.halter_claims;
       }

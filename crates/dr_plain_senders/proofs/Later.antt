@@ -28,7 +28,7 @@ use Rattle.dr_plain_senders.specs.declared.record.Step.{Step}
 use Rattle.dr_plain_senders.specs.declared.record.Step.TheVariants.{SenderLooksAtClaims, SenderLooksAtCount, SenderClaims, SenderPublishes}
 use Rattle.dr_plain_senders.specs.declared.record.Step.TheVariants.{SenderLooksAtMark, SenderHalts}
 use Rattle.dr_plain_senders.specs.declared.record.Step.TheVariants.{ReceiverLooksAtClaims, ReceiverLooksAtMark, ReceiverLooksAtCount}
-use Rattle.dr_plain_senders.specs.declared.record.Step.TheVariants.{ReceiverCompletes, HalterHalts}
+use Rattle.dr_plain_senders.specs.declared.record.Step.TheVariants.{ReceiverCompletes, HalterHalts, HalterLooks}
 use Rattle.dr_plain_senders.specs.Meaning.Records.{fresh_stage, is_published, sender_looked, receiver_looked, claims_looked, mark_look, mark_looked}
 use Rattle.dr_plain_senders.specs.Meaning.Records.{completed_to}
 use Rattle.dr_plain_senders.specs.Meaning.Rule.{World, IsOut, KeepsRule}
@@ -185,6 +185,7 @@ module _ {T : Type 0} where
   seen_step k (ReceiverCompletes g m) w u n h r few H K at =
       let q' = completed_to H.0 m in subst (Stood k w n h r) (sym H.2.2) (changes k w n h g r H.0 q' at H.1 (nothing_seen k w n g H.0 q' refl refl))
   seen_step k HalterHalts w u n h r few H K at = subst (Stood k w n h r) (sym H) (stays k w n h r at)
+  seen_step k (HalterLooks word) w u n h r few H K at = subst (Stood k w n h r) (sym H.1) (stays k w n h r at)
 
   -- what was found after a later moment was found after an earlier one
   earlier_looks : (k : Shape T) (w u : World T) (xs : List Look) → Rose k w u → All (FoundLater k u) xs → All (FoundLater k w) xs

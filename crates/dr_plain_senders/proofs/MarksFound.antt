@@ -14,7 +14,7 @@ use Rattle.dr_plain_senders.specs.declared.record.ReceiverRecord.{ReceiverRecord
 use Rattle.dr_plain_senders.specs.declared.record.Step.{Step}
 use Rattle.dr_plain_senders.specs.declared.record.Step.TheVariants.{SenderLooksAtClaims, SenderLooksAtCount, SenderClaims, SenderPublishes}
 use Rattle.dr_plain_senders.specs.declared.record.Step.TheVariants.{SenderLooksAtMark, SenderHalts, ReceiverLooksAtClaims, ReceiverLooksAtMark}
-use Rattle.dr_plain_senders.specs.declared.record.Step.TheVariants.{ReceiverLooksAtCount, ReceiverCompletes, HalterHalts}
+use Rattle.dr_plain_senders.specs.declared.record.Step.TheVariants.{ReceiverLooksAtCount, ReceiverCompletes, HalterHalts, HalterLooks}
 use Rattle.dr_plain_senders.specs.Meaning.Records.{fresh_stage, published, sender_looked, receiver_looked, claims_looked, mark_look, mark_looked, completed_to}
 use Rattle.dr_plain_senders.specs.Meaning.Rule.{World, KeepsRule}
 use Rattle.dr_plain_senders.specs.Meaning.Steps.{Happens, PublishesOne, sender_knows, sender_claims}
@@ -98,6 +98,7 @@ module _ {T : Type 0} where
       subst (MarksWithin k) (sym H.2.3) (quiet k w h H.0 (receiver_looked H.0 (count_word c) (word_at w.words (count_word c)) H.2.1) H.1 refl all)
   within_step k (ReceiverCompletes h n) w u H K all = subst (MarksWithin k) (sym H.2.2) (quiet k w h H.0 (completed_to H.0 n) H.1 refl all)
   within_step k HalterHalts w u H K all = subst (MarksWithin k) (sym H) all
+  within_step k (HalterLooks word) w u H K all = subst (MarksWithin k) (sym H.1) all
 
   within_runs : (k : Shape T) (steps : List (Step T)) (es : Transcript T) (w u : World T) → Runs k steps es w u
       → KeepsRule k w → MarksWithin k w → MarksWithin k u

@@ -14,7 +14,7 @@ use Rattle.dr_plain_senders.specs.declared.record.Step.{Step}
 use Rattle.dr_plain_senders.specs.declared.record.Step.TheVariants.{SenderLooksAtClaims, SenderLooksAtCount, SenderClaims, SenderPublishes}
 use Rattle.dr_plain_senders.specs.declared.record.Step.TheVariants.{SenderLooksAtMark, SenderHalts}
 use Rattle.dr_plain_senders.specs.declared.record.Step.TheVariants.{ReceiverLooksAtClaims, ReceiverLooksAtMark, ReceiverLooksAtCount}
-use Rattle.dr_plain_senders.specs.declared.record.Step.TheVariants.{ReceiverCompletes, HalterHalts}
+use Rattle.dr_plain_senders.specs.declared.record.Step.TheVariants.{ReceiverCompletes, HalterHalts, HalterLooks}
 use Rattle.dr_plain_senders.specs.Meaning.Records.{Owns, fresh_stage, sender_looked, claimed_from}
 use Rattle.dr_plain_senders.specs.Meaning.Rule.{World, KeepsRule}
 use Rattle.dr_plain_senders.specs.Meaning.Steps.{Happens, PublishesOne, sender_knows, sender_claims}
@@ -81,6 +81,7 @@ module _ {T : Type 0} where
   owners_step k (ReceiverLooksAtCount h c room) w u H K all = subst OwnersThere (sym H.2.3) all
   owners_step k (ReceiverCompletes h n) w u H K all = subst OwnersThere (sym H.2.2) all
   owners_step k HalterHalts w u H K all = subst OwnersThere (sym H) all
+  owners_step k (HalterLooks word) w u H K all = subst OwnersThere (sym H.1) all
 
   owners_runs : (k : Shape T) (steps : List (Step T)) (es : Transcript T) (w u : World T) → Runs k steps es w u → KeepsRule k w → OwnersThere w → OwnersThere u
   owners_runs k [] es w u R K all = subst OwnersThere R.1 all

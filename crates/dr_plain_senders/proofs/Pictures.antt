@@ -31,7 +31,7 @@ use Rattle.dr_plain_senders.specs.declared.record.Step.{Step}
 use Rattle.dr_plain_senders.specs.declared.record.Step.TheVariants.{SenderLooksAtClaims, SenderLooksAtCount, SenderClaims, SenderPublishes}
 use Rattle.dr_plain_senders.specs.declared.record.Step.TheVariants.{SenderLooksAtMark, SenderHalts}
 use Rattle.dr_plain_senders.specs.declared.record.Step.TheVariants.{ReceiverLooksAtClaims, ReceiverLooksAtMark, ReceiverLooksAtCount}
-use Rattle.dr_plain_senders.specs.declared.record.Step.TheVariants.{ReceiverCompletes, HalterHalts}
+use Rattle.dr_plain_senders.specs.declared.record.Step.TheVariants.{ReceiverCompletes, HalterHalts, HalterLooks}
 use Rattle.dr_plain_senders.specs.Meaning.Records.{fresh_stage, published, is_published, sender_looked, receiver_looked, tells_drained, claims_looked}
 use Rattle.dr_plain_senders.specs.Meaning.Records.{taken_at_mark, taken_at_count, mark_looked, completed_to, SeesRoom}
 use Rattle.dr_plain_senders.specs.Meaning.Rule.{World, IsOut, has_mark, KeepsRule}
@@ -404,6 +404,7 @@ module _ {T : Type 0} where
       subst (λ (x : World T). Leads k (entry (Complete h n) Completed []) (picture_of k w) (picture_of k x)) (sym H.2.2)
       (lead_complete k w h n H.0 H.1 H.2.0 H.2.1 K)
   lead_step k HalterHalts w u H K = subst (λ (x : World T). Leads k (entry Halt Halting []) (picture_of k w) (picture_of k x)) (sym H) (lead_halt k w K)
+  lead_step k (HalterLooks word) w u H K = ap (picture_of k) (sym H.1)
 
   pub lead_runs : (k : Shape T) (steps : List (Step T)) (es : Transcript T) (w u : World T) → Runs k steps es w u → KeepsRule k w
       → Leads k es (picture_of k w) (picture_of k u)

@@ -16,7 +16,7 @@ use Rattle.dr_plain_senders.specs.declared.record.Step.{Step}
 use Rattle.dr_plain_senders.specs.declared.record.Step.TheVariants.{SenderLooksAtClaims, SenderLooksAtCount, SenderClaims, SenderPublishes}
 use Rattle.dr_plain_senders.specs.declared.record.Step.TheVariants.{SenderLooksAtMark, SenderHalts}
 use Rattle.dr_plain_senders.specs.declared.record.Step.TheVariants.{ReceiverLooksAtClaims, ReceiverLooksAtMark, ReceiverLooksAtCount}
-use Rattle.dr_plain_senders.specs.declared.record.Step.TheVariants.{ReceiverCompletes, HalterHalts}
+use Rattle.dr_plain_senders.specs.declared.record.Step.TheVariants.{ReceiverCompletes, HalterHalts, HalterLooks}
 use Rattle.dr_plain_senders.specs.Meaning.Records.{fresh_stage, published, sender_looked}
 use Rattle.dr_plain_senders.specs.Meaning.Rule.{World, IsOutWith, KeepsRule}
 use Rattle.dr_plain_senders.specs.Meaning.Steps.{Happens, PublishesOne, sender_knows, sender_claims}
@@ -110,6 +110,7 @@ module _ {T : Type 0} where
       let wide = K.wide in let up = H.2.0 in let was = (K.received h H.0 H.1).count in let inside = at_below w.receivers h H.0 H.1 in let outlets = K.outlets in
       subst (Rose k w) (sym H.2.2) (same_stages k w _ (rises_set k w.words (count_word h) n (omega arith) (λ low. omega arith)) refl)
   rose_step k HalterHalts w u H K = subst (Rose k w) (sym H) (same_stages k w _ (halts k w K) refl)
+  rose_step k (HalterLooks word) w u H K = subst (Rose k w) (sym H.1) (same_stages k w _ (stays k w w.words) refl)
 
   pub rose_runs : (k : Shape T) (steps : List (Step T)) (es : Transcript T) (w u : World T) → Runs k steps es w u → KeepsRule k w → Rose k w u
   rose_runs k [] es w u R K = subst (Rose k w) R.1 (same_stages k w w (stays k w w.words) refl)

@@ -13,7 +13,7 @@ use Rattle.dr_plain_senders.specs.declared.record.SenderRecord.{SenderRecord}
 use Rattle.dr_plain_senders.specs.declared.record.ReceiverRecord.{ReceiverRecord}
 use Rattle.dr_plain_senders.specs.declared.record.Step.{Step}
 use Rattle.dr_plain_senders.specs.declared.record.Step.TheVariants.{SenderLooksAtClaims, SenderLooksAtCount, SenderClaims, SenderPublishes}
-use Rattle.dr_plain_senders.specs.declared.record.Step.TheVariants.{SenderLooksAtMark, SenderHalts, HalterHalts}
+use Rattle.dr_plain_senders.specs.declared.record.Step.TheVariants.{SenderLooksAtMark, SenderHalts, HalterHalts, HalterLooks}
 use Rattle.dr_plain_senders.specs.declared.record.Step.TheVariants.{ReceiverLooksAtClaims, ReceiverLooksAtMark, ReceiverLooksAtCount, ReceiverCompletes}
 use Rattle.dr_plain_senders.specs.Meaning.Records.{sender_looked, receiver_looked, tells_drained, claims_looked, mark_looked, completed_to}
 use Rattle.dr_plain_senders.specs.Meaning.Rule.{World}
@@ -88,6 +88,7 @@ module _ {T : Type 0} where
       inl (quiet w u g h H.0 (receiver_looked H.0 (count_word c) found H.2.1) H.1 (ap (λ (x : World T). x.receivers) H.2.3) refl now)
   told_step k tell (ReceiverCompletes g n) w u h H now = inl (quiet w u g h H.0 (completed_to H.0 n) H.1 (ap (λ (x : World T). x.receivers) H.2.2) refl now)
   told_step k tell HalterHalts w u h H now = inl (stays w u h (ap (λ (x : World T). x.receivers) H) now)
+  told_step k tell (HalterLooks word) w u h H now = inl (stays w u h (ap (λ (x : World T). x.receivers) H.1) now)
 
   -- and nobody was told anything before a ring begins
   pub were_told : (k : Shape T) → LooksTell T k → (steps : List (Step T)) (es : Transcript T) (w : World T) → Runs k steps es (new_world k) w → WereTold w es

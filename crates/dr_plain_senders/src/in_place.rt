@@ -1,7 +1,7 @@
 //! The ends of a ring over plain memory with several senders fill and show events where they lie.
 
 ghost use Rattle.dr_meaning.specs.Calls.Filling.{FillsOne};
-ghost use Rattle.dr_plain_senders.specs.Calls.InPlace.{RefusesClaim, SawSome, sending_of};
+ghost use Rattle.dr_plain_senders.specs.Calls.InPlace.{RefusesClaim, SawSome, StoresStretch, does_in_place, offered_of, sending_of};
 ghost use Rattle.dr_plain_senders.specs.Calls.Ends.{receiver_place, received_of, sender_place};
 
 use crate::receiver::Receiver;
@@ -20,6 +20,8 @@ impl<T> InPlaceInlet for Sender<T> {
     ghost sending = { sending_of };
 
     ghost refuses = { RefusesClaim };
+
+    ghost stores = { StoresStretch };
 
     fn try_claim(&mut self, n: u64) -> Result<Claimed, ClaimFault> {
         Sender::try_claim(self, n)
@@ -76,6 +78,10 @@ impl<T> InPlaceOutlet for Receiver<T> {
     ghost told = { λ e. e.knows.told };
 
     ghost saw = { SawSome };
+
+    ghost offered = { offered_of };
+
+    ghost does = { does_in_place };
 
     fn poll(&mut self, room: u64) -> Polled {
         match Receiver::poll(self, room) {

@@ -109,6 +109,10 @@ pub enum Step<T> {
         upto: u64,
     },
     HalterHalts,
+    /// The halter looks at a word that only rises.
+    HalterLooks {
+        word: u64,
+    },
 }
 
 /// What a seat of a ring stands for.

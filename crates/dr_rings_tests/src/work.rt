@@ -11,10 +11,6 @@ pub struct Adder {
 }
 
 impl Handler<Event> for Adder {
-    ghost use Rattle.std.specs.Prelude.{⊤};
-
-    ghost goes = { λ old event s end new. ⊤ };
-
     fn on_event(&mut self, event: Event, _s: u64, _end: bool) {
         self.total = self.total.wrapping_add(event.first);
         self.count = self.count.wrapping_add(1);

@@ -16,3 +16,4 @@ pub mod Replies
 pub mod Scans
 pub mod Answering
 pub mod Told
+pub mod LastLooks

@@ -9,3 +9,4 @@ pub mod Words
 pub mod Fault
 pub mod Noted
 pub mod Replies
+pub mod LastLooks

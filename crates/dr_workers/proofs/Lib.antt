@@ -13,3 +13,4 @@ pub mod Untroubled
 pub mod Unrefused
 pub mod Biding
 pub mod Lent
+pub mod Along

@@ -49,10 +49,6 @@ struct Worth {
 }
 
 impl InPlaceHandler<Trade> for Worth {
-    ghost use Rattle.std.specs.Prelude.{⊤};
-
-    ghost goes = { λ old trade s end new. ⊤ };
-
     fn on_event_in_place(&mut self, trade: &Trade, _s: u64, _end: bool) {
         let price = trade.price.load(Ordering::SeqCst);
         let worth = price.wrapping_mul(trade.quantity);

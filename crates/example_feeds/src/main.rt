@@ -14,7 +14,7 @@ struct Order {
 }
 
 /// Keeps the greatest quantity that was ordered at once.
-#[derive(Drop)]
+#[derive(Clone, Copy, Default)]
 struct Risk {
     greatest: u64,
 }
@@ -29,23 +29,23 @@ impl InPlaceHandler<Order> for Risk {
     }
 }
 
-/// Counts the orders of each of two accounts.
-#[derive(Drop)]
+/// Counts the orders of the first account, and those of the others.
+#[derive(Clone, Copy, Default)]
 struct Journal {
     first: u64,
-    second: u64,
+    others: u64,
 }
 
 impl InPlaceHandler<Order> for Journal {
-    ghost use Rattle.std.specs.Prelude.{⊤};
+    ghost use Rattle.std.specs.Prelude.{◌≡◌, ◌+◌, ◌%◌, ◌^◌, ◌==◌, if◌then◌else◌};
 
-    ghost goes = { λ old order s end new. ⊤ };
+    ghost goes = { λ old order s end new. (new.first ≡ (if order.account == 1 then (old.first + 1) % 2 ^ 64 else old.first)) × (new.others ≡ (if order.account == 1 then old.others else (old.others + 1) % 2 ^ 64)) };
 
     fn on_event_in_place(&mut self, order: &Order, _s: u64, _end: bool) {
         if order.account == 1 {
             self.first = self.first.wrapping_add(1);
         } else {
-            self.second = self.second.wrapping_add(1);
+            self.others = self.others.wrapping_add(1);
         }
     }
 }
@@ -65,13 +65,7 @@ fn main(rt: HostRuntime) -> Result<(), RunFault> {
     builder.then(&risk, &["journal"])?;
     let graph = builder.build()?;
     let orders = new_events(alloc, size, || Ok(Order::default()))?;
-    let handlers = (
-        Risk { greatest: 0 },
-        Journal {
-            first: 0,
-            second: 0,
-        },
-    );
+    let handlers = (Risk::default(), Journal::default());
     let mut feeds = Vec::new(alloc);
     for account in [1u64, 2] {
         feeds.push(move |sender: &mut SeveralSender<HostRuntime, Order>| {
@@ -87,6 +81,6 @@ fn main(rt: HostRuntime) -> Result<(), RunFault> {
     let (risk, journal) = ran.handlers;
     let _printed = rt.println(&risk.greatest);
     let _printed = rt.println(&journal.first);
-    let _printed = rt.println(&journal.second);
+    let _printed = rt.println(&journal.others);
     Ok(())
 }

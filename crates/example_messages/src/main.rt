@@ -34,10 +34,6 @@ struct Reader {
 }
 
 impl InPlaceHandler<Message> for Reader {
-    ghost use Rattle.std.specs.Prelude.{⊤};
-
-    ghost goes = { λ old message s end new. ⊤ };
-
     fn on_event_in_place(&mut self, message: &Message, _s: u64, _end: bool) {
         self.bytes = self.bytes.wrapping_add(message.text.len() as u64);
         if message.text.first() == Some(&b's') {

@@ -79,8 +79,12 @@ class Ends:
             self._gone |= ends
         self.halt()
 
-    def is_gone(self, ends: int) -> bool:
-        return self._gone & ends != 0
+    def cut(self, upstreams: int) -> int:
+        """Where those who follow these are cut: at the least count of those of them that are gone."""
+        gone = self._gone & upstreams
+        if not gone:
+            return _NO_SEQUENCE
+        return 0 if gone & _WHOLE else min(it.completed for k, it in enumerate(self.receivers) if gone >> k & 1)
 
 
 class _End:
@@ -174,13 +178,12 @@ class Sender(_End):
         return _Claim(self, n, True, timeout)
 
     def send(self, records: Any, timeout: float | None = None) -> None:
-        """Copies records into their slots and publishes them, once there is room: what has a buffer, as an array of numpy."""
-        slots, new = self._ends.slots, memoryview(records)
-        n, rest = divmod(new.nbytes, slots.bytes)
-        if rest:
-            raise ValueError(f"not a whole number of records of {slots.bytes} bytes")
-        new = new.cast("B").cast(slots.items.format)
-        with self.events(n, timeout) as views:
+        """Copies records into their slots and publishes them, once there is room: what has a buffer, as an array of numpy.
+
+        Its items are bytes, or of the records' kind; else that raises TypeError."""
+        slots = self._ends.slots
+        new = slots.like(records)
+        with self.events(new.nbytes // slots.bytes, timeout) as views:
             done = 0
             for view in views:
                 view[:] = new[done : done + len(view)]
@@ -219,8 +222,10 @@ class Receiver(_End):
         self._complete(self._shown)
         if self._shown < self._taken:
             return True
-        room, is_last_look = min(room or self._ends.slots.size, self._ends.slots.size), False
+        room = min(room or self._ends.slots.size, self._ends.slots.size)
         while True:
+            # (it asks for its cut before it looks, so that it misses no event)
+            cut = self._ends.cut(self._upstreams)
             check(LIBRARY.disruptor_poll_slots_at(self._handle, 1, room, self._offer_at, 1))
             if self._offer.kind == BATCH:
                 self._waiting.found()
@@ -230,12 +235,9 @@ class Receiver(_End):
             if self.is_drained or (deadline is not None and time.monotonic() >= deadline):
                 self._waiting.found()
                 return False
-            if is_last_look:
+            if self.completed >= cut:
                 raise Broken(self._ends)
-            # (where one that it follows is gone, it looks once more for what that one completed)
-            is_last_look = self._ends.is_gone(self._upstreams)
-            if not is_last_look:
-                self._waiting.wait()
+            self._waiting.wait()
 
     def give_up(self) -> None:
         """Halts the ring for this handler, which goes away before it had every event, so that nobody waits for it."""

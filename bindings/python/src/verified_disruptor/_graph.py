@@ -42,6 +42,8 @@ class Disruptor:
         self._ends: Ends | None = None
 
     def _add(self, name: str, changes: bool, run: Callable[[Receiver], None]) -> Disruptor:
+        if self._ends:
+            raise RuntimeError("it has started")
         if name in self._names:
             raise ValueError(f"two handlers have the name {name}")
         self._names.append(name)
@@ -62,11 +64,13 @@ class Disruptor:
 
     def after(self, *names: str) -> Disruptor:
         """The handlers that come next follow these."""
-        for name in names:
-            if name not in self._names:
-                raise ValueError(f"no handler before has the name {name}")
-        self._after = [self._names.index(name) for name in names]
+        self._after = [self._place(name) for name in names]
         return self
+
+    def _place(self, name: str) -> int:
+        if name not in self._names:
+            raise ValueError(f"no handler before has the name {name}")
+        return self._names.index(name)
 
     def and_then(self) -> Disruptor:
         """The handlers that come next follow all that there are."""
@@ -74,7 +78,8 @@ class Disruptor:
 
     def completed(self, name: str) -> int:
         """How many events the handler with this name completed, in the ring that was opened last. Any thread may ask that."""
-        return self._ends.receivers[self._names.index(name)].completed if self._ends else 0
+        place = self._place(name)
+        return self._ends.receivers[place].completed if self._ends else 0
 
     def _check_changes(self) -> None:
         before: list[set[int]] = []

@@ -23,6 +23,7 @@ class Reason(enum.IntEnum):
     OUT_OF_ORDER = 8
     NOT_TAKEN = 9
     BEHIND = 10
+    NO_HANDLER = 12
     CONTENDED = 16
     TOO_MANY = 25
     NO_HANDLERS = 26
@@ -39,13 +40,19 @@ class Reason(enum.IntEnum):
     BAD_LENGTH = 66
     NOT_IN_HAND = 67
 
+    def __str__(self) -> str:
+        return self.name.lower().replace("_", "-")
+
+    def __format__(self, spec: str) -> str:
+        return format(str(self), spec)
+
 
 class Refusal(Exception):
     """A call was refused, and changed nothing."""
 
     def __init__(self, number: int):
         self.reason = Reason(number)
-        super().__init__(self.reason.name.lower().replace("_", "-"))
+        super().__init__(str(self.reason))
 
 
 class Offer(ctypes.Structure):

@@ -29,6 +29,17 @@ class Events:
         return events if len(events) == count else events + self.items[: count - len(events)]
 
 
+# The items of these formats of a buffer are of one kind, where they have one size.
+_KINDS = ("bhilqn", "BHILQN", "efd", "?", "c")
+
+
+def _are_alike(one: str, other: str) -> bool:
+    one, other = one.lstrip("@"), other.lstrip("@")
+    return one == other or (
+        any(one in kind and other in kind for kind in _KINDS) and struct.calcsize(one) == struct.calcsize(other)
+    )
+
+
 class Records:
     """A record of a struct format in each slot: items of one kind, as "Q" or "dd"."""
 
@@ -37,6 +48,15 @@ class Records:
             raise ValueError("a record has items of one kind")
         self.size, self.width, self.bytes = size, len(record), struct.calcsize(record)
         self.items = memoryview(bytearray(size * self.bytes)).cast(record[0])
+
+    def like(self, buffer: Any) -> memoryview:
+        """The items of a buffer, which has whole records: as bytes, or with items of the same kind."""
+        new, own = memoryview(buffer), self.items.format
+        if new.format not in ("B", "b", "c") and not _are_alike(new.format, own):
+            raise TypeError(f"the items of the records are {own}, and those of the buffer {new.format}")
+        if new.nbytes % self.bytes:
+            raise ValueError(f"not a whole number of records of {self.bytes} bytes")
+        return new.cast("B").cast(own)
 
     def at(self, sequence: int) -> memoryview:
         """The items of the record of a sequence."""

@@ -24,10 +24,6 @@ struct Noting<'a, R> {
 }
 
 impl<'a, R: Clock> InPlaceHandler<Event> for Noting<'a, R> {
-    ghost use Rattle.std.specs.Prelude.{⊤};
-
-    ghost goes = { λ old event s end new. ⊤ };
-
     fn on_event_in_place(&mut self, event: &Event, s: u64, _end: bool) {
         if let Some(took) = self.took.get_mut(s as usize) {
             let now = nanos_since(self.clock, self.begun).unwrap_or(u64::MAX);

@@ -1,6 +1,6 @@
 //! What the contracts of a run say.
 
-ghost use Rattle.std.specs.Prelude.{◌≡◌, ◌∷◌, [], ℕ, ◌+◌, ◌≤◌, ◌⊎◌, All, List, Some, false, length, map, true};
+ghost use Rattle.std.specs.Prelude.{◌≡◌, ◌↔◌, ◌∷◌, [], ℕ, ◌+◌, ◌-◌, ◌≤◌, All, IsTrue, List, Some, false, length, map, min};
 ghost use Rattle.std.specs.Fn.{FnOnceReturnsAtMut};
 ghost use denote.RawPtr.{Ptr};
 ghost use mathlib.Core.Option.{some};
@@ -10,12 +10,15 @@ ghost use Rattle.dr_meaning.specs.Meaning.Laws.{Laws};
 ghost use Rattle.dr_runs.specs.Words.{halt_word};
 ghost use Rattle.dr_workers.specs.Meaning.Work.{FollowFrom, dealt_events, shown_of};
 ghost use Rattle.dr_plain.specs.Calls.Ends.{ReceiverEnd, receiver_place, received_of, sender_place};
+ghost use Rattle.dr_plain.specs.Calls.InPlace.{does_in_place};
+ghost use Rattle.dr_plain.specs.Calls.Making.{at_ring};
 ghost use Rattle.dr_plain.specs.Calls.Settling.{HasRun};
-ghost use Rattle.dr_plain.specs.Meaning.Moments.{fresh_sender};
+ghost use Rattle.dr_plain.specs.Meaning.Moments.{fresh_receiver, fresh_sender};
 ghost use Rattle.dr_plain.specs.Meaning.Records.{claimed, events_of, seen_before};
 ghost use Rattle.dr_plain.specs.Meaning.Shape.{Shape, ring_setup};
 ghost use Rattle.dr_disruptor.specs.Handlers.{WentThrough};
 ghost use Rattle.dr_disruptor.specs.Running.{IsRanBy};
+ghost use Rattle.dr_disruptor.specs.Serving.{TakesInTurn};
 ghost use Rattle.dr_disruptor.specs.declared.one_of.OneOf.TheVariants.{First, Second};
 ghost use Rattle.dr_disruptor.specs.declared.running.Ran.{Ran};
 ghost use Rattle.dr_plain.specs.declared.settled.Settled.{Settled};
@@ -38,8 +41,9 @@ pub fn what_a_run_says<
 >()
     // The closure was given the sender of a new ring of this shape, with your events in its cells, and the sender that it left is that ring's.
     ensures begins { (send : F) (most : ℕ) (shape : Ptr → Shape) (events : List E) (handlers : T) (ran : Ran E T (Settled E) A) → (is : IsRanBy (FnOnceReturnsAtMut F.FnOnce send) (λ sender. sender) H.goes T.listed T.went most shape events handlers ran) → (is.given.knows ≡ fresh_sender (shape is.strip)) × (is.given.cells ≡ map (λ event. Some event) events) × FnOnceReturnsAtMut F.FnOnce send is.given ran.sent is.back × (sender_place is.back ≡ (is.given.ring, shape is.strip)) }
-    // The handler at a place of the graph came back at it, and went through just what the receiver of that place took.
-    ensures serves { (send : F) (most : ℕ) (shape : Ptr → Shape) (events : List E) (handlers : T) (ran : Ran E T (Settled E) A) → (is : IsRanBy (FnOnceReturnsAtMut F.FnOnce send) (λ sender. sender) H.goes T.listed T.went most shape events handlers ran) → (h : ℕ) (start : H) → get_elem? (T.listed handlers) h ≡ some start → (after : H) × (end : ReceiverEnd E) × (get_elem? (T.listed ran.handlers) h ≡ some after) × (get_elem? ran.settled.receivers.value.items h ≡ some end) × (receiver_place end ≡ (is.given.ring, shape is.strip, h)) × WentThrough H.goes most start after (received_of end).events }
+    // The handler at a place of the graph came back at it, and went through just what the receiver of that place took: its
+    // worker polled that receiver, which was new, with room for so many, and completed each batch once, before the next poll.
+    ensures serves { (send : F) (most : ℕ) (shape : Ptr → Shape) (events : List E) (handlers : T) (ran : Ran E T (Settled E) A) → (is : IsRanBy (FnOnceReturnsAtMut F.FnOnce send) (λ sender. sender) H.goes T.listed T.went most shape events handlers ran) → (h : ℕ) (start : H) → get_elem? (T.listed handlers) h ≡ some start → (after : H) × (end : ReceiverEnd E) × (get_elem? (T.listed ran.handlers) h ≡ some after) × (get_elem? ran.settled.receivers.value.items h ≡ some end) × (receiver_place end ≡ (is.given.ring, shape is.strip, h)) × ((went : WentThrough H.goes most start after (received_of end).events) × TakesInTurn does_in_place most went.batches (at_ring is.given.ring (fresh_receiver (shape is.strip) h)) end) }
     // All went through what the closure left published.
     ensures goes { (send : F) (most : ℕ) (shape : Ptr → Shape) (events : List E) (handlers : T) (ran : Ran E T (Settled E) A) → (is : IsRanBy (FnOnceReturnsAtMut F.FnOnce send) (λ sender. sender) H.goes T.listed T.went most shape events handlers ran) → T.went most (events_of is.back.knows.published) handlers ran.handlers }
 {}
@@ -69,8 +73,8 @@ pub fn what_a_settled_run_says<
 pub fn what_a_handler_went_through_says<E, H: InPlaceHandler<E>>()
     // It was shown batches of these events, each event once, in sequence order from 0 on.
     ensures goes { (most : ℕ) (start after : H) (events : List E) → (is : WentThrough H.goes most start after events) → GoesThrough H.goes start (shown_of is.batches) after × FollowFrom 0 is.batches × (dealt_events is.batches ≡ events) }
-    // No batch is longer than the way says, and each ends with a mark but where it is as long as that and more events come.
-    ensures batches { (most : ℕ) (start after : H) (events : List E) → (is : WentThrough H.goes most start after events) → All (λ batch. (length batch.events ≤ most) × ((batch.end ≡ true) ⊎ ((length batch.events ≡ most) × (batch.first + most + 1 ≤ length events)))) is.batches }
+    // Each batch has all that was offered to its poll, but at most as many as the way says, and its last event is marked if and only if no more was offered. No poll was offered more than these events.
+    ensures batches { (most : ℕ) (start after : H) (events : List E) → (is : WentThrough H.goes most start after events) → All (λ batch. (offered : ℕ) × (offered ≤ length events) × (length batch.events ≡ min (offered - batch.first) most) × (IsTrue batch.end ↔ (batch.first + length batch.events ≡ offered))) is.batches }
 {}
 
 /// What a run's contract says of handlers in a list, in a pair and in a triple: which is at which place, and that each

@@ -17,6 +17,11 @@ pub data OutletCall (E : Type 0) : Type 0 where
   PollsInto : List E → List E → Result Polled Trouble → OutletCall E
   CompletesBelow : ℕ → Result (Unit {0}) Trouble → OutletCall E
 
+-- a call of a handler's end that shows events where they lie: a poll with room for so many, with its answer, or a completion
+pub data InPlaceCall : Type 0 where
+  Polls : ℕ → Polled → InPlaceCall
+  CompletesUpTo : ℕ → InPlaceCall
+
 -- calls, made one after another, lead from an end before to the end after
 abbrev pub CallsLead : {S C : Type 0} → (S → C → S → Type 0) → S → List C → S → Type 0
 CallsLead does old [] new = new ≡ old

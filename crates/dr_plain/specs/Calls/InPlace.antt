@@ -1,13 +1,17 @@
 -- What the ends of a ring over plain memory with one sender are as ends in place.
-use Rattle.std.specs.Prelude.{◌≡◌, ℕ, ◌≤◌, ◌⊎◌, length, Err}
+use Rattle.std.specs.Prelude.{◌≡◌, ℕ, ◌≤◌, ◌⊎◌, List, length, max, Err, Ok}
 use mathlib.Core.Option.{some}
 use lib.ListN.{get_elem?}
+use Rattle.dr_graph.specs.Meaning.Graph.{least_of, upstreams_of}
+use Rattle.dr_meaning.specs.Calls.Calling.{CompletesUpTo, InPlaceCall, Polls}
 use Rattle.dr_meaning.specs.Calls.Ends.{Sent}
 use Rattle.dr_runs.specs.declared.look.Look.{Look}
+use Rattle.dr_runs.specs.LastLooks.{found_last}
 use Rattle.dr_runs.specs.Words.{count_word, cursor_word}
 use Rattle.dr_plain.specs.declared.record.ReceiverRecord.{ReceiverRecord}
-use Rattle.dr_plain.specs.Calls.Ends.{SenderEnd, sent_of}
-use Rattle.dr_plain.specs.Calls.Sending.{ClaimCall}
+use Rattle.dr_plain.specs.Calls.Ends.{ReceiverEnd, SenderEnd, sent_of}
+use Rattle.dr_plain.specs.Calls.Receiving.{CompleteCall, PollCall}
+use Rattle.dr_plain.specs.Calls.Sending.{ClaimCall, PublishCall}
 use Rattle.dr_meaning.specs.declared.claim_fault.ClaimFault.{ClaimFault}
 use Rattle.dr_meaning.specs.declared.claim_fault.ClaimFault.TheVariants.{Contended, Refused}
 use Rattle.dr_meaning.specs.Calls.InPlaceInlets.{Sending}
@@ -23,6 +27,22 @@ sending_of e = sending_from (sent_of e)
 abbrev pub RefusesClaim : {T : Type 0} → SenderEnd T → ℕ → ClaimFault → SenderEnd T → Type 0
 RefusesClaim e n (Refused refusal) e' = ClaimCall e n e' (Err refusal)
 RefusesClaim e n Contended e' = ⊥
+
+-- a publication tells all that the ring's own does: it changes nothing else, and neither halts nor closes the ring
+abbrev pub StoresStretch : {T : Type 0} → SenderEnd T → ℕ → ℕ → SenderEnd T → Type 0
+StoresStretch e lo hi e' = PublishCall e lo hi e' (Ok tt)
+
+-- and so does each call of a receiver
+abbrev pub does_in_place : {T : Type 0} → ReceiverEnd T → InPlaceCall → ReceiverEnd T → Type 0
+does_in_place e (Polls room answer) e' = PollCall e room e' (Ok answer)
+does_in_place e (CompletesUpTo upto) e' = CompleteCall e upto e' (Ok tt)
+
+-- how many events a receiver with so many upstreams found offered at its last looks: the least of their counts or, without upstreams, the cursor
+abbrev pub offered_in : ℕ → List Look → ℕ
+offered_in upstreams looks = least_of (found_last (max 1 upstreams) looks)
+
+abbrev pub offered_of : {T : Type 0} → ReceiverEnd T → ℕ
+offered_of e = offered_in (length (upstreams_of e.knows.plan.upstreams e.knows.number)) e.knows.looks
 
 -- one of a receiver's looks found that at least so many events are published, or completed by a handler
 pub record SawPublished {T : Type 0} (r : ReceiverRecord T) (n : ℕ) : Type 0 where

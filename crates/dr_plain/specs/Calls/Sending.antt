@@ -1,12 +1,13 @@
 -- What each call of the sender answers, and what it leaves of what the sender knows.
-use Rattle.std.specs.Prelude.{◌≡◌, ℕ, ◌+◌, ◌%◌, ◌^◌, ◌<◌, ◌≤◌, ◌⊎◌, List, [], ◌∷◌, ◌++◌, length, drop, slice_index, slice_index_or}
-use Rattle.std.specs.Prelude.{slice_set, Option, None, Some, Result, Ok, Err}
+use Rattle.std.specs.Prelude.{◌≡◌, ℕ, ◌+◌, ◌-◌, ◌%◌, ◌^◌, ◌<◌, ◌≤◌, ◌⊎◌, false, min, List, [], ◌∷◌, ◌++◌, length, map, drop, slice_index, slice_index_or}
+use Rattle.std.specs.Prelude.{slice_set, Option, None, Some, is_none, Result, Ok, Err}
+use Rattle.std.specs.List.{range_with_len}
 use Rattle.dr_seq.specs.Size.{IsSize}
 use Rattle.dr_meaning.specs.declared.refusal.Refusal.{Refusal}
 use Rattle.dr_meaning.specs.declared.refusal.Refusal.TheVariants.{NoRoom, Halted, BadCount, Exhausted, OpenClaim}
 use Rattle.dr_meaning.specs.declared.command.Claimed.{Claimed}
 use Rattle.dr_meaning.specs.Meaning.Refusals.{claim_causes}
-use Rattle.dr_meaning.specs.Calls.Ends.{IsAnswerOf, GivesStretch, WriteAnswers, PublishAnswers, Claims, Writes, Publishes, as_end}
+use Rattle.dr_meaning.specs.Calls.Ends.{Sent, IsAnswerOf, GivesStretch, WriteAnswers, PublishAnswers, Claims, Writes, Publishes, as_end, claimed_in, open_event}
 use Rattle.dr_graph.specs.Meaning.Graph.{finals}
 use Rattle.dr_runs.specs.Words.{halt_word}
 use Rattle.dr_runs.specs.declared.look.Look.{Look}
@@ -117,6 +118,21 @@ module _ {T : Type 0} where
   UpdateCall Changes e s e' (Ok done) =
       (was : T) × (now : T) × (slice_index_or e.cells (s % length e.cells) None ≡ Some was) × Changes was now × WriteCall e s now e' (Ok done)
   UpdateCall Changes e s e' (Err refusal) = WriteAnswers (Some (sent_of e)) s (as_end (Err refusal)) × (e' ≡ e)
+
+  -- what lies in the cells of n sequences from s on
+  abbrev pub lying_from : List (Option T) → ℕ → ℕ → List (Option T)
+  lying_from cells s n = map (λ q. slice_index_or cells (q % length cells) None) (range_with_len s n)
+
+  -- a sender, where what lies in the cell of each open sequence below upto is written
+  abbrev pub with_lying : SenderEnd T → ℕ → SenderEnd T
+  with_lying e upto =
+      let front : ℕ = length e.knows.published in let n : ℕ = min (upto - front) e.knows.pending in
+      record e { writes = lying_from e.cells front n ++ drop n e.writes }
+
+  -- each open sequence below upto is written
+  abbrev pub AreWrittenBelow : SenderEnd T → ℕ → Type 0
+  AreWrittenBelow e upto =
+      let x : Sent T = sent_of e in (s : ℕ) → length x.published ≤ s → s < upto → s < claimed_in x → is_none (open_event x s) ≡ false
 
   -- a publication stores the events that it publishes
   abbrev pub PublishCall : SenderEnd T → ℕ → ℕ → SenderEnd T → Result (Unit {0}) Refusal → Type 0

@@ -23,13 +23,13 @@ use Rattle.dr_plain.specs.declared.record.Step.{Step}
 use Rattle.dr_plain.specs.Meaning.Shape.{Shape, handlers_of}
 use Rattle.dr_plain.specs.Meaning.Words.{words_of, slots_of}
 use Rattle.dr_plain.specs.Meaning.Records.{claimed, laid, sender_looked, halt_looked, published_more, sender_halted, sender_closed, closed_looked}
-use Rattle.dr_plain.specs.Meaning.Records.{receiver_looked, taken_at, cursor_looked, completed_to, halter_halted}
+use Rattle.dr_plain.specs.Meaning.Records.{receiver_looked, taken_at, cursor_looked, completed_to, halter_halted, halter_looked}
 use Rattle.dr_plain.specs.Meaning.Rule.{World}
 use Rattle.dr_plain.specs.Meaning.Lying.{placed, Lies}
 use Rattle.dr_plain.specs.Meaning.Steps.{Happens}
 use Rattle.dr_plain.specs.Meaning.Stores.{is_store_of}
 use Rattle.dr_plain.specs.Meaning.Moments.{fresh_sender, fresh_receivers, fresh_halter, fresh_receiver, new_world, entries_of}
-use Rattle.dr_plain.specs.Calls.Finds.{FindsCompleted, FindsHalt, FindsClosed, FindsEvents}
+use Rattle.dr_plain.specs.Calls.Finds.{FindsMore, FindsCompleted, FindsHalt, FindsClosed, FindsEvents}
 
 -- what is known of a seat's ends, with the slots that it has in hand, and a seat: with it, the run as it was at each end's last step
 abbrev pub End : Type 0 → Type 0
@@ -206,3 +206,6 @@ module _ {T : Type 0} where
 
   abbrev pub HalterHalted : Tells T
   HalterHalted s me n me' = me' ≡ as_halter (halter_halted (halter_of me.0))
+
+  abbrev pub HalterLooked : Tells T
+  HalterLooked s me n me' = let r : HalterRecord T = halter_of me.0 in (me' ≡ as_halter (halter_looked r s.word n)) × FindsMore r.looks s.word n

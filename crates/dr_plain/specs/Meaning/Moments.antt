@@ -21,7 +21,7 @@ use Rattle.dr_plain.specs.Meaning.Rule.{World}
 use Rattle.dr_plain.specs.declared.record.Step.{Step}
 use Rattle.dr_plain.specs.declared.record.Step.TheVariants.{SenderLooksAtCount, SenderLooksAtHalt, SenderPublishes, SenderHalts, SenderCloses}
 use Rattle.dr_plain.specs.declared.record.Step.TheVariants.{ReceiverLooksAtClosed, ReceiverLooksAtCursor, ReceiverLooksAtCount, ReceiverCompletes}
-use Rattle.dr_plain.specs.declared.record.Step.TheVariants.{HalterHalts}
+use Rattle.dr_plain.specs.declared.record.Step.TheVariants.{HalterHalts, HalterLooks}
 use Rattle.dr_plain.specs.Meaning.Steps.{Happens, next_of}
 use Rattle.dr_runs.specs.Entries.{entry, told_drained}
 
@@ -39,7 +39,7 @@ module _ {T : Type 0} where
   fresh_receivers k h (suc n) = fresh_receiver k h ∷ fresh_receivers k (suc h) n
 
   abbrev pub fresh_halter : Shape → HalterRecord T
-  fresh_halter k = record { plan = k; halted = false }
+  fresh_halter k = record { plan = k; halted = false; looks = [] }
 
   -- a new ring: each word is 0
   abbrev pub new_world : Shape → World T
@@ -96,6 +96,7 @@ module _ {T : Type 0} where
   entries_of k (ReceiverLooksAtCount h u room) w = batch_at k w h (count_word u) room
   entries_of k (ReceiverCompletes h n) w = entry (Complete h n) Completed []
   entries_of k HalterHalts w = entry Halt Halting []
+  entries_of k (HalterLooks word) w = []
 
   -- a list of steps, with the entries of their events
   abbrev pub Runs : Shape → List (Step T) → Transcript T → World T → World T → Type 0

@@ -77,6 +77,10 @@ module _ {T : Type 0} where
   abbrev pub halter_halted : HalterRecord T → HalterRecord T
   halter_halted r = record r { halted = true }
 
+  -- it has looked at a word
+  abbrev pub halter_looked : HalterRecord T → ℕ → ℕ → HalterRecord T
+  halter_looked r word found = record r { looks = r.looks ++ look word found ∷ [] }
+
   -- the sender has room for n more, as far as it saw: within the limit, and no slot is used again that some final handler has not completed
   pub record SeesRoom (k : Shape) (r : SenderRecord T) (n : ℕ) : Type 0 where
     pub limit : claimed r + n ≤ k.limit

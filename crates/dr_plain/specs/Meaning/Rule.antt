@@ -60,3 +60,4 @@ pub record KeepsRule {T : Type 0} (k : Shape) (w : World T) : Type 0 where
   pub room : Room k w.words (claimed w.sender)
   pub flags : HaltAndClose w.words w.sender.pending w.sender.halted w.sender.closed w.halter.halted
   pub looks : ArePast k w.words w.sender.looks
+  pub watched : ArePast k w.words w.halter.looks

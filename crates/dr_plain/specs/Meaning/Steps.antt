@@ -5,15 +5,16 @@ use lib.ListN.{get_elem?}
 use Rattle.dr_graph.specs.Meaning.Graph.{upstreams_of, finals}
 use Rattle.dr_lent.specs.declared.lent.Lent.{Lent}
 use Rattle.dr_plain.specs.Meaning.Shape.{Shape}
+use Rattle.dr_plain.specs.Meaning.Words.{words_of}
 use Rattle.dr_runs.specs.Words.{cursor_word, closed_word, halt_word, count_word}
 use Rattle.dr_plain.specs.declared.record.Step.{Step}
 use Rattle.dr_plain.specs.declared.record.Step.TheVariants.{SenderLooksAtCount, SenderLooksAtHalt, SenderPublishes, SenderHalts, SenderCloses}
 use Rattle.dr_plain.specs.declared.record.Step.TheVariants.{ReceiverLooksAtClosed, ReceiverLooksAtCursor, ReceiverLooksAtCount, ReceiverCompletes}
-use Rattle.dr_plain.specs.declared.record.Step.TheVariants.{HalterHalts}
+use Rattle.dr_plain.specs.declared.record.Step.TheVariants.{HalterHalts, HalterLooks}
 use Rattle.dr_plain.specs.declared.record.SenderRecord.{SenderRecord}
 use Rattle.dr_plain.specs.declared.record.ReceiverRecord.{ReceiverRecord}
 use Rattle.dr_plain.specs.Meaning.Records.{events_of, sender_looked, halt_looked, published_more, sender_halted, sender_closed, closed_looked}
-use Rattle.dr_plain.specs.Meaning.Records.{receiver_looked, taken_at, cursor_looked, completed_to, halter_halted, SeesRoom}
+use Rattle.dr_plain.specs.Meaning.Records.{receiver_looked, taken_at, cursor_looked, completed_to, halter_halted, halter_looked, SeesRoom}
 use Rattle.dr_plain.specs.Meaning.Rule.{World}
 
 module _ {T : Type 0} where
@@ -62,3 +63,5 @@ module _ {T : Type 0} where
   Happens k (ReceiverCompletes h n) w w' =
       ByReceiver w h (λ r. (r.completed ≤ n) × (n ≤ length r.received) × (w' ≡ receiver_stores w h (completed_to r n) (count_word h) n))
   Happens k HalterHalts w w' = w' ≡ record w { words = slice_set w.words halt_word 1; halter = halter_halted w.halter }
+  Happens k (HalterLooks word) w w' =
+      (word < words_of k) × (w' ≡ record w { halter = halter_looked w.halter word (slice_index w.words word) })

@@ -1,22 +1,28 @@
-//! An end that halts a ring from any thread. Its one call is its one step.
+//! An end that halts a ring from any thread, and tells how far the ring came. Each of these calls is
+//! one step.
 
-ghost use Rattle.dr_plain.specs.Meaning.Records.{halter_halted};
+ghost use Rattle.dr_plain.specs.Meaning.Records.{halter_halted, halter_looked};
+ghost use Rattle.dr_plain.specs.Meaning.Shape.{handlers_of};
+ghost use Rattle.dr_plain.specs.Meaning.Words.{words_of};
+ghost use Rattle.dr_runs.specs.Words.{cursor_word, count_word as count_word_of};
+ghost use Rattle.dr_plain.specs.Calls.Finds.{FindsMore};
 ghost use Rattle.dr_plain.specs.declared.record.Step.TheVariants.{HalterHalts};
 ghost use Rattle.std.specs.Arc.{arc_value};
-ghost use Rattle.std.specs.Prelude.{◌≡◌};
-ghost use Rattle.dr_plain.specs.Calls.Ends.{HasStored};
+ghost use Rattle.std.specs.Prelude.{◌≡◌, ◌<◌, ◌≤◌};
+ghost use Rattle.dr_plain.specs.Calls.Ends.{HasLoaded, HasStored};
 ghost use Rattle.dr_plain.specs.Inside.Leaving.{BelongsHalter};
 
 use super::RingSeat;
-use super::plays::Halt;
+use super::plays::{Halt, LookAround};
 use crate::body::RingBody;
 use crate::left::HalterLeft;
-use dr_runs::HALT_WORD;
+use dr_runs::{CURSOR_WORD, HALT_WORD, count_word};
 use std::alloc::Global;
 use std::marker::Model;
 use std::sync::Arc;
 
-/// An end that halts the ring: its sender claims no more from then on.
+/// An end that halts the ring: its sender claims no more from then on. It also tells at any time how
+/// far the sender and each handler came, and so who is behind. No call waits or takes memory.
 pub struct Halter<T> {
     pub(crate) ring: Arc<RingBody<T>, Global>,
     pub(crate) seat: RingSeat<T>,
@@ -43,6 +49,46 @@ impl<T> Halter<T> {
     {
         let words = &self.ring.table.shared;
         words.store::<Halt>(&mut self.seat, HALT_WORD, 1);
+    }
+
+    // The halter looks at a word.
+    fn look(&mut self, word: usize) -> u64
+        requires { word < words_of self.old.knows.plan }
+        ensures step { HasLoaded self.old (halter_looked self.old.knows word result) self.old.hand self.new }
+        ensures finds { FindsMore self.old.knows.looks word result }
+    {
+        let words = &self.ring.table.shared;
+        words.load::<LookAround>(&mut self.seat, word)
+    }
+
+    /// How many handlers the ring has.
+    pub fn handlers(&self) -> usize
+        ensures count { result ≡ handlers_of self.now.knows.plan }
+        ensures few { result ≤ 16 }
+    {
+        self.ring.plan.handlers()
+    }
+
+    /// How many events the sender has published, by one look at the cursor.
+    pub fn published(&mut self) -> u64
+        // It is what the cursor held at a moment of the call, and nothing else changes.
+        ensures step { HasLoaded self.old (halter_looked self.old.knows cursor_word result) self.old.hand self.new }
+        // It never falls.
+        ensures finds { FindsMore self.old.knows.looks cursor_word result }
+    {
+        self.look(CURSOR_WORD)
+    }
+
+    /// How many events a handler has completed, by one look at its count.
+    pub fn completed(&mut self, handler: usize) -> u64
+        requires { handler < handlers_of self.old.knows.plan }
+        // It is what the handler's count held at a moment of the call, and nothing else changes.
+        ensures step { HasLoaded self.old (halter_looked self.old.knows (count_word_of handler) result) self.old.hand self.new }
+        // It never falls.
+        ensures finds { FindsMore self.old.knows.looks (count_word_of handler) result }
+    {
+        let _few = self.handlers();
+        self.look(count_word(handler))
     }
 
     // All that it has, and the ring.

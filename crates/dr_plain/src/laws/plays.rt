@@ -1,6 +1,6 @@
 //! What each kind of step tells. These types are for the proofs alone.
 
-ghost use Rattle.dr_plain.specs.Inside.Seats.{Loads, Stores, SenderLookedAtCount, SenderLookedAtHalt, SenderPublished, SenderHalted, SenderClosed, ReceiverLookedAtClosed, ReceiverLookedAtCursor, ReceiverLookedAtCount, ReceiverCompleted, HalterHalted, receiver_of};
+ghost use Rattle.dr_plain.specs.Inside.Seats.{Loads, Stores, SenderLookedAtCount, SenderLookedAtHalt, SenderPublished, SenderHalted, SenderClosed, ReceiverLookedAtClosed, ReceiverLookedAtCursor, ReceiverLookedAtCount, ReceiverCompleted, HalterHalted, HalterLooked, receiver_of};
 ghost use Rattle.dr_plain.specs.Meaning.Records.{events_of};
 ghost use Rattle.dr_plain.specs.declared.record.Step.TheVariants.{SenderPublishes, SenderHalts, SenderCloses, ReceiverCompletes, HalterHalts};
 
@@ -76,4 +76,10 @@ pub struct Halt;
 
 impl<T> Play<Token<T>, View<T>> for Halt {
     ghost then = { Stores (λ _ _. HalterHalts) HalterHalted };
+}
+
+pub struct LookAround;
+
+impl<T> Play<Token<T>, View<T>> for LookAround {
+    ghost then = { Loads HalterLooked };
 }

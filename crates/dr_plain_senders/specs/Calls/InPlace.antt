@@ -1,7 +1,10 @@
 -- What the ends of a ring over plain memory with several senders are as ends in place.
-use Rattle.std.specs.Prelude.{◌≡◌, ℕ, suc, ◌+◌, ◌^◌, ◌≤◌, ◌++◌, Contains, ◌==◌, ◌&&◌, not, nat_le, nat_lt, max, if◌then◌else◌, Bool, true, List, [], ◌∷◌, length, Option, None, Err}
+use Rattle.std.specs.Prelude.{◌≡◌, ℕ, suc, ◌+◌, ◌^◌, ◌≤◌, ◌++◌, Contains, ◌==◌, ◌&&◌, not, nat_le, nat_lt, max, if◌then◌else◌, Bool, true, List, [], ◌∷◌, length, Option, None, Err, Ok}
 use Rattle.std.specs.List.{filter_map}
+use Rattle.dr_graph.specs.Meaning.Graph.{least_of}
+use Rattle.dr_meaning.specs.Calls.Calling.{CompletesUpTo, InPlaceCall, Polls}
 use Rattle.dr_runs.specs.declared.look.Look.{Look}
+use Rattle.dr_runs.specs.LastLooks.{found_last}
 use Rattle.dr_plain_senders.specs.declared.record.MarkLook.{MarkLook}
 use Rattle.dr_plain_senders.specs.declared.record.Own.{Own}
 use Rattle.dr_plain_senders.specs.declared.record.ReceiverRecord.{ReceiverRecord}
@@ -10,7 +13,8 @@ use Rattle.dr_plain_senders.specs.Meaning.Records.{is_published}
 use Rattle.dr_plain_senders.specs.Meaning.Shape.{Shape}
 use Rattle.dr_plain_senders.specs.Meaning.Words.{count_word, marked_from}
 use Rattle.dr_plain_senders.specs.Calls.Ends.{ReceiverEnd, SenderEnd}
-use Rattle.dr_plain_senders.specs.Calls.Receiving.{ups_of}
+use Rattle.dr_plain_senders.specs.Calls.Publishing.{PublishCall}
+use Rattle.dr_plain_senders.specs.Calls.Receiving.{CompleteCall, PollCall, ups_of}
 use Rattle.dr_plain_senders.specs.Calls.Sending.{SenderClaimCall}
 use Rattle.dr_meaning.specs.declared.claim_fault.ClaimFault.{ClaimFault}
 use Rattle.dr_meaning.specs.Calls.InPlaceInlets.{Sending}
@@ -58,6 +62,29 @@ module _ {T : Type 0} where
   -- a refused claim tells all that the ring's own does
   abbrev pub RefusesClaim : SenderEnd T → ℕ → ClaimFault → SenderEnd T → Type 0
   RefusesClaim e n fault e' = SenderClaimCall e n e' (Err fault)
+
+  -- a publication tells all that the ring's own does: it changes nothing else, and does not halt the ring
+  abbrev pub StoresStretch : SenderEnd T → ℕ → ℕ → SenderEnd T → Type 0
+  StoresStretch e lo hi e' = PublishCall e lo hi e' (Ok tt)
+
+  -- and so does each call of a receiver
+  abbrev pub does_in_place : ReceiverEnd T → InPlaceCall → ReceiverEnd T → Type 0
+  does_in_place e (Polls room answer) e' = PollCall e room e' (Ok answer)
+  does_in_place e (CompletesUpTo upto) e' = CompleteCall e upto e' (Ok tt)
+
+  -- up to where the marks are there that the last of some looks found
+  abbrev pub marks_upto : Shape T → List MarkLook → ℕ
+  marks_upto k [] = 0
+  marks_upto k (x ∷ []) = x.sequence + marked_from k x.sequence x.found
+  marks_upto k (x ∷ y ∷ marks) = marks_upto k (y ∷ marks)
+
+  -- how many events a receiver found offered when it last took some: without upstreams up to the last marks that it found, and else the least of its upstreams' counts
+  abbrev pub offered_in : Shape T → List ℕ → List MarkLook → List Look → ℕ
+  offered_in k [] marks looks = marks_upto k marks
+  offered_in k (u ∷ ups) marks looks = least_of (found_last (length (u ∷ ups)) looks)
+
+  abbrev pub offered_of : ReceiverEnd T → ℕ
+  offered_of e = offered_in e.plan (ups_of e.plan e.knows) e.knows.marks e.knows.looks
 
   -- a look that found the marks of some sequences, each of which is one of the first n
   abbrev pub IsWithin : Shape T → ℕ → MarkLook → Type 0

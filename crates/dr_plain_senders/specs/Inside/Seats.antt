@@ -13,8 +13,9 @@ use Rattle.dr_runs.specs.Seats.{holding, fresh_view}
 use Rattle.dr_runs.specs.Stretches.{stretch, rows}
 use Rattle.dr_lent.specs.declared.lent.Lent.{Lent}
 use Rattle.dr_lent.specs.Over as over
+use Rattle.dr_runs.specs.Looks.{last_look}
 use Rattle.dr_plain_senders.specs.Meaning.Shape.{Shape, IsShape, handlers_of}
-use Rattle.dr_plain_senders.specs.Meaning.Words.{claim_word, halted_from, words_of, lanes_of, lane_of, slots_of}
+use Rattle.dr_plain_senders.specs.Meaning.Words.{claim_word, claimed_in, halted_from, words_of, lanes_of, lane_of, slots_of}
 use Rattle.dr_plain_senders.specs.declared.record.Stage.{Stage}
 use Rattle.dr_plain_senders.specs.declared.record.SenderRecord.{SenderRecord}
 use Rattle.dr_plain_senders.specs.declared.record.ReceiverRecord.{ReceiverRecord}
@@ -23,7 +24,7 @@ use Rattle.dr_plain_senders.specs.declared.record.EndRecord.{EndRecord}
 use Rattle.dr_plain_senders.specs.declared.record.EndRecord.TheVariants.{Sends, Receives, Halts}
 use Rattle.dr_plain_senders.specs.declared.record.Step.{Step}
 use Rattle.dr_plain_senders.specs.Meaning.Records.{Owns, has_published, sender_looked, mark_found, claims_looked, taken_at_mark, mark_looked}
-use Rattle.dr_plain_senders.specs.Meaning.Records.{taken_at_count, receiver_looked, completed_to, halter_halted}
+use Rattle.dr_plain_senders.specs.Meaning.Records.{taken_at_count, receiver_looked, completed_to, halter_halted, halter_looked}
 use Rattle.dr_plain_senders.specs.Meaning.Rule.{World}
 use Rattle.dr_plain_senders.specs.Meaning.Lying.{Laid, unlent, lent, placed, Lies}
 use Rattle.dr_plain_senders.specs.Meaning.Steps.{Happens}
@@ -226,3 +227,10 @@ module _ {T : Type 0} where
 
   abbrev pub HalterHalted : Tells T
   HalterHalted s me n me' = me' ≡ as_halter (halter_halted (halter_of me.0) n)
+
+  -- where it looks at the claim word, no claim is taken back
+  abbrev pub HalterLooked : Tells T
+  HalterLooked s me n me' =
+      let r : HalterRecord = halter_of me.0 in
+      (me' ≡ as_halter (halter_looked r s.word n)) × FindsMore r.looks s.word n
+      × (s.word ≡ claim_word → claimed_in (last_look 0 r.looks claim_word) ≤ claimed_in n)

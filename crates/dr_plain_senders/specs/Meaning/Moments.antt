@@ -22,7 +22,7 @@ use Rattle.dr_plain_senders.specs.declared.record.Step.{Step}
 use Rattle.dr_plain_senders.specs.declared.record.Step.TheVariants.{SenderLooksAtClaims, SenderLooksAtCount, SenderClaims, SenderPublishes}
 use Rattle.dr_plain_senders.specs.declared.record.Step.TheVariants.{SenderLooksAtMark, SenderHalts}
 use Rattle.dr_plain_senders.specs.declared.record.Step.TheVariants.{ReceiverLooksAtClaims, ReceiverLooksAtMark, ReceiverLooksAtCount}
-use Rattle.dr_plain_senders.specs.declared.record.Step.TheVariants.{ReceiverCompletes, HalterHalts}
+use Rattle.dr_plain_senders.specs.declared.record.Step.TheVariants.{ReceiverCompletes, HalterHalts, HalterLooks}
 use Rattle.dr_plain_senders.specs.Meaning.Records.{fresh_stage, is_published, tells_drained, taken_at_mark, taken_at_count}
 use Rattle.dr_plain_senders.specs.Meaning.Rule.{World, is_out_now}
 use Rattle.dr_plain_senders.specs.Meaning.Steps.{Happens}
@@ -117,6 +117,7 @@ module _ {T : Type 0} where
       let r : ReceiverRecord T = receiver_at w h in batch_of k w h r (taken_at_count k r (count_word u) (slice_index w.words (count_word u)) room)
   entries_of k (ReceiverCompletes h n) w = entry (Complete h n) Completed []
   entries_of k HalterHalts w = entry Halt Halting []
+  entries_of k (HalterLooks word) w = []
 
   -- a list of steps, with the entries of their events
   abbrev pub Runs : Shape T → List (Step T) → Transcript T → World T → World T → Type 0

@@ -23,6 +23,10 @@ barrier_seen k h looks = offered_by 0 (map (λ u. last_look 0 looks (count_word 
 abbrev pub halter_halted : HalterRecord → ℕ → HalterRecord
 halter_halted r found = record r { looks = r.looks ++ look claim_word (halted_from found) ∷ [] }
 
+-- the halter has looked at a word
+abbrev pub halter_looked : HalterRecord → ℕ → ℕ → HalterRecord
+halter_looked r word found = record r { looks = r.looks ++ look word found ∷ [] }
+
 -- a look at the mark of a sequence, which found this in its word, after these looks at other words
 abbrev pub mark_look : List Look → ℕ → ℕ → MarkLook
 mark_look looks s found = record { sequence = s; found = found; after = length looks }

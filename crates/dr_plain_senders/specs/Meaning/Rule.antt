@@ -86,3 +86,5 @@ module _ {T : Type 0} where
     pub sent : (p : ℕ) (r : SenderRecord T) → get_elem? w.senders p ≡ some r → SenderKept k w.words w.stages p r
     pub received : (h : ℕ) (r : ReceiverRecord T) → get_elem? w.receivers h ≡ some r → ReceiverKept k w.words w.stages h r
     pub halter : ArePast k w.words w.halter.looks
+    -- so many sequences are claimed at least
+    pub halter_claims : claimed_in (last_look 0 w.halter.looks claim_word) ≤ length w.stages

@@ -5,18 +5,18 @@ use lib.ListN.{get_elem?}
 use Rattle.dr_graph.specs.Meaning.Graph.{upstreams_of, finals}
 use Rattle.dr_lent.specs.declared.lent.Lent.{Lent}
 use Rattle.dr_plain_senders.specs.Meaning.Shape.{Shape}
-use Rattle.dr_plain_senders.specs.Meaning.Words.{claim_word, halted_from, count_word, mark_word, mark_bit, in_word, flipped}
+use Rattle.dr_plain_senders.specs.Meaning.Words.{claim_word, halted_from, count_word, mark_start, mark_word, mark_bit, in_word, flipped}
 use Rattle.dr_plain_senders.specs.declared.record.Stage.{Stage}
 use Rattle.dr_plain_senders.specs.declared.record.Step.{Step}
 use Rattle.dr_plain_senders.specs.declared.record.Step.TheVariants.{SenderLooksAtClaims, SenderLooksAtCount, SenderClaims, SenderPublishes}
 use Rattle.dr_plain_senders.specs.declared.record.Step.TheVariants.{SenderLooksAtMark, SenderHalts}
 use Rattle.dr_plain_senders.specs.declared.record.Step.TheVariants.{ReceiverLooksAtClaims, ReceiverLooksAtMark, ReceiverLooksAtCount}
-use Rattle.dr_plain_senders.specs.declared.record.Step.TheVariants.{ReceiverCompletes, HalterHalts}
+use Rattle.dr_plain_senders.specs.declared.record.Step.TheVariants.{ReceiverCompletes, HalterHalts, HalterLooks}
 use Rattle.dr_plain_senders.specs.declared.record.SenderRecord.{SenderRecord}
 use Rattle.dr_plain_senders.specs.declared.record.ReceiverRecord.{ReceiverRecord}
 use Rattle.dr_plain_senders.specs.Meaning.Records.{fresh_stage, published, Owns, brought, sender_looked, mark_found, claimed_from, receiver_looked}
 use Rattle.dr_plain_senders.specs.Meaning.Records.{claims_looked}
-use Rattle.dr_plain_senders.specs.Meaning.Records.{taken_at_mark, mark_looked, taken_at_count, completed_to, halter_halted, SeesRoom}
+use Rattle.dr_plain_senders.specs.Meaning.Records.{taken_at_mark, mark_looked, taken_at_count, completed_to, halter_halted, halter_looked, SeesRoom}
 use Rattle.dr_plain_senders.specs.Meaning.Rule.{World, IsOutWith}
 
 module _ {T : Type 0} where
@@ -108,3 +108,5 @@ module _ {T : Type 0} where
       ByReceiver w h (λ r. (r.completed ≤ n) × (n ≤ length r.received)
       × (w' ≡ record w { words = slice_set w.words (count_word h) n; receivers = slice_set w.receivers h (completed_to r n) }))
   Happens k HalterHalts w w' = w' ≡ record w { words = halted_words w; halter = halter_halted w.halter (slice_index w.words claim_word) }
+  Happens k (HalterLooks word) w w' =
+      (word < mark_start k) × (w' ≡ record w { halter = halter_looked w.halter word (slice_index w.words word) })

@@ -1,7 +1,7 @@
 -- Whose store a step of a ring is.
 use Rattle.std.specs.Prelude.{ℕ, ◌+◌, ◌*◌, ◌==◌, Bool, false, List, filter}
 use Rattle.dr_plain_senders.specs.declared.record.Step.{Step}
-use Rattle.dr_plain_senders.specs.declared.record.Step.TheVariants.{SenderClaims, SenderPublishes, SenderHalts, ReceiverCompletes, HalterHalts}
+use Rattle.dr_plain_senders.specs.declared.record.Step.TheVariants.{SenderClaims, SenderPublishes, SenderHalts, ReceiverCompletes, HalterHalts, HalterLooks}
 use Rattle.dr_plain_senders.specs.declared.record.Step.TheVariants.{SenderLooksAtClaims, SenderLooksAtCount, SenderLooksAtMark, ReceiverLooksAtClaims}
 use Rattle.dr_plain_senders.specs.declared.record.Step.TheVariants.{ReceiverLooksAtMark, ReceiverLooksAtCount}
 
@@ -27,6 +27,7 @@ module _ {T : Type 0} where
   is_store_of end (ReceiverLooksAtClaims h) = false
   is_store_of end (ReceiverLooksAtMark h room) = false
   is_store_of end (ReceiverLooksAtCount h u room) = false
+  is_store_of end (HalterLooks word) = false
 
   -- what a sender stored in a run, in order
   abbrev pub stores_of_sender : ℕ → List (Step T) → List (Step T)

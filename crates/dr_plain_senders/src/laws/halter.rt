@@ -1,27 +1,34 @@
-//! An end that halts a ring from any thread. Its one call is its one step.
+//! An end that halts a ring from any thread, and tells how far the ring came. Each of these calls is
+//! one step.
 
 ghost use Rattle.std.specs.Arc.{arc_value};
-ghost use Rattle.std.specs.Prelude.{◌≡◌, ℕ};
+ghost use Rattle.std.specs.Prelude.{◌≡◌, ◌<◌, ◌≤◌, ℕ};
 ghost use Rattle.dr_runs.specs.Seats.{end_of};
-ghost use Rattle.dr_plain_senders.specs.Meaning.Records.{halter_halted};
+ghost use Rattle.dr_runs.specs.Looks.{last_look};
+ghost use Rattle.dr_plain_senders.specs.Meaning.Shape.{handlers_of};
+ghost use Rattle.dr_plain_senders.specs.Meaning.Words.{claim_word, claimed_in as claimed_in_word, count_word as count_word_of, mark_start};
+ghost use Rattle.dr_plain_senders.specs.Meaning.Records.{halter_halted, halter_looked};
+ghost use Rattle.dr_plain_senders.specs.Calls.Finds.{FindsMore};
 ghost use Rattle.dr_plain_senders.specs.declared.record.Step.TheVariants.{HalterHalts};
-ghost use Rattle.dr_plain_senders.specs.Calls.Ends.{HasStored};
+ghost use Rattle.dr_plain_senders.specs.Calls.Ends.{HasLoaded, HasStored};
 ghost use Rattle.dr_plain_senders.specs.Inside.Leaving.{BelongsHalter};
 ghost use Rattle.dr_plain_senders.specs.Inside.Stations.{halter_stand, HalterSits};
 
 use super::RingSeat;
-use super::plays::Halt;
+use super::plays::{Halt, LookAround};
+use crate::answers::claimed_in;
 use crate::body::RingBody;
 use crate::gathered::Gathered;
 use crate::left::HalterLeft;
-use crate::plan::{CLAIM_WORD, HALT_BIT};
+use crate::plan::{CLAIM_WORD, HALT_BIT, count_word};
 use dr_cells::Strip;
 use std::alloc::Global;
 use std::marker::Model;
 use std::snapshot::Snapshot;
 use std::sync::Arc;
 
-/// An end that halts the ring: no sender claims more from then on.
+/// An end that halts the ring: no sender claims more from then on. It also tells at any time how far
+/// the senders and each handler came, and so who is behind. No call waits or takes memory.
 pub struct Halter<T> {
     pub(crate) ring: Arc<RingBody<T>, Global>,
     pub(crate) seat: RingSeat<T>,
@@ -77,6 +84,48 @@ impl<T> Halter<T> {
     {
         let words = &self.ring.table.shared;
         let _found = words.fetch_or::<Halt>(&mut self.seat, CLAIM_WORD, HALT_BIT);
+    }
+
+    // The halter looks at a word that only rises.
+    fn look(&mut self, word: usize) -> u64
+        requires { word < mark_start self.old.plan }
+        ensures step { HasLoaded self.old (halter_looked self.old.knows word result) self.old.hand self.new }
+        ensures finds { FindsMore self.old.knows.looks word result }
+        ensures claims { word ≡ claim_word → claimed_in_word (last_look 0 self.old.knows.looks claim_word) ≤ claimed_in_word result }
+    {
+        let words = &self.ring.table.shared;
+        words.load::<LookAround>(&mut self.seat, word)
+    }
+
+    /// How many handlers the ring has.
+    pub fn handlers(&self) -> usize
+        ensures count { result ≡ handlers_of self.now.plan }
+        ensures few { result ≤ 16 }
+    {
+        self.ring.plan.handlers()
+    }
+
+    /// How many sequences the senders have claimed, by one look at the claim word.
+    pub fn claimed(&mut self) -> u64
+        // It is what the claim word said at a moment of the call, and nothing else changes.
+        ensures step { (found : ℕ) × (result ≡ claimed_in_word found) × HasLoaded self.old (halter_looked self.old.knows claim_word found) self.old.hand self.new }
+        // It never falls.
+        ensures rises { claimed_in_word (last_look 0 self.old.knows.looks claim_word) ≤ result }
+    {
+        let found = self.look(CLAIM_WORD);
+        claimed_in(found)
+    }
+
+    /// How many events a handler has completed, by one look at its count.
+    pub fn completed(&mut self, handler: usize) -> u64
+        requires { handler < handlers_of self.old.plan }
+        // It is what the handler's count held at a moment of the call, and nothing else changes.
+        ensures step { HasLoaded self.old (halter_looked self.old.knows (count_word_of handler) result) self.old.hand self.new }
+        // It never falls.
+        ensures finds { FindsMore self.old.knows.looks (count_word_of handler) result }
+    {
+        let _few = self.handlers();
+        self.look(count_word(handler))
     }
 
     // All that it has, and the ring.

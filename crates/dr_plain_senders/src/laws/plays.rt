@@ -1,7 +1,7 @@
 //! What each kind of step tells. These types are for the proofs alone.
 
 ghost use Rattle.std.specs.Prelude.{◌-◌};
-ghost use Rattle.dr_plain_senders.specs.Inside.Seats.{Loads, Stores, SenderLooked, SenderLookedAtClaims, SenderClaimed, SenderPublished, SenderLookedAtMark, SenderHalted, ReceiverLookedAtClaims, ReceiverLookedAtMark, ReceiverLookedAtCount, ReceiverCompleted, HalterHalted, sender_of, receiver_of};
+ghost use Rattle.dr_plain_senders.specs.Inside.Seats.{Loads, Stores, SenderLooked, SenderLookedAtClaims, SenderClaimed, SenderPublished, SenderLookedAtMark, SenderHalted, ReceiverLookedAtClaims, ReceiverLookedAtMark, ReceiverLookedAtCount, ReceiverCompleted, HalterHalted, HalterLooked, sender_of, receiver_of};
 ghost use Rattle.dr_plain_senders.specs.Meaning.Records.{events_of};
 ghost use Rattle.dr_plain_senders.specs.declared.record.Step.TheVariants.{SenderClaims, SenderPublishes, SenderHalts, ReceiverCompletes, HalterHalts};
 
@@ -88,4 +88,10 @@ pub struct Halt;
 
 impl<T> Play<Token<T>, View<T>> for Halt {
     ghost then = { Stores (λ s me n. HalterHalts) HalterHalted };
+}
+
+pub struct LookAround;
+
+impl<T> Play<Token<T>, View<T>> for LookAround {
+    ghost then = { Loads HalterLooked };
 }

@@ -17,10 +17,6 @@ struct Digits {
 }
 
 impl InPlaceHandler<u64> for Digits {
-    ghost use Rattle.std.specs.Prelude.{⊤};
-
-    ghost goes = { λ old event s end new. ⊤ };
-
     fn on_event_in_place(&mut self, event: &u64, s: u64, end: bool) {
         self.shown = self.shown.wrapping_mul(10).wrapping_add(*event);
         if end {

@@ -171,7 +171,21 @@ public final class RingTest {
         });
         expect(failed.handler(), "first");
         expect(failed.getCause().getMessage(), "too large");
+        // (the refusal says which one)
+        expect(fault(() -> disruptor.publishEvent(RingTest::fill)), "halted");
+        expect(thrown(() -> {
+            disruptor.publishEvent(RingTest::fill);
+            return null;
+        }).getCause(), failed);
         expect(most.get() < 10, true);
+    }
+
+    private static void onceItStartedNoHandlerIsAddedAndANameIsOneOfItsOwn() {
+        Disruptor<Event> disruptor = one(4);
+        disruptor.start();
+        expect(fault(() -> disruptor.handle("b", (event, sequence, endOfBatch) -> {})), "it has started");
+        expect(fault(() -> disruptor.completed("b")), "no handler before has the name b");
+        disruptor.shutdown();
     }
 
     private static void aTranslatorThatPublishesIsRefused() throws Exception {
@@ -207,6 +221,28 @@ public final class RingTest {
         });
         expect(fault(disruptor::shutdown), "the handler fails threw");
         expect(List.of(counted[0], counted[1]), List.of(3L, 1L));
+    }
+
+    private static void whoFollowsTwoHasWhatBothCompletedUpToTheCut() {
+        long[] counted = new long[2];
+        Disruptor<Event> disruptor = new Disruptor<>(Event::new, 1024);
+        disruptor.handle("fails", (event, sequence, endOfBatch) -> {
+            if (sequence == 500) {
+                throw new IllegalStateException("the event 500");
+            }
+        });
+        // (this one is on its way while the other one fails)
+        disruptor.handle("slow", (event, sequence, endOfBatch) -> {
+            if (sequence == 100) {
+                Thread.sleep(100);
+            }
+            counted[0]++;
+        });
+        disruptor.after("fails", "slow").handle("follows", (event, sequence, endOfBatch) -> counted[1]++);
+        disruptor.start();
+        disruptor.publishEvents(800, RingTest::fill);
+        expect(fault(disruptor::shutdown), "the handler fails threw");
+        expect(List.of(counted[0], counted[1]), List.of(800L, 500L));
     }
 
     private static void namesAndGroupsMix() {
@@ -289,8 +325,10 @@ public final class RingTest {
         thoseWhoFollowOneThatGaveUpEnd();
         graphsAreRefusedByName();
         aHandlerThatThrowsHaltsTheRingAndIsNamed();
+        onceItStartedNoHandlerIsAddedAndANameIsOneOfItsOwn();
         aTranslatorThatPublishesIsRefused();
         whoFollowsOneThatFailsHasWhatItCompletedAndOthersHaveAll();
+        whoFollowsTwoHasWhatBothCompletedUpToTheCut();
         namesAndGroupsMix();
         severalSendersShareARing();
         handlersFollowOneAnotherAsInLmaxsDsl();

@@ -22,3 +22,9 @@ returns-in-Read c = ap program_status (sym c.in-Read.is)
 
 pub returns-in-Write : goal.returns-in-Write
 returns-in-Write c = ap program_status (sym c.in-Write.is)
+
+pub returns-in-Start : goal.returns-in-Start
+returns-in-Start c = c.status-in-Start.ensures ∙ ap program_status (sym c.in-Start.is)
+
+pub returns-in-Ledger : goal.returns-in-Ledger
+returns-in-Ledger c = c.status-in-Ledger.ensures ∙ ap program_status (sym c.in-Ledger.is)

@@ -15,9 +15,9 @@ loop-outlet-init g c =
       search rules,
       search rules,
       search rules,
-      subst (λ (l : List (Served g.row.O.Denot g.row.H.Denot)). AreServed g.O.InPlaceOutlet.kept g.O.InPlaceOutlet.received g.O.InPlaceOutlet.told g.O.InPlaceOutlet.saw
+      subst (λ (l : List (Served g.row.O.Denot g.row.H.Denot)). AreServed g.O.InPlaceOutlet.kept g.O.InPlaceOutlet.received g.O.InPlaceOutlet.told g.O.InPlaceOutlet.saw g.O.InPlaceOutlet.does
           g.H.InPlaceHandler.goes c.args.way.batch [] [] l) (sym none)
-          (served_none g.O.InPlaceOutlet.kept g.O.InPlaceOutlet.received g.O.InPlaceOutlet.saw g.H.InPlaceHandler.goes c.args.way.batch g.O.InPlaceOutlet.told),
+          (served_none g.O.InPlaceOutlet.kept g.O.InPlaceOutlet.received g.O.InPlaceOutlet.saw g.O.InPlaceOutlet.does g.H.InPlaceHandler.goes c.args.way.batch g.O.InPlaceOutlet.told),
       search rules,
     )
 
@@ -45,9 +45,9 @@ loop-outlet-preserved g c =
       more_ends,
       more_starts,
       still,
-      subst (λ (l : List (Served g.row.O.Denot g.row.H.Denot)). AreServed g.O.InPlaceOutlet.kept g.O.InPlaceOutlet.received g.O.InPlaceOutlet.told g.O.InPlaceOutlet.saw
+      subst (λ (l : List (Served g.row.O.Denot g.row.H.Denot)). AreServed g.O.InPlaceOutlet.kept g.O.InPlaceOutlet.received g.O.InPlaceOutlet.told g.O.InPlaceOutlet.saw g.O.InPlaceOutlet.does
           g.H.InPlaceHandler.goes c.args.way.batch (given ++ outlet ∷ []) (taken ++ handler ∷ []) l) (sym is_pushed)
-          (served_push g.O.InPlaceOutlet.kept g.O.InPlaceOutlet.received g.O.InPlaceOutlet.saw g.H.InPlaceHandler.goes c.args.way.batch g.O.InPlaceOutlet.told
+          (served_push g.O.InPlaceOutlet.kept g.O.InPlaceOutlet.received g.O.InPlaceOutlet.saw g.O.InPlaceOutlet.does g.H.InPlaceHandler.goes c.args.way.batch g.O.InPlaceOutlet.told
           given taken c.loop-outlet.served.items outlet handler c.serve.result are c.serve.ensures),
       All-rest (λ o. IsIdle (g.O.InPlaceOutlet.received o)) outlet rest c.loop-outlet.outlet-iterator.rest.items next idle,
     )

@@ -9,5 +9,5 @@ invariant-loop-outlet g l =
     (given : List g.row.O.Denot) × (taken : List g.row.H.Denot) × (given ++ l.outlet-iterator.rest.items ≡ l.fn.outlets.items)
     × (taken ++ into_iter_items l.handlers ≡ l.fn.handlers.items)
     × (length l.outlet-iterator.rest.items ≡ length (into_iter_items l.handlers))
-    × AreServed g.O.InPlaceOutlet.kept g.O.InPlaceOutlet.received g.O.InPlaceOutlet.told g.O.InPlaceOutlet.saw g.H.InPlaceHandler.goes l.way.batch given taken l.served.items
+    × AreServed g.O.InPlaceOutlet.kept g.O.InPlaceOutlet.received g.O.InPlaceOutlet.told g.O.InPlaceOutlet.saw g.O.InPlaceOutlet.does g.H.InPlaceHandler.goes l.way.batch given taken l.served.items
     × All (λ o. IsIdle (g.O.InPlaceOutlet.received o)) l.outlet-iterator.rest.items

@@ -3,6 +3,7 @@ use Rattle.std.specs.Prelude.{IfErr}
 use lib.ListN.{get_elem?}
 use Rattle.dr_plain.specs.declared.record.SenderRecord.{SenderRecord}
 use Rattle.dr_plain.specs.Calls.Ends.{HalterStand, ReceiverEnd, receiver_place, received_of}
+use Rattle.dr_plain.specs.Calls.InPlace.{does_in_place}
 use Rattle.dr_plain.specs.Calls.Settling.{AreAllEnds}
 use Rattle.dr_plain.specs.Meaning.Records.{events_of}
 use Rattle.dr_plain.specs.Meaning.Shape.{handlers_of}
@@ -114,7 +115,7 @@ returns-clause-ran g c =
       cells = ap (λ (x : HereEnd g.row.E.Denot g.row.H.Denot). x.sender.cells) new ∙ made.ensures.fresh.1.cells;
       sending = sent.ensures.gives;
       place = ap (λ (p : HerePlace g.row.E.Denot g.row.H.Denot). p.0) sent.ensures.kept;
-      serving = served_as receiver_place received_of is_told saw_by g.H.InPlaceHandler.goes c.args.way.batch back.ends fresh back.starts
+      serving = served_as receiver_place received_of is_told saw_by does_in_place g.H.InPlaceHandler.goes c.args.way.batch back.ends fresh back.starts
           (g.T.Team.listed c.args.handlers) outlets outlets wound.list.items (g.T.Team.listed c.from_list.result) (ends ∙ receivers) starts refl
           (sym c.from_list.ensures) served;
       through = g.met.T.Team.go c.args.way.batch events c.args.handlers c.from_list.result

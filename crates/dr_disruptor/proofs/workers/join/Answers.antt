@@ -16,7 +16,7 @@ returns-in-Ok g c =
           let inside : h < length served = at_below served h back at in
           let below : h < length workers = omega arith in
           let k = (c.in-Ok.ensures.each h back (omega arith)).1 in
-          let kept = subst (Serving g.O.InPlaceOutlet.kept g.O.InPlaceOutlet.received g.O.InPlaceOutlet.told g.O.InPlaceOutlet.saw g.H.InPlaceHandler.goes k.handle.promise.batch (given_handler k.handle) (given_end k.handle))
+          let kept = subst (Serving g.O.InPlaceOutlet.kept g.O.InPlaceOutlet.received g.O.InPlaceOutlet.told g.O.InPlaceOutlet.saw g.O.InPlaceOutlet.does g.H.InPlaceHandler.goes k.handle.promise.batch (given_handler k.handle) (given_end k.handle))
           (value_at served h back back at) k.kept in
           (k.handle, at_index workers h k.handle below k.handle_is, kept);
     }

@@ -1,4 +1,4 @@
-use Rattle.std.proofs.Common.{◌≡◌, ℕ, List, length, map, sym, subst, ap, ◌∙◌, arith}
+use Rattle.std.proofs.Common.{◌≡◌, ℕ, List, length, map, refl, sym, subst, ap, ◌∙◌, arith}
 use mathlib.Core.Option.{some}
 use lib.ListN.{get_elem?, length-map}
 use Rattle.dr_meaning.specs.Meaning.Laws.{Laws}
@@ -6,8 +6,10 @@ use Rattle.dr_runs.specs.declared.counts.HandlerCounts.{HandlerCounts}
 use Rattle.dr_runs.proofs.Lists.{map_there}
 use Rattle.dr_plain_senders.specs.declared.settled.Settled.{Settled}
 use Rattle.dr_plain_senders.specs.Calls.Ends.{HalterStand, ReceiverEnd, SenderEnd, receiver_place, received_of}
-use Rattle.dr_plain_senders.specs.Calls.InPlace.{SawSome}
+use Rattle.dr_plain_senders.specs.Calls.InPlace.{SawSome, does_in_place}
+use Rattle.dr_plain_senders.specs.Calls.Making.{receiver_at}
 use Rattle.dr_plain_senders.specs.Calls.Settling.{handler_counts}
+use Rattle.dr_plain_senders.specs.Meaning.Moments.{fresh_receiver}
 use Rattle.dr_plain_senders.specs.Meaning.Records.{events_of}
 use Rattle.dr_plain_senders.specs.Meaning.Settling.{published_events}
 use Rattle.dr_plain_senders.specs.Meaning.Shape.{Shape, ring_setup}
@@ -54,11 +56,9 @@ returns-clause-completes g c most k feeds handlers ran is =
 
 pub returns-clause-serves : goal.returns-clause-serves
 returns-clause-serves g c most k feeds handlers ran is =
-    shown_from_none receiver_place (λ e. received_of e.knows) (λ e. e.knows.told) SawSome g.H.InPlaceHandler.goes most (new_receivers is.ring k)
-    (g.T.Team.listed handlers) is.receivers (g.T.Team.listed ran.handlers) (λ h. (is.ring, k, h))
-    (λ h given at.
-    let new = new_at is.ring k h given at in
-    (ap receiver_place new, ap (λ (e : ReceiverEnd g.row.E.Denot). (received_of e.knows).events) new))
+    shown_from_none receiver_place (λ e. received_of e.knows) (λ e. e.knows.told) SawSome does_in_place g.H.InPlaceHandler.goes most (new_receivers is.ring k)
+    (g.T.Team.listed handlers) is.receivers (g.T.Team.listed ran.handlers) (λ h. receiver_at is.ring k (fresh_receiver h))
+    (new_at is.ring k) (λ h. refl)
     (λ h e at n saw.
     let most = is.seen h e at n saw in
     let all = completes_all ran.settled (map (λ s. s.sender) is.senders) is.receivers is.halter is.ends is.events is.order is.claimed h e at in

@@ -46,6 +46,9 @@ public final class Disruptor<T> implements AutoCloseable {
     }
 
     private Disruptor<T> add(String name, EventHandler<? super T> handler, boolean isChanging) {
+        if (ring != null) {
+            throw new IllegalStateException("it has started");
+        }
         if (handlers.stream().anyMatch(it -> it.name.equals(name))) {
             throw new IllegalArgumentException("two handlers have the name " + name);
         }
@@ -149,7 +152,10 @@ public final class Disruptor<T> implements AutoCloseable {
     }
 
     private synchronized void fail(String name, Throwable thrown) {
-        failed = failed == null ? new HandlerFailed(name, thrown) : failed;
+        if (failed == null) {
+            failed = new HandlerFailed(name, thrown);
+            ring.fail(failed);
+        }
     }
 
     private Ring<T> open(int senders) {

@@ -25,7 +25,6 @@ public final class Receiver<T> {
     private long shown;
     private long taken;
     private boolean isDrained;
-    private boolean isLastLook;
 
     /** The bit of who gives up the whole ring. */
     private static final long WHOLE = Long.MIN_VALUE;
@@ -56,11 +55,12 @@ public final class Receiver<T> {
         if (shown < taken || isDrained) {
             return false;
         }
+        // (it asks for its cut before it looks, so that it misses no event)
+        long cut = ring.cut(upstreams);
         long found = Native.poll(handle, answer, ring.size());
         Reference.reachabilityFence(this);
         long count = Answers.checkedPoll(found);
         if (count > 0) {
-            isLastLook = false;
             VarHandle.acquireFence();
             waiting.found(count);
             taken += count;
@@ -70,12 +70,10 @@ public final class Receiver<T> {
         if (isDrained) {
             return false;
         }
-        if (isLastLook) {
+        if (completed.getPlain() >= cut) {
             throw new Broken(ring);
         }
-        // (where one that it follows is gone, it looks once more for what that one completed)
-        isLastLook = ring.isGone(upstreams);
-        return isLastLook ? lacks() : true;
+        return true;
     }
 
     /** Halts the ring for this handler, which goes away before it had every event, so that nobody waits for it. */

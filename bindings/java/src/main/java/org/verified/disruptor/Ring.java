@@ -31,6 +31,8 @@ public final class Ring<T> {
     private final long halter;
     // The handlers that went away before they had every event, as bits, and one more bit for who gave up the whole ring.
     private final AtomicLong gone = new AtomicLong();
+    // What a handler of a graph failed with first.
+    private volatile HandlerFailed failed;
     private final List<Sender<T>> senders = new ArrayList<>();
     private final List<Receiver<T>> receivers = new ArrayList<>();
 
@@ -86,14 +88,32 @@ public final class Ring<T> {
         giveUp(ALL);
     }
 
+    /** Notes why the ring is about to be halted. */
+    void fail(HandlerFailed why) {
+        failed = why;
+    }
+
+    /** The handler that failed, or null. */
+    HandlerFailed failed() {
+        return failed;
+    }
+
     /** Halts the ring for handlers that go away before they had every event, so that nobody waits for them. */
     void giveUp(long handlers) {
         gone.getAndUpdate(all -> all | handlers);
         halt();
     }
 
-    boolean isGone(long handlers) {
-        return (gone.get() & handlers) != 0;
+    /** Where those who follow these are cut: at the least count of those of them that are gone, or at none where all is given up. */
+    long cut(long upstreams) {
+        long missing = gone.get() & upstreams;
+        long cut = missing < 0 ? 0 : Long.MAX_VALUE;
+        for (int k = 0; missing > 0 && k < receivers.size(); k++) {
+            if ((missing >> k & 1) == 1) {
+                cut = Math.min(cut, receivers.get(k).completed());
+            }
+        }
+        return cut;
     }
 
     int size() {

@@ -45,6 +45,7 @@ public final class Sender<T> {
             Native.close(handle);
             Reference.reachabilityFence(this);
             ring.bell.ring();
+            throw new Refusal((int) -first, ring.failed());
         }
         throw new Refusal((int) -first);
     }

@@ -1,0 +1,10 @@
+mod Agreeing
+mod Answers
+mod Batches
+mod Counts
+mod Kept
+mod Moments
+mod Printings
+mod Runs
+mod Starts
+mod Turns

@@ -1,0 +1,27 @@
+-- What a crash may leave over several calls of a journal.
+use Rattle.std.proofs.Common.{inl, inr, ⊎_elim, ℕ, List, arith}
+use Rattle.dr_journal.specs.Meaning.Disk.{LeavesOnly}
+
+module _ {D : Type 0} (moment : D → ℕ) (left_since : D → ℕ → List ℕ → Type 0) where
+  -- before any call
+  pub no_call : (may_leave : D → List ℕ → Type 0) → ((file : D) (c : List ℕ) → left_since file (moment file) c → may_leave file c)
+      → (old : D) (P : List ℕ → Type 0) → ((c : List ℕ) → may_leave old c → P c) → LeavesOnly moment left_since old old P
+  no_call may_leave only_now old P here = record { later = omega arith; each = λ c left. here c (only_now old c left); before = λ t c le left. inl left }
+
+  -- what has P has Q
+  pub weaker : (old new : D) (P Q : List ℕ → Type 0) → LeavesOnly moment left_since old new P → ((c : List ℕ) → P c → Q c)
+      → LeavesOnly moment left_since old new Q
+  weaker old new P Q so_far within = record {
+    later = so_far.later;
+    each = λ c left. within c (so_far.each c left);
+    before = λ t c le left. ⊎_elim (λ past. inl past) (λ now. inr (within c now)) (so_far.before t c le left);
+  }
+
+  -- a run, and then another
+  pub and_then : (old mid new : D) (P Q : List ℕ → Type 0) → LeavesOnly moment left_since old mid P → LeavesOnly moment left_since mid new Q
+      → ((c : List ℕ) → Q c → P c) → LeavesOnly moment left_since old new P
+  and_then old mid new P Q first second within = record {
+    later = omega (arith, first.later, second.later);
+    each = λ c left. ⊎_elim (first.each c) (within c) (second.before (moment old) c first.later left);
+    before = λ t c le left. ⊎_elim (first.before t c le) (λ now. inr (within c now)) (second.before t c (omega (arith, le, first.later)) left);
+  }

@@ -1,0 +1,44 @@
+//! One read of the input, as a batch.
+
+ghost use Rattle.std.specs.Prelude.{◌≡◌, ◌<◌, ◌-◌, ◌^◌, [], Err};
+ghost use Rattle.dr_files.specs.Counting.{faults_of, inner_of};
+ghost use Rattle.dr_ledger.specs.declared.fault.LedgerFault.TheVariants.{Read as ReadFailed};
+ghost use Rattle.dr_ledger.specs.Batches.{CountsReads, TurnCame};
+
+use crate::LedgerFault;
+use dr_files::{Counted, FileFault};
+use dr_operations::EventStream;
+use dr_seq::Event;
+use std::alloc::Global;
+use std::io::Read;
+
+/// The operations that a read brought, and what comes after them: whether more may come, or a fault.
+#[derive(Drop)]
+pub(crate) struct Batch {
+    pub(crate) events: Vec<Event>,
+    pub(crate) then: Result<bool, LedgerFault>,
+}
+
+/// Reads once. A read that fails brings nothing.
+pub(crate) fn read_batch<R: Read>(
+    alloc: Global,
+    stream: &mut EventStream,
+    input: &mut Counted<R>,
+) -> Batch
+    requires { faults_of input.old < 2 ^ 64 - 1 }
+    ensures came { TurnCame result.then stream.old stream.new (R.remaining (inner_of input.old)) (R.remaining (inner_of input.new)) result.events.items }
+    ensures none { result.then ≡ Err ReadFailed → result.events.items ≡ [] }
+    ensures counted { CountsReads result.then (faults_of input.old) (faults_of input.new) }
+{
+    let mut events = Vec::new(alloc);
+    let then = match stream.read(input, &mut events) {
+        Ok(more) => Ok(more),
+        Err(FileFault::Input { k, .. }) => Err(LedgerFault::BadRecord(k)),
+        Err(FileFault::Read) => {
+            events.clear();
+            Err(LedgerFault::Read)
+        }
+        Err(_) => Err(LedgerFault::Memory),
+    };
+    Batch { events, then }
+}
