@@ -120,7 +120,7 @@ pub trait InPlaceOutlet {
         ensures told { told self.new ≡ (told self.old || tells_drained result) }
         // It still saw as many events published as it saw before.
         ensures saw { SawMore (saw self.old) (saw self.new) }
-        // A batch has the next events, of those offered as many as there is room for; its end says if all.
+        // A batch has the next events: all that were offered, and its end says so, or as many as fit.
         ensures taken { TakesUpTo room (offered self.new) (saw self.new) result (received self.old) (received self.new) }
         // What its type says of such a call holds too.
         ensures called { does self.old (Polls room result) self.new };
