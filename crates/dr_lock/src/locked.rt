@@ -32,6 +32,7 @@ impl<'a, E: Copy, L: Exchange<E>, R: Wait> LockedInlet<'a, E, L, R> {
         end: End<E, L>,
         p: u64,
     ) -> LockedInlet<'a, E, L, R>
+        // It calls as this producer, through this end.
         ensures number { result.p ≡ p }
         ensures end { result.end ≡ end }
     {
@@ -140,6 +141,7 @@ impl<'a, E: Copy, L: Exchange<E>, R: Wait> LockedOutlet<'a, E, L, R> {
         end: End<E, L>,
         h: usize,
     ) -> LockedOutlet<'a, E, L, R>
+        // It calls as this handler, through this end, and was not told yet that the exchange drained.
         ensures number { result.h ≡ h }
         ensures end { result.end ≡ end }
         ensures told { result.told ≡ false }
