@@ -20,6 +20,7 @@ pub struct Counted<T> {
 impl<T> Counted<T> {
     /// Wraps a reader or a writer of which no call failed yet.
     pub fn new(inner: T) -> Counted<T>
+        // It has this reader or writer, of which no call failed yet.
         ensures inner { inner_of result ≡ inner }
         ensures none { faults_of result ≡ 0 }
     {
