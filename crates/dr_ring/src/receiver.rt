@@ -40,7 +40,9 @@ impl Receiver {
     /// It is refused with `BadCount`, and changes nothing, where `out` is empty.
     #[tactic(auto, using(crate::proofs::Stations::begins_same, crate::proofs::Stations::begins_on))]
     pub fn poll_into(&mut self, out: &mut [Event]) -> Result<Polled, Refusal>
+        // By what it finds it takes the next events, or says why there are none; it stores nothing.
         ensures call { PollCall self.old out.old self.new out.new result }
+        // It took fewer than 2^64 events.
         ensures fits { length self.new.knows.received < 2 ^ 64 }
     {
         let first = self.taken;
@@ -70,6 +72,7 @@ impl Receiver {
     /// Refusals in their order: `Behind` (more are completed), `NotTaken`. They change nothing.
     #[tactic(auto, using(crate::proofs::Stations::begins_same, crate::proofs::Stations::begins_on))]
     pub fn complete(&mut self, upto: u64) -> Result<(), Refusal>
+        // By what it took and completed it answers, and stores its count; a refused call stores nothing.
         ensures { CompleteCall self.old upto self.new result }
     {
         if upto < self.completed {
@@ -132,6 +135,7 @@ impl Outlet<Event> for Receiver {
         ensures answer { PollAnswers (Some (received_of self.old.knows)) out.old out.new result }
         ensures told { self.new.knows.told ≡ (self.old.knows.told || is_drained result) }
         ensures received { Takes out.new result (received_of self.old.knows) (received_of self.new.knows) }
+        // It is the receiver's own poll, and memory never runs out.
         ensures own { IsEndsAnswer (PollCall self.old out.old self.new out.new) result }
     {
         Ok(Receiver::poll_into(self, out)?)
@@ -142,6 +146,7 @@ impl Outlet<Event> for Receiver {
         ensures answer { CompleteAnswers (Some (received_of self.old.knows)) upto result }
         ensures told { self.new.knows.told ≡ self.old.knows.told }
         ensures received { Completes upto result (received_of self.old.knows) (received_of self.new.knows) }
+        // It is the receiver's own completion, and memory never runs out.
         ensures own { IsEndsAnswer (CompleteCall self.old upto self.new) result }
     {
         Ok(Receiver::complete(self, upto)?)
