@@ -126,7 +126,7 @@ pub extern "C" fn disruptor_claim_at(
     n: u64,
     lo: &mut [u64],
 ) -> u32
-    // It is the sender's claim, told by its number; no sender, or a bad place, is refused and stays.
+    // It is the sender's claim, told by its number; any other end or place is refused, and all stays.
     ensures { AtPlaces sender.old sender.new lo.old lo.new (result ≡ bad_pointer) (λ s s' lo lo'. OnHandle s.held.value s'.held.value ((lo' ≡ lo) × (result ≡ not_open)) (ClaimsBy n lo lo' result)) }
 {
     if sender.len() != 1 || lo.len() != 1 {
@@ -143,7 +143,7 @@ pub extern "C" fn disruptor_write_at(
     sequence: u64,
     event: &[Event],
 ) -> u32
-    // It is the sender's write, told by its number; no sender, or a bad place, is refused and stays.
+    // It is the sender's write, told by its number; any other end or place is refused, and all stays.
     ensures { ReadsAt event.now ((sender.new ≡ sender.old) × (result ≡ bad_pointer)) (λ event. AtPlace sender.old sender.new (result ≡ bad_pointer) (λ s s'. OnHandle s.held.value s'.held.value (result ≡ not_open) (WritesBy sequence event result))) }
 {
     if event.len() != 1 {
@@ -178,7 +178,7 @@ pub extern "C" fn disruptor_publish_at(
     lo: u64,
     hi: u64,
 ) -> u32
-    // It is the sender's publication, told by its number; no sender, or a bad place, is refused and stays.
+    // It is the sender's publication, told by its number; any other end or place is refused, and all stays.
     ensures { AtPlace sender.old sender.new (result ≡ bad_pointer) (λ s s'. OnHandle s.held.value s'.held.value (result ≡ not_open) (PublishesBy lo hi result)) }
 {
     if sender.len() != 1 {
@@ -208,7 +208,7 @@ pub extern "C" fn disruptor_publish_slots_at(
 /// Closes the ring.
 #[unsafe(no_mangle)]
 pub extern "C" fn disruptor_close_at(alloc: Global, sender: &mut [Handle]) -> u32
-    // It is the only sender's close, told by its number; another end, or a bad place, is refused and stays.
+    // It is the only sender's close, told by its number; any other end or place is refused, and all stays.
     ensures { AtPlace sender.old sender.new (result ≡ bad_pointer) (λ s s'. OnHandle s.held.value s'.held.value (result ≡ not_open) (ClosesBy result)) }
 {
     if sender.len() != 1 {
@@ -226,7 +226,7 @@ pub extern "C" fn disruptor_poll_at(
     room: usize,
     offer: &mut [Offer],
 ) -> u32
-    // It is the receiver's poll, told by number and offer; no receiver, or a bad place, is refused.
+    // It is the receiver's poll, told by number and offer; any other end or place is refused, and all stays.
     ensures { Whether (length out.old == room) (AtPlaces receiver.old receiver.new offer.old offer.new ((out.new ≡ out.old) × (result ≡ bad_pointer)) (λ r r' offer offer'. OnHandle r.held.value r'.held.value ((out.new ≡ out.old) × (offer' ≡ offer) × (result ≡ not_open)) (PollsBy out.old out.new offer offer' result))) ((receiver.new ≡ receiver.old) × (out.new ≡ out.old) × (offer.new ≡ offer.old) × (result ≡ bad_pointer)) }
 {
     if out.len() != room {
@@ -243,7 +243,7 @@ pub extern "C" fn disruptor_poll_bytes_at(
     room: u64,
     offer: &mut [Offer],
 ) -> u32
-    // It is the poll of a receiver of bytes, told by number and offer; another end is refused and stays.
+    // It polls a receiver of bytes, told by number and offer; any other end or place is refused, and stays.
     ensures { AtPlaces receiver.old receiver.new offer.old offer.new (result ≡ bad_pointer) (λ r r' offer offer'. OnHandle r.held.value r'.held.value ((offer' ≡ offer) × (result ≡ not_open)) (PollsBytesBy room offer offer' result)) }
 {
     if receiver.len() != 1 || offer.len() != 1 {
@@ -260,7 +260,7 @@ pub extern "C" fn disruptor_poll_slots_at(
     room: u64,
     offer: &mut [Offer],
 ) -> u32
-    // It is the poll of a receiver of slots, told by number and offer; another end is refused and stays.
+    // It polls a receiver of slots, told by number and offer; any other end or place is refused, and stays.
     ensures { AtPlaces receiver.old receiver.new offer.old offer.new (result ≡ bad_pointer) (λ r r' offer offer'. OnHandle r.held.value r'.held.value ((offer' ≡ offer) × (result ≡ not_open)) (PollsSlotsBy room offer offer' result)) }
 {
     if receiver.len() != 1 || offer.len() != 1 {
@@ -291,7 +291,7 @@ pub extern "C" fn disruptor_read_bytes_at(
 /// Completes all events below `upto`.
 #[unsafe(no_mangle)]
 pub extern "C" fn disruptor_complete_at(alloc: Global, receiver: &mut [Handle], upto: u64) -> u32
-    // It is the receiver's completion, told by its number; no receiver, or a bad place, is refused and stays.
+    // It is the receiver's completion, told by its number; any other end or place is refused, and all stays.
     ensures { AtPlace receiver.old receiver.new (result ≡ bad_pointer) (λ r r'. OnHandle r.held.value r'.held.value (result ≡ not_open) (CompletesBy upto result)) }
 {
     if receiver.len() != 1 {
@@ -303,7 +303,7 @@ pub extern "C" fn disruptor_complete_at(alloc: Global, receiver: &mut [Handle], 
 /// Halts the ring.
 #[unsafe(no_mangle)]
 pub extern "C" fn disruptor_halt_at(alloc: Global, halter: &mut [Handle]) -> u32
-    // The halter stores a halt, which is never refused; another end, or a bad place, is refused and stays.
+    // The halter stores a halt, which is never refused; any other end or place is refused, and all stays.
     ensures { AtPlace halter.old halter.new (result ≡ bad_pointer) (λ h h'. OnHandle h.held.value h'.held.value (result ≡ not_open) (λ end end'. HaltsBy end end' result)) }
 {
     if halter.len() != 1 {
@@ -320,7 +320,7 @@ pub extern "C" fn disruptor_progress_at(
     handle: &mut [Handle],
     counts: &mut [Counts],
 ) -> u32
-    // It tells both counts of an end that has them; another end, or a bad place, is refused; the end stays.
+    // It tells both counts of an end that has them; any other end or place is refused, and all stays.
     ensures { AtPlaces handle.old handle.new counts.old counts.new (result ≡ bad_pointer) (λ h h' counts counts'. OnHandle h.held.value h'.held.value ((counts' ≡ counts) × (result ≡ not_open)) (λ end end'. (end' ≡ end) × TellsBy end counts counts' result)) }
 {
     if handle.len() != 1 || counts.len() != 1 {
@@ -336,7 +336,7 @@ pub extern "C" fn disruptor_cursor_at(
     halter: &mut [Handle],
     count: &mut [u64],
 ) -> u32
-    // It tells what the halter finds; another end, or a bad place, is refused and stays.
+    // It tells what the halter finds; any other end or place is refused, and all stays.
     ensures { AtPlaces halter.old halter.new count.old count.new (result ≡ bad_pointer) (λ h h' n n'. OnHandle h.held.value h'.held.value ((n' ≡ n) × (result ≡ not_open)) (TellsCursorBy n n' result)) }
 {
     if halter.len() != 1 || count.len() != 1 {

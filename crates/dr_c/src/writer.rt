@@ -58,7 +58,7 @@ impl Writer {
 
     /// Publishes the sequences from `lo` to `hi` with what lies in their cells: none is refused as not written.
     pub fn publish_slots(&mut self, lo: u64, hi: u64) -> Result<(), Refusal>
-        // Each event has as many bytes as before; each open one is written as it lies, and then published.
+        // Each event has as many bytes as before; open ones to `hi` are written as they lie, then published.
         ensures bytes { self.new.bytes ≡ self.old.bytes }
         ensures call { PublishCall (with_lying self.old.sender (hi + 1)) lo hi self.new.sender result }
         // Nothing is refused as not written.

@@ -25,7 +25,7 @@ pub fn run<E: Copy>(
     core: &mut Core<E>,
     commands: &[Command<E>],
 ) -> Result<Ran<E>, AllocError>
-    // What led to a state shown before leads, with these commands, to one shown after, and has the five laws.
+    // A transcript to a state shown before goes on by these commands to one shown after, with the five laws.
     ensures lawful { IfOk result (λ ran. (t : Transcript E) (m : State E) → LeadsTo core.old.setup t m → Shows core.old m → RunsTo core.old.setup (t ++ transcript_of commands.now ran.replies.items ran.values.items) core.new) }
     // Each command has its reply, and the events are as many as the replies' batches count.
     ensures replies { IfOk result (λ ran. length ran.replies.items ≡ length commands.now) }

@@ -74,7 +74,7 @@ pub fn run_here<
 ) -> Result<Ran<E, T, Settled<E>, A>, RunFault>
     requires events { length events.items ≡ size }
     requires batch { 0 < way.batch }
-    // Over a new ring of this shape each handler went through just what the feed published, in order, in batches.
+    // Each handler of a new ring went through just what the feed published, in order, in batches.
     ensures ran { IfOk result (IsRanBy (λ (given : HereEnd E H) (answer : A) (back : HereEnd E H). F.gives send answer (sending_here given).published (sending_here back).published) (λ here. here.sender) H.goes T.listed T.went way.batch (shape_of graph.now.upstreams size) events.items handlers) }
     // It takes as many handlers as the graph has; any other fault than that is `Memory`.
     ensures many { IfOk result (λ _. length (T.listed handlers) ≡ length graph.now.upstreams) }

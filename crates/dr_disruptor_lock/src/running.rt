@@ -44,7 +44,7 @@ pub struct Ran<H> {
 impl<H: Drop> Ran<H> {
     /// The fault that is answered for the workers, if one of them has any.
     pub fn fault(&self) -> Option<WorkerFault>
-        // Memory comes before a stop, and a stop before a refusal; of one kind, the least number's comes.
+        // A lack of memory comes before a stop, that before a refusal; of one kind, the least number's comes.
         ensures first { result ≡ first_of self.now.endings.items }
         // None is answered only if no worker has a fault.
         ensures none { result ≡ None → AreFine self.now.endings.items }

@@ -147,10 +147,10 @@ impl GraphBuilder {
     pub fn build(self) -> Result<Graph, GraphFault>
         // It has the declared handlers in the built order, each with exactly its direct upstreams.
         ensures built { IfOk result (λ graph. IsGraphOf self graph) }
-        // It has 1 to 16 handlers, each after its upstreams, and who waits for all finals waits for each.
+        // It has 1 to 16 handlers, each after its upstreams; to wait for all finals is to wait for each.
         ensures lawful { IfOk result (λ graph. IsGraph graph.upstreams) }
 
-        // What holds of every declaration is said here.
+        // Of every declaration: it has at most 16 handlers, no two of one name, and edges between them alone.
         ensures declaration { IsDeclaration self }
         // A graph is built only where there is no cycle.
         ensures acyclic { IsOk result → HasCycle self.edges → ⊥ }

@@ -45,7 +45,7 @@ impl Graph {
         ensures names { result ≡ length self.now.names }
         // No two handlers have the same name.
         ensures distinct { AreDistinct self.now.names }
-        // There are 1 to 16 handlers, each after its upstreams, and who waits for all finals waits for each.
+        // There are 1 to 16 handlers, each after its upstreams; to wait for all finals is to wait for each.
         ensures lawful { IsGraph self.now.upstreams }
     {
         self.upstreams.len()

@@ -86,8 +86,8 @@ pub fn all_upstreams(
     edges: &[Edge],
     order: &[usize],
 ) -> Result<Vec<Vec<usize>>, AllocError>
+    // There is a list for each handler of the order: exactly its direct upstreams before it, rising.
     ensures len { IfOk result (λ lists. length lists.items ≡ length order.now) }
-    // Each handler of the order has exactly its direct upstreams before it, rising.
     ensures each { IfOk result (λ lists. AreLists edges.now order.now (map (λ ups. ups.items) lists.items)) }
 {
     let mut lists = Vec::new(alloc);

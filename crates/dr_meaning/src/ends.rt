@@ -86,7 +86,7 @@ pub trait Inlet<E: Copy> {
     fn try_claim(&mut self, n: u64) -> Result<Claimed, Trouble>
         // It stays the same end.
         ensures kept { kept self.new ≡ kept self.old }
-        // The answer fits the machine's tests in their order, and an accepted claim gives `n` sequences.
+        // The machine's tests allow its answer, in their order, and an accepted claim gives `n` sequences.
         ensures answer { ClaimAnswers (sent self.old) n result }
         // Where it shows what it sent, the next `n` sequences are open, or in trouble none is.
         ensures sent { WhereShown (Claims n result) (sent self.old) (sent self.new) }
@@ -96,7 +96,7 @@ pub trait Inlet<E: Copy> {
     /// Writes the event of a sequence that is claimed and not published, in place of one that was
     /// written before.
     fn write(&mut self, s: u64, event: E) -> Result<(), Trouble>
-        // It stays the same end, and the answer fits the machine's tests in their order.
+        // It stays the same end, and the machine's tests allow its answer, in their order.
         ensures kept { kept self.new ≡ kept self.old }
         ensures answer { WriteAnswers (sent self.old) s result }
         // Where it shows what it sent, the open sequence has this event, or in trouble all is as before.
@@ -108,7 +108,7 @@ pub trait Inlet<E: Copy> {
     /// exchange behind a lock does so while it holds the lock once.
     fn write_all(&mut self, lo: u64, events: &[E]) -> Wrote
         requires limit { lo + length events.now ≤ 2 ^ 62 }
-        // It stays the same end, and the events are written up to the first that the tests may refuse.
+        // It stays the same end; the machine's tests allow each write made, and the trouble of the next one.
         ensures kept { kept self.new ≡ kept self.old }
         ensures answer { WriteAllAnswers (sent self.old) lo (length events.now) result }
         // Where it shows what it sent, the sequences from `lo` on have the events that were written.
@@ -135,7 +135,7 @@ pub trait Inlet<E: Copy> {
 
     /// Publishes the sequences from `lo` to `hi`, both in the stretch.
     fn publish(&mut self, lo: u64, hi: u64) -> Result<(), Trouble>
-        // It stays the same end, and the answer fits the machine's tests in their order.
+        // It stays the same end, and the machine's tests allow its answer, in their order.
         ensures kept { kept self.new ≡ kept self.old }
         ensures answer { PublishAnswers (sent self.old) lo hi result }
         // Where it shows what it sent, all that was open up to `hi` is published, or in trouble nothing is.
@@ -166,7 +166,7 @@ pub trait Outlet<E> {
     fn poll_into(&mut self, out: &mut [E]) -> Result<Polled, Trouble>
         // It stays the same end.
         ensures kept { kept self.new ≡ kept self.old }
-        // The answer fits the machine's tests; a batch lies first in `out`, of which the rest stays.
+        // The machine's tests allow its answer; a batch lies first in `out`, of which the rest stays.
         ensures answer { PollAnswers (received self.old) out.old out.new result }
         // It was told that the exchange drained if it was told so before, or is by this answer.
         ensures told { told self.new ≡ (told self.old || is_drained result) }
@@ -177,7 +177,7 @@ pub trait Outlet<E> {
 
     /// Completes all events below `upto`.
     fn complete(&mut self, upto: u64) -> Result<(), Trouble>
-        // It stays the same end, and the answer fits the machine's tests in their order.
+        // It stays the same end, and the machine's tests allow its answer, in their order.
         ensures kept { kept self.new ≡ kept self.old }
         ensures answer { CompleteAnswers (received self.old) upto result }
         // Whether it was told that the exchange drained stays as it was.

@@ -40,7 +40,7 @@ impl<E: Copy> Slots<E> {
     /// Puts an event into the slot of a sequence, in place of what lay there.
     #[inline]
     pub fn put(&mut self, s: u64, event: E)
-        // The other slots stay.
+        // The slot of the sequence has the event, and the other slots stay.
         ensures { self.new ≡ slice_set self.old (s % length self.old) event }
     {
         let slot = self.size.slot(s);

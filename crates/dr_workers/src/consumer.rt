@@ -95,7 +95,7 @@ pub fn consume_with<E: Copy, R: Wait, O: Outlet<E>, G: Gate, H: InPlaceHandler<E
     // marks that it gave, each poll had the whole buffer's room, and the answer is that of the last call, or
     // that the gate stopped the worker.
     ensures serves { SomeCalls O.does outlet.old outlet.new (Serves (length buf.old) H.goes handler.old handler.new (O.received outlet.old) (O.received outlet.new) (G.may_stop gate.now who) (G.must_stop gate.now who) result) }
-    // And after each poll the patience was told what came, or was asked to wait.
+    // After each poll the patience was told what came, or was asked to wait.
     ensures bides { SomeCalls (Attends O.does P.waits P.finds) (record { end = outlet.old; patience = patience.old }) (record { end = outlet.new; patience = patience.new }) (Serves (length buf.old) H.goes handler.old handler.new (O.received outlet.old) (O.received outlet.new) (G.may_stop gate.now who) (G.must_stop gate.now who) result) }
     // Without a fault the end was told `Drained`, and where it shows what it took all that came is completed.
     ensures done { IfNone result (WhereShown IsDone (O.received outlet.old) (O.received outlet.new)) }
@@ -153,7 +153,7 @@ pub fn serve<R: Wait, O: Outlet<Event>, G: Gate, H: InPlaceHandler<Event>, B: Ri
 ) -> (O, Option<WorkFault>)
     // It stays the same end.
     ensures kept { O.kept result.0 ≡ O.kept outlet }
-    // Each poll had room for 256 events.
+    // The handler was shown just the batches of the polls, each of which had room for 256 events.
     ensures serves { SomeCalls O.does outlet result.0 (Serves 256 H.goes handler.old handler.new (O.received outlet) (O.received result.0) (G.may_stop gate.now who) (G.must_stop gate.now who) result.1) }
     // After each poll the patience was told what came, or was asked to wait.
     ensures bides { SomeCalls (Attends O.does P.waits P.finds) (record { end = outlet; patience = patience.old }) (record { end = result.0; patience = patience.new }) (Serves 256 H.goes handler.old handler.new (O.received outlet) (O.received result.0) (G.may_stop gate.now who) (G.must_stop gate.now who) result.1) }
