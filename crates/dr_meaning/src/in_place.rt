@@ -51,7 +51,7 @@ pub trait InPlaceInlet {
     fn update<F: FnOnce(&mut Self::Event) + Drop>(&mut self, s: u64, change: F)
         requires callable { F.IsAlwaysCallable change }
         requires within { IsOpen (sending self.old) s }
-        // It stays the same end, and the sequence has what `change` left of the event that lay there.
+        // It stays the same end, and the sequence has what `change` left of what it found there.
         ensures kept { kept self.new ≡ kept self.old }
         ensures changes { Changes (λ was now. FnOnceReturnsAtMut F.FnOnce change was tt now) s (sending self.old) (sending self.new) };
 
@@ -59,7 +59,7 @@ pub trait InPlaceInlet {
     fn update_at<F: Fn(&mut Self::Event, u64)>(&mut self, s: u64, fill: &F, number: u64)
         requires callable { F.IsAlwaysCallable fill.now }
         requires within { IsOpen (sending self.old) s }
-        // It stays the same end, and the sequence has what `fill` left of the event that lay there.
+        // It stays the same end, and the sequence has what `fill` left of what it found there.
         ensures kept { kept self.new ≡ kept self.old }
         ensures changes { Changes (FillsOne F.Fn fill.now number) s (sending self.old) (sending self.new) };
 
@@ -67,7 +67,7 @@ pub trait InPlaceInlet {
     fn update_by<F: FnMut(&mut Self::Event, u64)>(&mut self, s: u64, fill: &mut F, number: u64)
         requires callable { F.IsAlwaysCallable fill.old }
         requires within { IsOpen (sending self.old) s }
-        // It stays the same end, and the sequence has what `fill` left of the event that lay there.
+        // It stays the same end, and the sequence has what `fill` left of what it found there.
         ensures kept { kept self.new ≡ kept self.old }
         ensures changes { Changes (λ was now. FillsFrom F.FnMut fill.old number was fill.new now) s (sending self.old) (sending self.new) }
         // You may call `fill` again.

@@ -116,7 +116,7 @@ pub fn make_ends<L: Exchange<Event>>(
     shared: &mut Shared<Event, L>,
     producers: usize,
 ) -> Result<Ends<L>, AllocError>
-    // The history is as long as before, and an end more is given out for each worker and the halter.
+    // An end more of the same history is given out for each worker and for the halter.
     ensures begun { IfOk result (λ ends. shared.new.begun ≡ shared.old.begun) }
     ensures given { IfOk result (λ ends. shared.new.given ≡ shared.old.given + 4 + length ends.producers.items) }
     // There is an end for each producer.

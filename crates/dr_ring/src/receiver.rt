@@ -40,9 +40,9 @@ impl Receiver {
     /// It is refused with `BadCount`, and changes nothing, where `out` is empty.
     #[tactic(auto, using(crate::proofs::Stations::begins_same, crate::proofs::Stations::begins_on))]
     pub fn poll_into(&mut self, out: &mut [Event]) -> Result<Polled, Refusal>
-        // By what it finds it takes the next events, or says why there are none; it stores nothing.
+        // By what its looks find it takes the next events, or says why there are none, and stores nothing.
         ensures call { PollCall self.old out.old self.new out.new result }
-        // It took fewer than 2^64 events.
+        // It took fewer than 2^64 events in all.
         ensures fits { length self.new.knows.received < 2 ^ 64 }
     {
         let first = self.taken;
@@ -72,7 +72,7 @@ impl Receiver {
     /// Refusals in their order: `Behind` (more are completed), `NotTaken`. They change nothing.
     #[tactic(auto, using(crate::proofs::Stations::begins_same, crate::proofs::Stations::begins_on))]
     pub fn complete(&mut self, upto: u64) -> Result<(), Refusal>
-        // By what it took and completed it answers, and stores its count; a refused call stores nothing.
+        // It answers by what it took and completed, and stores its count; a refused call stores nothing.
         ensures { CompleteCall self.old upto self.new result }
     {
         if upto < self.completed {

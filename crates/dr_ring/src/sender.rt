@@ -48,7 +48,7 @@ impl Sender {
     /// nothing else.
     #[tactic(auto, using(crate::proofs::Stations::begins_same, crate::proofs::Stations::begins_on))]
     pub fn try_claim(&mut self, n: u64) -> Result<Claimed, Refusal>
-        // By what it finds it claims the next sequences or is refused, and it stores nothing.
+        // By what its looks find it claims the next sequences, or says why it does not, and stores nothing.
         ensures { ClaimCall self.old n self.new result }
     {
         let size = self.station.plan().size().get();
@@ -83,7 +83,7 @@ impl Sender {
     /// Refusals in their order: `NotClaimed`, `AlreadyPublished`. They change nothing.
     #[tactic(auto, using(crate::proofs::Stations::begins_same, crate::proofs::Stations::begins_on))]
     pub fn write(&mut self, sequence: u64, event: Event) -> Result<(), Refusal>
-        // By what it sent it answers, and stores both words of the event; a refused call stores nothing.
+        // It answers by what it sent, and stores both words of the event; a refused call stores nothing.
         ensures { WriteCall self.old sequence event self.new result }
     {
         if sequence >= self.claimed {
@@ -107,7 +107,7 @@ impl Sender {
     /// `NotWritten`, `OutOfOrder`. They change nothing.
     #[tactic(auto, using(crate::proofs::Stations::begins_same, crate::proofs::Stations::begins_on))]
     pub fn publish(&mut self, lo: u64, hi: u64) -> Result<(), Refusal>
-        // By what it sent it answers, and stores the cursor; a refused call stores nothing.
+        // It answers by what it sent, and stores the cursor; a refused call stores nothing.
         ensures { PublishCall self.old lo hi self.new result }
     {
         if lo > hi {

@@ -153,7 +153,7 @@ pub fn settle(sender: Sender, receivers: Vec<Receiver>) -> Settled
     ensures claimed { result.claimed ≡ claimed_of sender.knows }
     ensures published { result.published ≡ length sender.knows.sent.published }
     ensures handlers { result.handlers.items ≡ map (λ e. handler_counts e.knows) receivers.items }
-    // Each receiver has the beginning of what was published, and keeps to its upstreams and to the room.
+    // Each receiver has the beginning of what was published, all if told `Drained`, behind its upstreams.
     ensures lists { Settles sender.knows (map (λ e. e.knows) receivers.items) }
     // One lawful run came to what these ends know, in which each stored just what it did.
     ensures run { AreOfOneRun sender receivers.items }
@@ -171,7 +171,7 @@ pub fn settle_all(sender: Sender, receivers: Vec<Receiver>, halter: Halter) -> S
     ensures claimed { result.claimed ≡ claimed_of sender.knows }
     ensures published { result.published ≡ length sender.knows.sent.published }
     ensures handlers { result.handlers.items ≡ map (λ e. handler_counts e.knows) receivers.items }
-    // Each receiver has the beginning of what was published, and keeps to its upstreams and to the room.
+    // Each receiver has the beginning of what was published, all if told `Drained`, behind its upstreams.
     ensures lists { Settles sender.knows (map (λ e. e.knows) receivers.items) }
     // Where the halter never halted, the sender found no halt before its own.
     ensures unhalted { halter.knows.halted ≡ false → FoundUnhalted sender.knows }
