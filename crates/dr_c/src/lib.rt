@@ -47,7 +47,8 @@ use progress::Counts;
 use std::alloc::Global;
 
 /// Opens a ring of `size` slots in which `limit` sequences may be claimed. Handler `k` of `handlers` follows those whose bits
-/// are in the mask `upstreams[k]`, and its receiver comes to `receivers[k]` of `count`. A refused call opens no handle.
+/// are in the mask `upstreams[k]`, and its receiver comes to `receivers[k]` of `count`. A refused call opens no handle, and tells
+/// what is amiss first, by the order of `before` in `specs/OpenFault`, in which a lack of memory comes last.
 #[unsafe(no_mangle)]
 pub extern "C" fn disruptor_open_at(
     alloc: Global,
@@ -70,7 +71,8 @@ pub extern "C" fn disruptor_open_at(
 }
 
 /// Opens a ring of `count` senders as [`disruptor_open_at`] does one of a single sender. Their ends come to `senders`, and the
-/// receivers, of which there are as many as handlers, to `receivers`. It ends with a halt, and is never closed.
+/// receivers, of which there are as many as handlers, to `receivers`. It ends with a halt, and is never closed. Its events begin
+/// as zeros.
 #[unsafe(no_mangle)]
 pub extern "C" fn disruptor_open_several_at(
     alloc: Global,
