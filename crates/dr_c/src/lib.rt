@@ -61,7 +61,7 @@ pub extern "C" fn disruptor_open_at(
     count: usize,
     halter: &mut [Handle],
 ) -> u32
-    // A new ring's ends are in the handles, or what is amiss first is told; a bad place changes nothing.
+    // A new ring's ends are in the handles, or the first fault is told; a bad place changes nothing.
     ensures { Whether ((length upstreams.now == handlers) && (length receivers.old == count)) (AtPlaces sender.old sender.new halter.old halter.new ((receivers.new ≡ receivers.old) × (result ≡ bad_pointer)) (λ s s' h h'. OpenedBy size limit upstreams.now s receivers.old h s' receivers.new h' result)) ((sender.new ≡ sender.old) × (receivers.new ≡ receivers.old) × (halter.new ≡ halter.old) × (result ≡ bad_pointer)) }
 {
     if upstreams.len() != handlers || receivers.len() != count {
@@ -86,7 +86,7 @@ pub extern "C" fn disruptor_open_several_at(
     rooms: usize,
     halter: &mut [Handle],
 ) -> u32
-    // A new ring's ends are in the handles, or what is amiss first is told; a bad place changes nothing.
+    // A new ring's ends are in the handles, or the first fault is told; a bad place changes nothing.
     ensures { Whether ((length upstreams.now == handlers) && (length senders.old == count) && (length receivers.old == rooms)) (AtPlace halter.old halter.new ((senders.new ≡ senders.old) × (receivers.new ≡ receivers.old) × (result ≡ bad_pointer)) (λ h h'. OpenedSeveralBy size limit upstreams.now senders.old receivers.old h senders.new receivers.new h' result)) ((senders.new ≡ senders.old) × (receivers.new ≡ receivers.old) × (halter.new ≡ halter.old) × (result ≡ bad_pointer)) }
 {
     if upstreams.len() != handlers || senders.len() != count || receivers.len() != rooms {
@@ -109,7 +109,7 @@ pub extern "C" fn disruptor_open_bytes_at(
     count: usize,
     halter: &mut [Handle],
 ) -> u32
-    // A new ring's ends are in the handles, or what is amiss first is told; a bad place changes nothing.
+    // A new ring's ends are in the handles, or the first fault is told; a bad place changes nothing.
     ensures { Whether ((length upstreams.now == handlers) && (length receivers.old == count)) (AtPlaces sender.old sender.new halter.old halter.new ((receivers.new ≡ receivers.old) × (result ≡ bad_pointer)) (λ s s' h h'. OpenedBytesBy size limit bytes upstreams.now s receivers.old h s' receivers.new h' result)) ((sender.new ≡ sender.old) × (receivers.new ≡ receivers.old) × (halter.new ≡ halter.old) × (result ≡ bad_pointer)) }
 {
     if upstreams.len() != handlers || receivers.len() != count {
@@ -163,7 +163,7 @@ pub extern "C" fn disruptor_write_bytes_at(
     bytes: &[u8],
     count: usize,
 ) -> u32
-    // A sender of bytes changes its event to just these, if as many as it has; all else is refused and stays.
+    // A sender of bytes changes its event to just these, if as many as it has; all else is refused.
     ensures { Whether (length bytes.now == count) (AtPlace sender.old sender.new (result ≡ bad_pointer) (λ s s'. OnHandle s.held.value s'.held.value (result ≡ not_open) (WritesBytesBy sequence bytes.now result))) ((sender.new ≡ sender.old) × (result ≡ bad_pointer)) }
 {
     if bytes.len() != count {
@@ -198,7 +198,7 @@ pub extern "C" fn disruptor_publish_slots_at(
     lo: u64,
     hi: u64,
 ) -> u32
-    // Own sequences are written as they lie, and then it is the ring's publication; others are refused.
+    // Own sequences are written as they lie, and then it is the ring's publication; other ends are refused.
     ensures { AtPlace sender.old sender.new (result ≡ bad_pointer) (λ s s'. OnHandle s.held.value s'.held.value (result ≡ not_open) (PublishesSlotsBy lo hi result)) }
 {
     if sender.len() != 1 {

@@ -67,7 +67,7 @@ impl<T> Row<T> {
     /// Puts the cell that follows the last one back.
     pub fn give(&mut self, token: Token<T>)
         requires { IsOf self.old.strip (self.old.from + length self.old.items) token × IsWhole token.hold }
-        // The row begins as before, and what lies in the cell stands behind all others.
+        // The row begins as before, and what lies in the cell comes last.
         ensures row { (self.new.strip ≡ self.old.strip) × (self.new.from ≡ self.old.from) }
         ensures last { (x : T) × (token.hold ≡ whole x) × (self.new.items ≡ self.old.items ++ x ∷ []) }
     {

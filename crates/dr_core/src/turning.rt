@@ -37,7 +37,7 @@ pub fn processor_turn<E: Copy, H: Handler<E>>(
 ) -> Result<Polled, Refusal>
     // The machine polls, the handler is shown each event of the batch in order, and the batch is completed.
     ensures turn { TakesTurn H.goes core.old h (length buf.old) result (polled result buf.new) core.new handler.old handler.new }
-    // The batch lies at the front of the buffer, and what lies behind it stays.
+    // The batch is in front in the buffer, and what lies behind it stays.
     ensures rest { buf.new ≡ polled result buf.new ++ drop (length (polled result buf.new)) buf.old }
     // A refusal leaves the core as it was.
     ensures refused { OnErr result (core.new ≡ core.old) }

@@ -86,7 +86,7 @@ impl<W: Write> Write for Counted<W> {
     ghost contents = { λ c. W.contents (inner_of c) };
 
     fn write(&mut self, buf: &[u8]) -> io::Result<usize>
-        // A write takes at most the piece, and what it takes stands behind known contents.
+        // A write takes at most the piece, and adds what it takes to known contents.
         ensures bound { WritesAtMost result buf.now }
         ensures bytes { WriteAppends (W.contents (inner_of self.old)) (W.contents (inner_of self.new)) result buf.now }
         // One that failed, or took nothing of a piece, counts, and once one did the writer is left alone.

@@ -125,7 +125,7 @@ impl GraphBuilder {
     /// that is there never lacks memory.
     #[tactic(auto, using(crate::proofs::Answering::answering))]
     pub fn edge(&mut self, up: &str, down: &str) -> Result<(), GraphFault>
-        // The edge is declared, and stands once, also where it was there before.
+        // The edge is declared, once, also where it was there before.
         ensures connected { OnOk result (self.new ≡ connected self.old up.now down.now) }
         // A name that is not declared is refused; else only memory may run out.
         ensures answer { Answers GraphFault.NoMemory (stranger_fault self.old.names (up.now ∷ down.now ∷ [])) result }

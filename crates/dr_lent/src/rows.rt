@@ -27,7 +27,7 @@ pub fn blanks<T>(alloc: Global, count: usize) -> Result<Vec<Token<T>>, AllocErro
 /// Puts one in place of another, which it gives.
 pub fn put_at<S>(row: &mut Vec<S>, place: usize, new: S) -> S
     requires { place < length row.old.items }
-    // The new one stands at the place, and the one that stood there comes out.
+    // The new one is at the place, and the one that was there comes out.
     ensures row { row.new.items ≡ slice_set row.old.items place new }
     ensures was { get_elem? row.old.items place ≡ some result }
 {

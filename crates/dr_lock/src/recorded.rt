@@ -143,7 +143,7 @@ impl<E: Copy> Recorded<E> {
     /// reply. Where an allocation fails nothing has changed.
     pub fn call(&mut self, command: Command<E>, out: &mut [E]) -> Result<Reply, AllocError>
         requires { asked command ≤ length out.old }
-        // On each state that the core shows the machine gives this reply, and what lies first in `out`.
+        // On each state that the core shows the machine gives this reply and the events in front in `out`.
         ensures step { IfOk result (λ reply. IsStep self.old.history.core command reply (take (count_in reply) out.new) self.new.history.core) }
         // The machine answers so after some history that goes on from this one.
         ensures answer { IfOk result (λ reply. IsAnswer self.old.history command reply (take (count_in reply) out.new)) }

@@ -166,7 +166,7 @@ pub trait Outlet<E> {
     fn poll_into(&mut self, out: &mut [E]) -> Result<Polled, Trouble>
         // It stays the same end.
         ensures kept { kept self.new ≡ kept self.old }
-        // The machine's tests allow its answer; a batch lies first in `out`, of which the rest stays.
+        // The machine's tests allow its answer; a batch is in front in `out`, of which the rest stays.
         ensures answer { PollAnswers (received self.old) out.old out.new result }
         // It was told that the exchange drained if it was told so before, or is by this answer.
         ensures told { told self.new ≡ (told self.old || is_drained result) }

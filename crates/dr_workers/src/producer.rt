@@ -84,7 +84,7 @@ pub fn produce_with<E: Copy, R: Wait, I: Inlet<E>, G: Gate, P: Patience>(
     // It stays the same end, and where it shows what it sent, just the script's first events are added.
     ensures kept { I.kept inlet.new ≡ I.kept inlet.old }
     ensures sent { WhereShown (Adds (take result.sent script.now)) (I.sent inlet.old) (I.sent inlet.new) }
-    // Whatever the answer, each claim that an end shows was published.
+    // Whatever the answer, if no claim was open that the end shows, none is.
     ensures open { WhereShown LeavesNothingOpen (I.sent inlet.old) (I.sent inlet.new) }
     // It says how many of the script's events it sent: all of them, without a fault.
     ensures within { result.sent ≤ length script.now }
@@ -122,7 +122,7 @@ pub fn produce<E: Copy, R: Wait, I: Inlet<E>, G: Gate>(
     // It stays the same end, and where it shows what it sent, just the script's first events are added.
     ensures kept { I.kept inlet.new ≡ I.kept inlet.old }
     ensures sent { WhereShown (Adds (take result.sent script.now)) (I.sent inlet.old) (I.sent inlet.new) }
-    // Whatever the answer, each claim that the end shows was published.
+    // Whatever the answer, if no claim was open that the end shows, none is.
     ensures open { WhereShown LeavesNothingOpen (I.sent inlet.old) (I.sent inlet.new) }
     // It says how many of the script's events it sent: all of them, without a fault.
     ensures within { result.sent ≤ length script.now }

@@ -65,7 +65,7 @@ impl<E: Copy> Core<E> {
     /// Takes what the barrier of a handler lets through, at most as much as `out` holds, and puts
     /// it at the front of `out`. `end` is LMAX's end of batch, unless `out` was too small for all.
     pub fn poll_into(&mut self, h: usize, out: &mut [E]) -> Result<Polled, Refusal>
-        // The machine polls with the buffer's room, and answers so with the events at the buffer's front.
+        // The machine polls with the buffer's room, and answers so with the events in front in the buffer.
         ensures step { IsStep self.old (Command.Poll h (length out.old)) (poll_reply result) (polled result out.new) self.new }
         // What lies in the buffer behind the batch stays, and a batch fits into the buffer.
         ensures rest { out.new ≡ polled result out.new ++ drop (length (polled result out.new)) out.old }
