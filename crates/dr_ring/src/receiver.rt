@@ -108,7 +108,8 @@ impl Receiver {
         self.station.looks
     }
 
-    /// The receiver's steps, one a function, for who writes a loop of their own.
+    /// The receiver's steps, one a function, for who writes a loop of their own. [`settle`](crate::settle)
+    /// takes no station.
     pub fn into_station(self) -> ReceiverStation
         ensures { result ≡ self }
     {

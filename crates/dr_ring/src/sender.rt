@@ -171,7 +171,8 @@ impl Sender {
         self.station.looks
     }
 
-    /// The sender's steps, one a function, for who writes a loop of their own.
+    /// The sender's steps, one a function, for who writes a loop of their own. [`settle`](crate::settle)
+    /// takes no station.
     pub fn into_station(self) -> SenderStation
         ensures { result ≡ self }
     {
