@@ -29,6 +29,7 @@ try:
 
 test:
 	tests/house.py
+	tools/clauses.py --check
 	tests/steps_in_laws.sh
 	tests/everything.sh
 

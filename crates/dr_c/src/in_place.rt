@@ -31,8 +31,11 @@ fn leave_all(sender: &mut Sender<Event>, lo: u64, upto: u64)
 }
 
 /// Publishes the sequences from `lo` to `hi` with what lies in their cells: none of the sender's own is refused as not written.
+/// A sender has each of its sequences once, though no contract of the ring tells its caller so.
 pub fn publish_slots(sender: &mut Sender<Event>, lo: u64, hi: u64) -> Result<(), Refusal>
+    // Some sequences from `lo` on are written as they lie, and then it is the ring's publication.
     ensures call { PublishesAsLeft LeavesOfSeveral (λ m m'. PublishCall m lo hi m' result) lo sender.old sender.new }
+    // Below the limit and 2^62, a sender that has each sequence once is not told that one is not written.
     ensures written { HasEachOnce sender.old.knows.own → hi < sender.old.plan.limit → hi < 2 ^ 62 → result ≢ Err NotWritten }
 {
     leave_all(sender, lo, hi.saturating_add(1));

@@ -40,7 +40,9 @@ impl Receiver {
     /// It is refused with `BadCount`, and changes nothing, where `out` is empty.
     #[tactic(auto, using(crate::proofs::Stations::begins_same, crate::proofs::Stations::begins_on))]
     pub fn poll_into(&mut self, out: &mut [Event]) -> Result<Polled, Refusal>
+        // By what its looks find it takes the next events, or says why there are none, and stores nothing.
         ensures call { PollCall self.old out.old self.new out.new result }
+        // It took fewer than 2^64 events in all.
         ensures fits { length self.new.knows.received < 2 ^ 64 }
     {
         let first = self.taken;
@@ -70,6 +72,7 @@ impl Receiver {
     /// Refusals in their order: `Behind` (more are completed), `NotTaken`. They change nothing.
     #[tactic(auto, using(crate::proofs::Stations::begins_same, crate::proofs::Stations::begins_on))]
     pub fn complete(&mut self, upto: u64) -> Result<(), Refusal>
+        // It answers by what it took and completed, and stores its count; a refused call stores nothing.
         ensures { CompleteCall self.old upto self.new result }
     {
         if upto < self.completed {
@@ -105,7 +108,8 @@ impl Receiver {
         self.station.looks
     }
 
-    /// The receiver's steps, one a function, for who writes a loop of their own.
+    /// The receiver's steps, one a function, for who writes a loop of their own. [`settle`](crate::settle)
+    /// takes no station.
     pub fn into_station(self) -> ReceiverStation
         ensures { result ≡ self }
     {
@@ -132,6 +136,7 @@ impl Outlet<Event> for Receiver {
         ensures answer { PollAnswers (Some (received_of self.old.knows)) out.old out.new result }
         ensures told { self.new.knows.told ≡ (self.old.knows.told || is_drained result) }
         ensures received { Takes out.new result (received_of self.old.knows) (received_of self.new.knows) }
+        // It is the receiver's own poll, and memory never runs out.
         ensures own { IsEndsAnswer (PollCall self.old out.old self.new out.new) result }
     {
         Ok(Receiver::poll_into(self, out)?)
@@ -142,6 +147,7 @@ impl Outlet<Event> for Receiver {
         ensures answer { CompleteAnswers (Some (received_of self.old.knows)) upto result }
         ensures told { self.new.knows.told ≡ self.old.knows.told }
         ensures received { Completes upto result (received_of self.old.knows) (received_of self.new.knows) }
+        // It is the receiver's own completion, and memory never runs out.
         ensures own { IsEndsAnswer (CompleteCall self.old upto self.new) result }
     {
         Ok(Receiver::complete(self, upto)?)

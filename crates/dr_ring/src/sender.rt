@@ -48,6 +48,7 @@ impl Sender {
     /// nothing else.
     #[tactic(auto, using(crate::proofs::Stations::begins_same, crate::proofs::Stations::begins_on))]
     pub fn try_claim(&mut self, n: u64) -> Result<Claimed, Refusal>
+        // By what its looks find it claims the next sequences, or says why it does not, and stores nothing.
         ensures { ClaimCall self.old n self.new result }
     {
         let size = self.station.plan().size().get();
@@ -82,6 +83,7 @@ impl Sender {
     /// Refusals in their order: `NotClaimed`, `AlreadyPublished`. They change nothing.
     #[tactic(auto, using(crate::proofs::Stations::begins_same, crate::proofs::Stations::begins_on))]
     pub fn write(&mut self, sequence: u64, event: Event) -> Result<(), Refusal>
+        // It answers by what it sent, and stores both words of the event; a refused call stores nothing.
         ensures { WriteCall self.old sequence event self.new result }
     {
         if sequence >= self.claimed {
@@ -105,6 +107,7 @@ impl Sender {
     /// `NotWritten`, `OutOfOrder`. They change nothing.
     #[tactic(auto, using(crate::proofs::Stations::begins_same, crate::proofs::Stations::begins_on))]
     pub fn publish(&mut self, lo: u64, hi: u64) -> Result<(), Refusal>
+        // It answers by what it sent, and stores the cursor; a refused call stores nothing.
         ensures { PublishCall self.old lo hi self.new result }
     {
         if lo > hi {
@@ -134,7 +137,9 @@ impl Sender {
     /// It is refused with `OpenClaim`, and changes nothing, while a claimed sequence is unpublished.
     #[tactic(auto, using(crate::proofs::Stations::begins_same, crate::proofs::Stations::begins_on))]
     pub fn close(&mut self) -> Result<(), Refusal>
+        // It stores halt and then closed where all that it claimed is published; else it stores nothing.
         ensures call { CloseCall self.old self.new result }
+        // Whatever it answers, what it sent stays, and without an open claim the ring is closed.
         ensures done { ClosesOnceDone self.old self.new }
     {
         if self.published != self.claimed {
@@ -166,7 +171,8 @@ impl Sender {
         self.station.looks
     }
 
-    /// The sender's steps, one a function, for who writes a loop of their own.
+    /// The sender's steps, one a function, for who writes a loop of their own. [`settle`](crate::settle)
+    /// takes no station.
     pub fn into_station(self) -> SenderStation
         ensures { result ≡ self }
     {
@@ -190,6 +196,7 @@ impl Inlet<Event> for Sender {
         ensures kept { sender_place self.new ≡ sender_place self.old }
         ensures answer { ClaimAnswers (Some self.old.knows.sent) n result }
         ensures sent { Claims n result self.old.knows.sent self.new.knows.sent }
+        // It is the sender's own claim, and memory never runs out.
         ensures own { IsEndsAnswer (ClaimCall self.old n self.new) result }
     {
         Ok(Sender::try_claim(self, n)?)
@@ -199,6 +206,7 @@ impl Inlet<Event> for Sender {
         ensures kept { sender_place self.new ≡ sender_place self.old }
         ensures answer { WriteAnswers (Some self.old.knows.sent) s result }
         ensures sent { Writes s event result self.old.knows.sent self.new.knows.sent }
+        // It is the sender's own write, and memory never runs out.
         ensures own { IsEndsAnswer (WriteCall self.old s event self.new) result }
     {
         Ok(Sender::write(self, s, event)?)
@@ -210,6 +218,7 @@ impl Inlet<Event> for Sender {
         ensures kept { sender_place self.new ≡ sender_place self.old }
         ensures answer { WriteAllAnswers (Some self.old.knows.sent) lo (length events.now) result }
         ensures sent { WritesAll lo (take result.count events.now) self.old.knows.sent self.new.knows.sent }
+        // It answers each write by what it sent, stores both words of each event written, and nothing else.
         ensures own { WriteAllCall self.old lo events.now self.new result }
         ensures called { WritesBy self.old self.new sender_does lo events.now result }
     {
@@ -234,6 +243,7 @@ impl Inlet<Event> for Sender {
         ensures kept { sender_place self.new ≡ sender_place self.old }
         ensures answer { PublishAnswers (Some self.old.knows.sent) lo hi result }
         ensures sent { Publishes lo hi result self.old.knows.sent self.new.knows.sent }
+        // It is the sender's own publication, and memory never runs out.
         ensures own { IsEndsAnswer (PublishCall self.old lo hi self.new) result }
     {
         Ok(Sender::publish(self, lo, hi)?)
