@@ -12,6 +12,6 @@ mod Openings
 mod Reading
 mod Repairs
 mod Runs
-mod Shown
+pub mod Shown
 mod Values
 mod Words
