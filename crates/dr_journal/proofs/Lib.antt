@@ -1,6 +1,7 @@
 mod Batches
 mod Codes
 mod Crash
+pub mod Crossing
 mod Feeding
 mod Frames
 mod Headers
