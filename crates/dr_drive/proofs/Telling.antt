@@ -10,11 +10,12 @@ use Rattle.dr_meaning.specs.Meaning.Machine.{Outcome, Setup, State, available, g
 use Rattle.dr_core.specs.Calls.CoreView.{CoreView, gate_of, retired_in}
 use Rattle.dr_core.specs.Calls.Shows.{Flags, Shows, offered_to}
 use Rattle.dr_core.proofs.Shown.{same_completed, same_front, same_halted, same_next, same_retired, same_taken}
-use Rattle.dr_records.specs.Records.{Field}
+use Rattle.dr_records.specs.Records.{Field, Record}
+use Rattle.dr_drive.specs.Meaning.Commands.{command_of}
 use Rattle.dr_drive.specs.Meaning.DriveText.{obeys, told}
 use Rattle.dr_drive.specs.Meaning.Lines.{line_of}
 use Rattle.dr_drive.specs.Meaning.StateLine.{handler_text, ready, room, state_line}
-use Rattle.dr_drive.specs.Calls.Shows.{Executes, IsObeyed, batch_of, core_of}
+use Rattle.dr_drive.specs.Calls.Shows.{ExchangeShows, Executes, IsObeyed, batch_of, core_of}
 use Rattle.dr_drive.specs.Calls.Standing.{ready_in, room_in}
 use Rattle.dr_drive.specs.Inside.States.{handler_seen, state_seen, with_state}
 use Rattle.dr_drive.specs.declared.exchange.Exchange.{Exchange}
@@ -59,10 +60,19 @@ told_same true names c o v reply events named set shows replied handed =
     ∙ ap (λ line. line_of reply events ++ line) same
 
 -- a command was executed, and what is told of it is the line
-pub obeyed : (states : Bool) (e : Exchange) (names : List Field) (c : Setup) (m : State Event) (command : Command Event) (reply : Reply) (events : List Event) (line : List ℕ)
+obeyed : (states : Bool) (e : Exchange) (names : List Field) (c : Setup) (m : State Event) (command : Command Event) (reply : Reply) (events : List Event) (line : List ℕ)
     → Executes e names c (step c m command) reply → events ≡ take (count_in reply) (batch_of e) → line ≡ with_state states (line_of reply events) (core_of e)
     → IsObeyed e line (obeys states names c m (Some command))
 obeyed states e names c m command reply events line did handed is =
     let o : Outcome Event = step c m command in
     let same : told states names c o ≡ line = told_same states names c o (core_of e) reply events did.shows.names_are did.shows.setup_is did.shows.shows did.replies (did.hands_out ∙ sym handed) ∙ sym is in
     record { names = names; setup = c; state = o.state; is = rw same refl; shows = did.shows }
+
+-- the same of a record whose command it is
+pub obeyed_row : (states : Bool) (first e : Exchange) (names : List Field) (c : Setup) (m : State Event) (row : Record) (command : Command Event) (reply : Reply) (events : List Event)
+    (line : List ℕ) → ExchangeShows first names c m → command_of (core_of first).names row ≡ Some command → Executes e names c (step c m command) reply
+    → events ≡ take (count_in reply) (batch_of e) → line ≡ with_state states (line_of reply events) (core_of e)
+    → IsObeyed e line (obeys states names c m (command_of names row))
+obeyed_row states first e names c m row command reply events line shown named did handed is =
+    let found : command_of names row ≡ Some command = ap (λ (ns : List Field). command_of ns row) shown.names_are ∙ named in
+    rw found (obeyed states e names c m command reply events line did handed is)

@@ -23,8 +23,9 @@ pub struct Exchange {
     ring: Ring,
     batch: Vec<Event>,
     ghost room: { core.setup.size ≤ length batch.items },
-    ghost limited: { ring.limit ≡ core.setup.limit },
+    ghost same_size: { ring.size ≡ core.setup.size },
     ghost same_mode: { ring.mode ≡ core.setup.mode },
+    ghost same_limit: { ring.limit ≡ core.setup.limit },
 }
 
 impl Exchange {
@@ -55,8 +56,9 @@ impl Exchange {
 
     /// What was said of its ring.
     pub fn ring(&self) -> Ring
-        ensures limit { result.limit ≡ (core_of self.now).setup.limit }
+        ensures size { result.size ≡ (core_of self.now).setup.size }
         ensures mode { result.mode ≡ (core_of self.now).setup.mode }
+        ensures limit { result.limit ≡ (core_of self.now).setup.limit }
     {
         self.ring
     }

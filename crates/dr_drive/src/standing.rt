@@ -82,8 +82,8 @@ pub fn is_gating(core: &Core<Event>, h: usize) -> bool
     ensures { result ≡ is_final_of core.now.setup.upstreams (retired_in core.now) h }
 {
     let flags = retired_flags(core);
-    core.graph()
-        .is_final_without(h, &flags[..core.graph().len()])
+    let graph = core.graph();
+    graph.is_final_without(h, &flags[..graph.len()])
 }
 
 /// The most sequences that a claim is given now, where the exchange has this limit: none after a halt.
