@@ -13,6 +13,7 @@ import glob
 import os
 import sys
 import tempfile
+from itertools import chain
 
 sys.dont_write_bytecode = True
 HERE = os.path.dirname(os.path.abspath(__file__))
@@ -24,16 +25,26 @@ from run import Bench, Ran, cases_of  # noqa: E402
 from standing import drive_states  # noqa: E402
 
 
-def command_files():
-    """The name and the text of each command file of the examples and the tables."""
+def cases_in(tables, cases):
+    """The name and the text of each case of some tables."""
+    return [(case.name, case.text) for table in tables for case in cases(table)]
+
+
+def worked_files():
+    """The examples, and the worked runs of the tables."""
     for path in sorted(glob.glob(f"{TOP}/examples/*.csv")):
         with open(path, "rb") as file:
             yield os.path.basename(path), file.read()
-    for table in sorted(glob.glob(f"{HERE}/rows/drive/*.txt")):
-        for case in (runs_of if os.path.basename(table) in RUNS else cases_of)(table):
-            yield case.name, case.text
-    for case in cases_of(f"{HERE}/hostile/drive.txt"):
-        yield case.name, case.text
+    yield from cases_in([f"{HERE}/rows/drive/{name}" for name in RUNS], runs_of)
+
+
+def hostile_files():
+    return cases_in([f"{HERE}/hostile/drive.txt"], cases_of)
+
+
+def files_at_fault():
+    tables = sorted(glob.glob(f"{HERE}/rows/drive/*.txt"))
+    return cases_in([table for table in tables if os.path.basename(table) not in RUNS], cases_of)
 
 
 def judge_states(bench, name, text):
@@ -51,7 +62,7 @@ def main():
     given = parser.parse_args()
     with tempfile.TemporaryDirectory(prefix="states-") as folder:
         bench = Bench(given.program, folder)
-        for name, text in command_files():
+        for name, text in chain(worked_files(), hostile_files(), files_at_fault()):
             judge_states(bench, name, text)
         for k in range(given.files):
             judge_states(bench, f"random file {k}", random_file("drive", f"states {k}"))
