@@ -3,7 +3,7 @@
 It is written from the docs, and shares nothing with the program.
 """
 
-from reading import Fault, Outcome, Setup, answer, drive, records, ring_of
+from reading import drive
 
 
 def built_order(upstreams):
@@ -33,22 +33,6 @@ def state_line(exchange):
     return " ".join(map(str, words)) + "\n"
 
 
-def told_states(text):
-    """The line of each command up to the first fault, and after each that of the state."""
-    setup = exchange = None
-    for fields in records(text):
-        try:
-            if exchange:
-                yield answer(exchange, fields) + "\n" + state_line(exchange)
-            elif setup:
-                exchange = setup.take(fields)
-            else:
-                setup = Setup(ring_of(fields))
-        except Fault:
-            return
-
-
 def drive_states(text):
     """What `disruptor drive --state` does with a file of this text."""
-    plain = drive(text)
-    return Outcome(plain.status, "".join(told_states(text)).encode(), plain.err)
+    return drive(text, state_line)
