@@ -1,5 +1,5 @@
 -- A core's line of its state is that of each state that it shows.
-use Rattle.std.proofs.Common.{◌≡◌, ℕ, Bool, true, false, List, [], ◌∷◌, ◌++◌, refl, sym, ap, ◌∙◌, Ok, Some, length, map, take, flat_map, codes, decimal, slice_index}
+use Rattle.std.proofs.Common.{◌≡◌, ℕ, Bool, true, false, List, [], ◌∷◌, ◌++◌, refl, sym, ap, subst, ◌∙◌, Ok, Option, Some, length, map, take, flat_map, codes, decimal, slice_index}
 use Rattle.std.specs.List.{range_with_len}
 use Rattle.dr_seq.specs.declared.event.Event.{Event}
 use Rattle.dr_graph.specs.Meaning.Graph.{finals_without, least_of, upstreams_of}
@@ -75,4 +75,4 @@ pub obeyed_row : (states : Bool) (first e : Exchange) (names : List Field) (c : 
     → IsObeyed e line (obeys states names c m (command_of names row))
 obeyed_row states first e names c m row command reply events line shown named did handed is =
     let found : command_of names row ≡ Some command = ap (λ (ns : List Field). command_of ns row) shown.names_are ∙ named in
-    rw found (obeyed states e names c m command reply events line did handed is)
+    subst (λ (t : Option (Command Event)). IsObeyed e line (obeys states names c m t)) (sym found) (obeyed states e names c m command reply events line did handed is)

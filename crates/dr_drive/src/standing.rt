@@ -43,6 +43,16 @@ fn retired_flags(core: &Core<Event>) -> [bool; MOST_HANDLERS]
     flags
 }
 
+// Whether a handler holds up claims, where these flags tell which are retired.
+fn is_final_now(core: &Core<Event>, gone: &[bool], h: usize) -> bool
+    requires handler { h < handlers core.now.setup }
+    requires flags { length gone.now ≡ handlers core.now.setup }
+    requires gone { AreRetired (flagged gone.now) core.now }
+    ensures { result ≡ is_final_of core.now.setup.upstreams (retired_in core.now) h }
+{
+    core.graph().is_final_without(h, gone)
+}
+
 fn lesser(found: bool, least: u64, count: u64) -> u64
     ensures { result ≡ (if found then min least count else count) }
 {
@@ -55,11 +65,10 @@ fn least_completed(core: &Core<Event>, gone: &[bool]) -> u64
     requires gone { AreRetired (flagged gone.now) core.now }
     ensures { result ≡ gate_in core.now }
 {
-    let graph = core.graph();
     let mut found = false;
     let mut least = 0;
-    for h in 0..graph.len() {
-        if graph.is_final_without(h, gone) {
+    for h in 0..core.graph().len() {
+        if is_final_now(core, gone, h) {
             least = lesser(found, least, core.completed(h));
             found = true;
         }
@@ -82,8 +91,7 @@ pub fn is_gating(core: &Core<Event>, h: usize) -> bool
     ensures { result ≡ is_final_of core.now.setup.upstreams (retired_in core.now) h }
 {
     let flags = retired_flags(core);
-    let graph = core.graph();
-    graph.is_final_without(h, &flags[..graph.len()])
+    is_final_now(core, &flags[..core.graph().len()], h)
 }
 
 /// The most sequences that a claim is given now, where the exchange has this limit: none after a halt.
