@@ -22,12 +22,12 @@ pub record HasCome (states : Bool) (first : Exchange) (k : ℕ) (all : List Reco
   pub from : (phase : Phase) → ShowsPhase first phase → (s : Phase) × ShowsPhase exchange s × Progress states (text_from states k phase all) j s left old now
 
 -- an exchange obeyed a record, and the line of it was written
-pub written : {states : Bool} {first exchange : Exchange} {line bytes : List ℕ} (row : Record) (old new : Option (List ℕ))
+pub written : (states : Bool) {first exchange : Exchange} {line bytes : List ℕ} (row : Record) (old new : Option (List ℕ))
     → ((names : List Field) (c : Setup) (m : State Event) → ExchangeShows first names c m → IsObeyed exchange line (obeys states names c m (command_of names row)))
     → bytes ≡ line → Appends old new bytes
     → (phase : Phase) → ShowsPhase first phase → (did : Taken) × (taken states phase row ≡ Ok did) × ShowsPhase exchange did.phase × Appends old new (joined (option_to_list did.line))
-written row old new obeyed same wrote (Preparing stage) shown = absurd shown
-written {line} row old new obeyed same wrote (Running names c m) shown =
+written states row old new obeyed same wrote (Preparing stage) shown = absurd shown
+written states {line} row old new obeyed same wrote (Running names c m) shown =
     let did = obeyed names c m shown in
     (record { phase = Running did.names did.setup did.state; line = Some line }, did.is, did.shows, subst (Appends old new) (same ∙ sym (append-nil line)) wrote)
 

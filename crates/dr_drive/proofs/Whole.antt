@@ -1,10 +1,10 @@
 -- What a run over the records after a setup says of the whole input.
-use Rattle.std.proofs.Common.{◌≡◌, ℕ, Bool, List, Option, Some, None, IfSome, Result, sym, ap, ◌∙◌, subst}
+use Rattle.std.proofs.Common.{◌≡◌, ℕ, Bool, List, Option, Some, None, IfSome, IfErr, Result, Ok, Err, refl, sym, ap, ◌∙◌, ◌+◌, subst, arith}
 use Rattle.std.proofs.KnownBytes.{Appends-nil}
 use Rattle.dr_records.specs.Records.{Record, records_of}
 use Rattle.dr_drive.specs.Meaning.Setup.{Empty}
 use Rattle.dr_drive.specs.Meaning.DriveText.{Phase, Preparing, text_from, text_of}
-use Rattle.dr_files.specs.Outcome.{FaultWrites, Said, RunWrites}
+use Rattle.dr_files.specs.Outcome.{CountsFaults, FaultCounts, FaultWrites, ReadFaultKeeps, Said, RunWrites}
 use Rattle.dr_drive.specs.Inside.Tells.{IsSetUp, SetupFaultTells, ShowsPhase}
 use Rattle.dr_drive.specs.declared.tool.Opened.{Opened}
 use Rattle.dr_drive.specs.declared.fault.Cause.{Cause}
@@ -31,3 +31,18 @@ failed_setup states (fault.Input k cause) all text known are is =
 failed_setup states fault.Memory all text known are wants = (0, Appends-nil known)
 failed_setup states fault.Read all text known are h = absurd h
 failed_setup states fault.Write all text known are h = absurd h
+
+-- a setup that fails is no fault of a reader or a writer
+pub setup_counts : (states : Bool) (f : FileFault Cause) (all : List Record) (reads reads2 writes : ℕ) → SetupFaultTells states f all → reads2 ≡ reads → FaultCounts f reads reads2 writes writes
+setup_counts states (fault.Input k cause) all reads reads2 writes tells same = (same, refl)
+setup_counts states fault.Memory all reads reads2 writes tells same = (same, refl)
+setup_counts states fault.Read all reads reads2 writes tells same = absurd tells
+setup_counts states fault.Write all reads reads2 writes tells same = absurd tells
+
+-- where no read failed, none is answered
+pub never_unread : {A : Type 0} (r : Result A (FileFault Cause)) (old new : Option (List ℕ)) (writes writes2 : ℕ) → CountsFaults r 0 0 writes writes2 → IfErr r (λ e. ReadFaultKeeps e old new)
+never_unread (Ok done) old new writes writes2 counts = tt
+never_unread (Err (fault.Input k cause)) old new writes writes2 counts = tt
+never_unread (Err fault.Memory) old new writes writes2 counts = tt
+never_unread (Err fault.Read) old new writes writes2 counts = let failed : 0 ≡ 0 + 1 = counts.0 in absurd (omega arith)
+never_unread (Err fault.Write) old new writes writes2 counts = tt

@@ -1,12 +1,12 @@
 use Rattle.std.proofs.Common.{List, ℕ, arith, ap, ◌∙◌}
 use Rattle.std.proofs.lemmas.Result.{err_from_is_err_and}
-use Rattle.dr_files.specs.Counting.{inner_of}
+use Rattle.dr_files.specs.Counting.{faults_of, inner_of}
 use Rattle.dr_drive.specs.Meaning.DriveText.{text_of}
 use Rattle.dr_files.specs.Outcome.{RunWrites}
 use Rattle.dr_records.specs.Records.{records_of}
 use Rattle.dr_records.specs.Rows.{rows_left}
 use Rattle.dr_records.proofs.RowsLeft.{numbers_fit}
-use Rattle.dr_drive.proofs.Whole.{after_setup, at_input, failed_setup}
+use Rattle.dr_drive.proofs.Whole.{after_setup, at_input, failed_setup, never_unread, setup_counts}
 use Rattle.dr_drive.proofs.tool.drive_telling.Goals as goal
 
 pub set_up-requires : goal.set_up-requires
@@ -26,6 +26,18 @@ returns-in_err-exchange-clause-bytes g c =
     let P : List ℕ → Type 0 = λ input. RunWrites c.from_residual-in_err-exchange.result known known (text_of c.args.states input) in
     at_input (g.R.Read.remaining (inner_of c.args.reader.now)) text P c.in_ok-text.ensures.whole
     (rw (p.1, p.2) (failed_setup c.args.states c.in_err-exchange.field-0.0 (rows_left c.new-rows.result) text known all (c.in_err-exchange.ensures c.args.states)))
+
+pub returns-in_err-exchange-clause-counted : goal.returns-in_err-exchange-clause-counted
+returns-in_err-exchange-clause-counted g c =
+    let p = err_from_is_err_and c.from_residual-in_err-exchange.result c.from_residual-in_err-exchange.ensures.1 in
+    rw (p.1, p.2) (setup_counts c.args.states c.in_err-exchange.field-0.0 (rows_left c.new-rows.result) (faults_of c.args.reader.now) (faults_of c.read_all.new.reader)
+        (faults_of c.args.writer.now) (c.in_err-exchange.ensures c.args.states) c.in_ok-text.ensures.none)
+
+pub returns-clause-unread : goal.returns-clause-unread
+returns-clause-unread g c =
+    let con = g.W.Write.contents in
+    never_unread c.commands.result (con (inner_of c.args.writer.now)) (con (inner_of c.commands.new.writer)) (faults_of c.args.writer.now) (faults_of c.commands.new.writer)
+    c.commands.ensures.counted
 
 pub returns-clause-bytes : goal.returns-clause-bytes
 returns-clause-bytes g c =
