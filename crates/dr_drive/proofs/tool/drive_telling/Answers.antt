@@ -31,7 +31,7 @@ pub returns-in_err-exchange-clause-counted : goal.returns-in_err-exchange-clause
 returns-in_err-exchange-clause-counted g c =
     let p = err_from_is_err_and c.from_residual-in_err-exchange.result c.from_residual-in_err-exchange.ensures.1 in
     rw (p.1, p.2) (setup_counts c.args.states c.in_err-exchange.field-0.0 (rows_left c.new-rows.result) (faults_of c.args.reader.now) (faults_of c.read_all.new.reader)
-        (faults_of c.args.writer.now) (c.in_err-exchange.ensures c.args.states) c.in_ok-text.ensures.none)
+    (faults_of c.args.writer.now) (c.in_err-exchange.ensures c.args.states) c.in_ok-text.ensures.none)
 
 pub returns-clause-unread : goal.returns-clause-unread
 returns-clause-unread g c =
