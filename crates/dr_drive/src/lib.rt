@@ -20,5 +20,5 @@ mod tool;
 pub use dr_files::{Counted, FileFault};
 pub use exchange::Exchange;
 pub use fault::{Cause, DriveFault, RecordFault};
-pub use lines::{push_events, put_line};
+pub use lines::put_line;
 pub use tool::{drive, drive_telling};

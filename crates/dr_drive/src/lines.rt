@@ -21,8 +21,7 @@ fn push_event(line: &mut String, event: Event) -> Result<(), AllocError>
     }
 }
 
-/// Puts events after what there is, each after a space.
-pub fn push_events(line: &mut String, events: &[Event]) -> Result<(), AllocError>
+fn push_events(line: &mut String, events: &[Event]) -> Result<(), AllocError>
     ensures { OnOk result (string_bytes line.new ≡ string_bytes line.old ++ flat_map (λ e. codes " " ++ event_in e) events.now) }
 {
     for event in events {
