@@ -3,9 +3,9 @@
 ghost use Rattle.std.specs.Prelude.{◌≡◌, ◌≤◌, ◌^◌, List, ℕ, length, IfOk, None};
 ghost use Rattle.dr_journal.specs.Inside.File.{seen_in, left_in, moment_in, faults_in};
 ghost use Rattle.dr_journal.specs.Meaning.Disk.{Only};
-ghost use Rattle.dr_journal.specs.Inside.Reading.{HasRead};
+ghost use Rattle.dr_journal.specs.Calls.Readers.{HasRead};
 ghost use Rattle.dr_journal.specs.Meaning.Format.{recovered};
-ghost use Rattle.dr_journal.specs.Inside.Parts.{device_of};
+ghost use Rattle.dr_journal.specs.Calls.Parts.{device_of};
 ghost use Rattle.dr_journal.specs.Calls.Journals.{IsAtRest, bytes_of, records_of};
 
 use crate::file::Calls;
@@ -47,7 +47,7 @@ pub struct Opening {
 
 impl Opening {
     ghost use Rattle.std.specs.Prelude.{[], OnOk};
-    ghost use Rattle.dr_journal.specs.Inside.Opened.{read_so_far, file_seen, file_left, file_left_since};
+    ghost use Rattle.dr_journal.specs.Calls.Opened.{read_so_far, file_seen, file_left, file_left_since};
     ghost use Rattle.dr_journal.specs.Calls.Reading.{AddsNext};
 
     /// Opens and locks the file of this path, of which nothing is read yet. A file that is missing is made;
