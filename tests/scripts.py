@@ -32,6 +32,7 @@ EACH = (
     "tests/ledger/runs.py disruptor",
     "tests/ledger/kill.py disruptor",
     "tests/ledger/cuts.py disruptor",
+    "tests/ledger/memory.py disruptor",
 )
 QUIET = ("tests/progress.py disruptor", "tests/waits.py disruptor_waits disruptor")
 # What LLVM's build alone is tried with, and the tests of scripts, which need none.

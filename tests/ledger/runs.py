@@ -146,6 +146,32 @@ def level_files(runs):
     runs.judge("a journal that was made", records_of(runs.read("replica")), records_of(runs.read("journal")))
 
 
+def level_long_files(runs):
+    """So it is of files of many pieces, of which one has half of the other's; and two that differ behind many pieces stay as they are."""
+    rng = random.Random("long")
+    lines = [any_operation(rng) for _ in range(20_000)]
+    first, second = ("".join(line + "\n" for line in part).encode() for part in (lines[:10_000], lines[10_000:]))
+    runs.fresh()
+    runs.serve(first)
+    half = runs.read("journal")
+    runs.serve(second)
+    whole = runs.read("journal")
+    wanted = [record_of(line) for line in lines]
+    for name, journal, replica in (("replica", whole, half), ("journal", half, whole)):
+        runs.write("journal", journal)
+        runs.write("replica", replica)
+        runs.judge(f"a {name} of half as many", runs.both(b""), (0, "", "recovered 20000\n"))
+        runs.judge(f"both, once the {name} is levelled", [records_of(runs.read(role)) == wanted for role in ("journal", "replica")], [True, True])
+    runs.write("journal", half)
+    runs.serve(b"0,deposit,1,5\n")
+    other = runs.read("journal")
+    for journal, replica in ((whole, other), (other, whole)):
+        runs.write("journal", journal)
+        runs.write("replica", replica)
+        runs.judge("two ledgers that differ behind many operations", runs.both(b""), (2, "", "replica: differs\n"))
+        runs.judge("both of them, untouched", (runs.read("journal"), runs.read("replica")) == (journal, replica), True)
+
+
 def cut_files(runs):
     """Of a journal that is cut anywhere those batches are there that are whole. Others' data, zeros too, stay as they are."""
     runs.fresh()
@@ -230,7 +256,7 @@ def serve_many(runs):
 def main():
     with tempfile.TemporaryDirectory(prefix="ledger-") as folder:
         runs = Runs(os.path.abspath(sys.argv[1]), folder)
-        for part in (serve_rows, refuse_rows, refuse_files, cut_files, level_files, fail_outputs, interrupt, refuse_second, serve_many):
+        for part in (serve_rows, refuse_rows, refuse_files, cut_files, level_files, level_long_files, fail_outputs, interrupt, refuse_second, serve_many):
             part(runs)
     print(f"{sys.argv[1]}: {runs.cases} looks at a ledger, {runs.failed} failed")
     return 1 if runs.failed else 0

@@ -1,43 +1,36 @@
 //! The live ledger over its files and the standard streams, and what a journal has.
 
-ghost use Rattle.std.specs.Prelude.{IfOk, IfSome};
-ghost use Rattle.dr_journal.specs.Calls.Journals.{bytes_of};
-ghost use Rattle.dr_ledger.specs.Starting.{HasRecords};
+ghost use Rattle.std.specs.Prelude.{IfOk};
+ghost use Rattle.dr_journal.specs.Calls.Opened.{file_left, file_seen};
+ghost use Rattle.dr_ledger.specs.Batches.{AreAtRest};
 
 use crate::Fault;
 use dr_files::Counted;
-use dr_journal::{Device, FileDevice, open};
-use dr_ledger::{Opened, StartFault, begin, print_journal};
+use dr_journal::FileDevice;
+use dr_ledger::{Coming, Ledger, Role, StartFault, begin, begin_with_replica, print_journal};
 use dr_operations::EventStream;
 use std::fs::File;
 use std::io::{self, Read};
 
-fn journal_of(rt: &HostRuntime, path: &str) -> Result<Opened<FileDevice>, Fault>
-    ensures { IfOk result (λ opened. HasRecords ⟦<FileDevice as Device>⟧.seen ⟦<FileDevice as Device>⟧.may_leave opened.0 (bytes_of opened.1.items)) }
+// The ledger over these files, and how many operations it goes on from.
+fn start(
+    rt: &HostRuntime,
+    journal: &str,
+    replica: Option<String>,
+) -> Result<(Ledger<FileDevice>, u64), StartFault>
+    ensures { IfOk result (λ started. AreAtRest file_seen file_left started.0) }
 {
-    match open(rt, path) {
-        Ok(opened) => Ok(opened),
-        Err(fault) => Err(Fault::Start(StartFault::Journal(fault))),
-    }
-}
-
-fn replica_of(rt: &HostRuntime, path: Option<String>) -> Result<Option<Opened<FileDevice>>, Fault>
-    ensures { IfOk result (λ replica. IfSome replica (λ opened. HasRecords ⟦<FileDevice as Device>⟧.seen ⟦<FileDevice as Device>⟧.may_leave opened.0 (bytes_of opened.1.items))) }
-{
-    let Some(path) = path else {
-        return Ok(None);
+    let mut journal = Coming::open(rt, Role::Journal, journal)?;
+    let Some(replica) = replica else {
+        return begin(rt.alloc(), &mut journal);
     };
-    match open(rt, path.as_str()) {
-        Ok(opened) => Ok(Some(opened)),
-        Err(fault) => Err(Fault::Start(StartFault::Replica(fault))),
-    }
+    let mut replica = Coming::open(rt, Role::Replica, replica.as_str())?;
+    begin_with_replica(rt.alloc(), &mut journal, &mut replica)
 }
 
 /// Serves standard input, and answers on standard output.
 pub(crate) fn serve(rt: &HostRuntime, journal: &str, replica: Option<String>) -> Result<(), Fault> {
-    let journal = journal_of(rt, journal)?;
-    let replica = replica_of(rt, replica)?;
-    let (mut ledger, count) = begin(rt.alloc(), journal, replica).map_err(Fault::Start)?;
+    let (mut ledger, count) = start(rt, journal, replica).map_err(Fault::Start)?;
     if rt.eprintln(format_args!("recovered {count}")).is_err() {
         return Err(Fault::Write);
     }

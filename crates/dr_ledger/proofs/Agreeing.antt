@@ -1,13 +1,13 @@
 -- How a journal and its replica agree, or do not.
-use Rattle.std.proofs.Common.{◌≡◌, ℕ, Option, None, Some, List, [], ◌∷◌, length, map, take, drop, refl, sym, ◌∙◌, ap, subst}
+use Rattle.std.proofs.Common.{◌≡◌, ◌≤◌, ◌↔◌, ℕ, Bool, false, Option, None, Some, List, [], ◌∷◌, ◌++◌, length, map, take, drop, refl, sym, ◌∙◌, ap, subst, append-nil, append_assoc, take-append-drop}
+use Rattle.std.specs.Prelude.{IsTrue}
+use Rattle.std.proofs.Math.Seq.{drop-append_seam}
+use Rattle.std.proofs.lemmas.List.{take-append-le}
 use Rattle.dr_seq.specs.declared.event.Event.{Event}
-use Rattle.dr_journal.specs.Calls.Journals.{CrashLeaves}
-use Rattle.dr_journal.specs.declared.journal.Journal.{Journal}
-use Rattle.dr_ledger.specs.Serving.{IsKept}
-use Rattle.dr_ledger.specs.Standing.{Holds, IsBeginning, Say}
-use Rattle.dr_ledger.specs.Starting.{AreCopied, CopyOnlyGains, Differ, HasRecords, OnlyGains}
-use Rattle.dr_ledger.proofs.Moments.{no_call}
-use Rattle.dr_ledger.proofs.Starts.{kept_still}
+use Rattle.dr_ledger.specs.Standing.{IsBeginning, Say}
+use Rattle.dr_ledger.specs.Starting.{AreTaken, Differ}
+use Rattle.dr_ledger.specs.declared.accounts.Accounts.{Accounts}
+use Rattle.dr_ledger.specs.declared.coming.Coming.{Coming}
 
 -- those that are there
 there : List (Option Event) → List Event
@@ -25,7 +25,7 @@ pub say_one : (records : List (List ℕ)) (a b : List Event) → Say records a �
 say_one records a b says other = sym (all_there a) ∙ ap there (sym says ∙ other) ∙ all_there b
 
 -- what is no beginning of what is said is none of what any list says
-pub differ : (records copied : List (List ℕ)) (a b : List Event) → Say records a → Say copied b → (IsBeginning a b → ⊥) → (IsBeginning b a → ⊥)
+differ : (records copied : List (List ℕ)) (a b : List Event) → Say records a → Say copied b → (IsBeginning a b → ⊥) → (IsBeginning b a → ⊥)
     → Differ records copied
 differ records copied a b says other neither nor = λ events others said copies. (
   λ first. neither
@@ -34,52 +34,41 @@ differ records copied a b says other neither nor = λ events others said copies.
       (subst (λ l. IsBeginning l a) (say_one copied others b copies other) (subst (λ l. IsBeginning others l) (say_one records events a said says) first)),
 )
 
--- a beginning of lists that are told to be these
-pub first_of : (front all f e : List Event) → f ≡ front → e ≡ all → take (length f) e ≡ f → take (length front) all ≡ front
-first_of front all f e is are begins = subst (λ l. take (length l) all ≡ l) is (subst (λ l. take (length f) l ≡ f) are begins)
+-- what begins with operations has the same ones in their places
+same_places : (past a b : List Event) (n : ℕ) → n ≤ length a → IsBeginning (past ++ a) (past ++ b) → take n b ≡ take n a
+same_places past a b n within first =
+    let behind : b ≡ a ++ first.0 = sym (drop-append_seam past b) ∙ ap (λ l. drop (length past) l) (first.1 ∙ append_assoc past a first.0) ∙ drop-append_seam past (a ++ first.0) in
+    ap (λ l. take n l) behind ∙ take-append-le n a first.0 within
 
-module _ {D : Type 0} (seen : D → List ℕ) (may_leave : D → List ℕ → Type 0) (moment : D → ℕ) (left_since : D → ℕ → List ℕ → Type 0) where
-  -- a journal at rest stands for what its records say
-  pub holds_of : (journal : Journal D) (records : List (List ℕ)) (events : List Event) → HasRecords seen may_leave journal records → Say records events
-      → Holds seen may_leave journal events
-  holds_of journal records events has says = record { at_rest = has.at_rest; records = subst (λ r. Say r events) (sym has.has) says }
+-- behind what both say, operations that are not the same
+pub differ_there : (records copied : List (List ℕ)) (past a b : List Event) (n : ℕ) → Say records (past ++ a) → Say copied (past ++ b) → n ≤ length a → n ≤ length b
+    → (take n a ≡ take n b → ⊥) → Differ records copied
+differ_there records copied past a b n says other within within_other others =
+    differ records copied (past ++ a) (past ++ b) says other (λ first. others (sym (same_places past a b n within first))) (λ first. others (same_places past b a n within_other first))
 
-  -- with no call it gains nothing
-  pub gains_none : ((file : D) (c : List ℕ) → left_since file (moment file) c → may_leave file c) → (journal : Journal D) (records others : List (List ℕ))
-      → HasRecords seen may_leave journal records
-      → OnlyGains moment left_since journal journal records others
-  gains_none only_now journal records others has = λ events beyond says more.
-      no_call moment left_since may_leave only_now journal.device (IsKept events [] (drop (length events) beyond))
-      (λ file left. kept_still seen may_leave journal events (drop (length events) beyond) (holds_of journal records events has says) file left)
+-- the first ones that wait are taken
+pub taken_first : (records : List (List ℕ)) (past waiting : List Event) (n : ℕ) → Say records (past ++ waiting) → Say records ((past ++ take n waiting) ++ drop n waiting)
+taken_first records past waiting n says =
+    subst (λ l. Say records l) (ap (λ l. past ++ l) (sym (take-append-drop n waiting)) ∙ sym (append_assoc past (take n waiting) (drop n waiting))) says
 
-  -- where it is given what it lacks
-  pub gains_rest : (old new : Journal D) (records others : List (List ℕ)) (front all given : List Event) (n : ℕ) → Say records front → Say others all
-      → take (length front) all ≡ front
-      → given ≡ all → n ≡ length front → CrashLeaves moment left_since old new (IsKept (take n given) [] (drop n given))
-      → OnlyGains moment left_since old new records others
-  gains_rest old new records others front all given n says more first are many leaves = λ events beyond said beyonds.
-      let same : front ≡ events = say_one records front events says said in
-      let longer : all ≡ beyond = say_one others all beyond more beyonds in
-      subst (λ l. CrashLeaves moment left_since old new (IsKept l [] (drop (length l) beyond))) same
-      (subst (λ l. CrashLeaves moment left_since old new (IsKept front [] (drop (length front) l))) longer
-      (subst (λ l. CrashLeaves moment left_since old new (IsKept l [] (drop (length front) all))) first
-      (subst (λ k. CrashLeaves moment left_since old new (IsKept (take k all) [] (drop k all))) many
-      (subst (λ l. CrashLeaves moment left_since old new (IsKept (take n l) [] (drop n l))) are leaves))))
+-- of two files, where those are the same
+pub matched : (records copied : List (List ℕ)) (past w v front first rest later : List Event) (n : ℕ) → Say records (past ++ w) → Say copied (past ++ v)
+    → front ≡ take n w → rest ≡ drop n w → first ≡ take n v → later ≡ drop n v → front ≡ first
+    → Say records ((past ++ front) ++ rest) × Say copied ((past ++ front) ++ later)
+matched records copied past w v front first rest later n says other is_front is_rest is_first is_later same =
+    let own = subst (λ l. Say records ((past ++ l) ++ drop n w)) (sym is_front) (taken_first records past w n says) in
+    let copy = subst (λ l. Say copied ((past ++ l) ++ drop n v)) (sym is_first ∙ sym same) (taken_first copied past v n other) in
+    (subst (λ l. Say records ((past ++ front) ++ l)) (sym is_rest) own, subst (λ l. Say copied ((past ++ front) ++ l)) (sym is_later) copy)
 
-  -- so it is of a replica
-  pub copy_gains_none : ((file : D) (c : List ℕ) → left_since file (moment file) c → may_leave file c)
-      → (replica : Option (Journal D)) (copied others : List (List ℕ)) → AreCopied seen may_leave replica copied
-      → CopyOnlyGains moment left_since replica replica copied others
-  copy_gains_none only_now None copied others has = tt
-  copy_gains_none only_now (Some replica) copied others has = gains_none only_now replica copied others has
+-- a test that says so, and one that does not
+pub not_so : (r : Bool) (A : Type 0) → (IsTrue r ↔ A) → r ≡ false → A → ⊥
+not_so r A is untrue here = let yes = is.1 here in cc
 
-  pub copy_gains : (old : Option (Journal D)) (was now : Journal D) (copied others : List (List ℕ)) → old ≡ Some was
-      → OnlyGains moment left_since was now copied others
-      → CopyOnlyGains moment left_since old (Some now) copied others
-  copy_gains old was now copied others is gains = subst (λ o. CopyOnlyGains moment left_since o (Some now) copied others) (sym is) gains
+-- behind what was taken before
+pub taken_on : (journal replica : Coming) (accounts : Accounts) (past first more : List Event) → AreTaken journal replica accounts ((past ++ first) ++ more)
+    → AreTaken journal replica accounts (past ++ (first ++ more))
+taken_on journal replica accounts past first more taken = subst (λ l. AreTaken journal replica accounts l) (append_assoc past first more) taken
 
-  pub copy_gains_still : ((file : D) (c : List ℕ) → left_since file (moment file) c → may_leave file c)
-      → (old : Option (Journal D)) (replica : Journal D) (copied others : List (List ℕ)) → old ≡ Some replica
-      → AreCopied seen may_leave old copied → CopyOnlyGains moment left_since old (Some replica) copied others
-  copy_gains_still only_now old replica copied others is has =
-      subst (λ o. CopyOnlyGains moment left_since old o copied others) is (copy_gains_none only_now old copied others has)
+pub none_taken : (journal replica : Coming) (accounts : Accounts) (past : List Event) → AreTaken journal replica accounts past
+    → AreTaken journal replica accounts (past ++ [])
+none_taken journal replica accounts past taken = subst (λ l. AreTaken journal replica accounts l) (sym (append-nil past)) taken

@@ -87,3 +87,7 @@ one_more records new bytes events i d within so_far is says =
     let last : Say (bytes.items ∷ []) (get_or events i d ∷ []) = ap (λ (o : Option Event). o ∷ []) says in
     subst (λ (l : List (List ℕ)). Say l (take (i + 1) events)) (sym longer)
     (subst (λ (l : List Event). Say (bytes_of records ++ bytes.items ∷ []) l) (sym (take_more events i d within)) (say_more (bytes_of records) (bytes.items ∷ []) (take i events) (get_or events i d ∷ []) so_far last))
+
+-- a slice of records that say a slice of operations
+pub slices_say : (records slice : List (Vec ℕ Global)) (part events : List Event) → slice ≡ records → part ≡ events → Say (bytes_of records) part → Say (bytes_of slice) events
+slices_say records slice part events is are says = subst (λ (l : List (Vec ℕ Global)). Say (bytes_of l) events) (sym is) (subst (λ (l : List Event). Say (bytes_of records) l) are says)

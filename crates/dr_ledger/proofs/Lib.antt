@@ -1,10 +1,14 @@
 mod Agreeing
 mod Answers
 mod Batches
+mod Comings
 mod Counts
+mod Evens
 mod Kept
+mod Levels
 mod Moments
 mod Printings
+mod Refusals
 mod Runs
 mod Starts
 mod Turns

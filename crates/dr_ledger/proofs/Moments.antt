@@ -1,6 +1,11 @@
 -- What a crash may leave over several calls of a journal.
-use Rattle.std.proofs.Common.{inl, inr, ⊎_elim, ℕ, List, arith}
+use Rattle.std.proofs.Common.{inl, inr, ⊎_elim, ℕ, List, [], ◌++◌, arith}
+use Rattle.dr_seq.specs.declared.event.Event.{Event}
+use Rattle.dr_journal.specs.Calls.Journals.{IsBeforeOrAfter}
 use Rattle.dr_journal.specs.Meaning.Disk.{LeavesOnly}
+use Rattle.dr_ledger.specs.Serving.{IsKept}
+use Rattle.dr_ledger.specs.Standing.{Say}
+use Rattle.dr_ledger.proofs.Kept.{kept_batch, kept_first, kept_longer, kept_on}
 
 module _ {D : Type 0} (moment : D → ℕ) (left_since : D → ℕ → List ℕ → Type 0) where
   -- before any call
@@ -25,3 +30,18 @@ module _ {D : Type 0} (moment : D → ℕ) (left_since : D → ℕ → List ℕ 
     each = λ c left. ⊎_elim (first.each c) (within c) (second.before (moment old) c first.later left);
     before = λ t c le left. ⊎_elim (first.before t c le) (λ now. inr (within c now)) (second.before t c (omega (arith, le, first.later)) left);
   }
+
+  -- operations that came, and then more
+  pub moments_on : (old mid new : D) (past first more : List Event) → LeavesOnly moment left_since old mid (IsKept past [] first)
+      → LeavesOnly moment left_since mid new (IsKept (past ++ first) [] more) → LeavesOnly moment left_since old new (IsKept past [] (first ++ more))
+  moments_on old mid new past first more was is =
+      and_then old mid new (IsKept past [] (first ++ more)) (IsKept (past ++ first) [] more)
+      (weaker old mid (IsKept past [] first) (IsKept past [] (first ++ more)) was (λ file kept. kept_longer past [] first more file kept))
+      is
+      (λ file kept. kept_first past (first ++ []) (first ++ more) file (kept_on past first [] more file kept))
+
+  -- a batch that says operations
+  pub batch_moments : (old new : D) (past later : List Event) (records batch : List (List ℕ)) → Say records past → Say batch later
+      → LeavesOnly moment left_since old new (IsBeforeOrAfter records batch) → LeavesOnly moment left_since old new (IsKept past [] later)
+  batch_moments old new past later records batch was says leaves =
+      weaker old new (IsBeforeOrAfter records batch) (IsKept past [] later) leaves (λ file left. kept_batch past later records batch file was says left)

@@ -1,5 +1,6 @@
 -- How a run goes on from a turn to the next.
-use Rattle.std.proofs.Common.{◌≡◌, ℕ, Bool, true, false, List, [], ◌++◌, Option, None, Some, Result, Ok, Err, refl, sym, ◌∙◌, ap, subst, append-nil, append_assoc}
+use Rattle.std.proofs.Common.{◌≡◌, ℕ, Bool, true, false, List, [], ◌++◌, Option, None, Some, Result, Ok, Err}
+use Rattle.std.proofs.Common.{refl, sym, ◌∙◌, ap, subst, append-nil, append_assoc}
 use Rattle.std.proofs.KnownBytes.{Appends-trans}
 use Rattle.dr_seq.specs.declared.event.Event.{Event}
 use Rattle.dr_files.specs.Outcome.{AppendsFront}

@@ -11,10 +11,10 @@ use Rattle.dr_ledger.specs.Standing.{IsAtWork, journal_of}
 use Rattle.dr_ledger.specs.declared.fault.LedgerFault.{LedgerFault}
 use Rattle.dr_ledger.specs.declared.fault.LedgerFault.TheVariants as fault
 use Rattle.dr_ledger.specs.declared.ledger.Ledger.{Ledger}
-use Rattle.dr_ledger.proofs.Batches.{left_at_rest, rests, still_at_work}
-use Rattle.dr_ledger.proofs.Kept.{all_of, kept_first, kept_longer, kept_on, kept_stored}
-use Rattle.dr_ledger.proofs.Moments.{and_then, no_call, weaker}
+use Rattle.dr_ledger.proofs.Batches.{rests, still_at_work}
+use Rattle.dr_ledger.proofs.Moments.{moments_on}
 use Rattle.dr_ledger.proofs.Runs.{comes_on, comes_to_a_fault, comes_to_its_end, comes_so_far, leaves_on, nothing_came}
+use Rattle.dr_ledger.proofs.Starts.{no_moments}
 
 -- what a batch leaves, as a turn
 pub taken : (A B : Type 0) {D : Type 0} (seen : D → List ℕ) (may_leave : D → List ℕ → Type 0) (e : LedgerFault) (new : Ledger D) (written : Written) (past events : List Event)
@@ -40,9 +40,7 @@ module _ {D : Type 0} (seen : D → List ℕ) (may_leave : D → List ℕ → Ty
   pub unmoved : ((file : D) (c : List ℕ) → left_since file (moment file) c → may_leave file c) → (ledger : Ledger D) (past : List Event)
       → IsAtWork seen may_leave ledger past
       → CrashLeaves moment left_since (journal_of ledger) (journal_of ledger) (IsKept past [] [])
-  unmoved only_now ledger past work =
-      no_call moment left_since may_leave only_now (device_of (journal_of ledger)) (IsKept past [] [])
-      (λ file left. kept_stored past [] [] [] file (all_of []) (all_of []) (left_at_rest seen may_leave (journal_of ledger) (past ++ []) (still_at_work seen may_leave ledger past work).journal file left))
+  unmoved only_now ledger past work = no_moments seen may_leave moment left_since only_now (journal_of ledger) past [] work.journal
 
   -- before the first turn
   pub begun : ((file : D) (c : List ℕ) → left_since file (moment file) c → may_leave file c)
@@ -60,10 +58,7 @@ module _ {D : Type 0} (seen : D → List ℕ) (may_leave : D → List ℕ → Ty
       moments : (more : List Event) → CrashLeaves moment left_since (journal_of mid) (journal_of new) (IsKept (past ++ first.came) [] more)
           → CrashLeaves moment left_since (journal_of old) (journal_of new) (IsKept past [] (first.came ++ more))
       moments more later =
-          and_then moment left_since (device_of (journal_of old)) (device_of (journal_of mid)) (device_of (journal_of new)) (IsKept past [] (first.came ++ more)) (IsKept (past ++ first.came) [] more)
-          (weaker moment left_since (device_of (journal_of old)) (device_of (journal_of mid)) (IsKept past [] first.came) (IsKept past [] (first.came ++ more)) first.any_moment (λ file kept. kept_longer past [] first.came more file kept))
-          later
-          (λ file kept. kept_first past (first.came ++ []) (first.came ++ more) file (kept_on past first.came [] more file kept))
+          moments_on moment left_since (device_of (journal_of old)) (device_of (journal_of mid)) (device_of (journal_of new)) past first.came more first.any_moment later
 
       -- one turn more, after which more may come
       pub turns_on : Turned seen may_leave moment left_since (Ok true) mid new (record { before = b; after = c }) t u l m (past ++ first.came)

@@ -2,11 +2,13 @@
 //! and answered, each once it is on the disk.
 //!
 //! Begin with `specs/Standing`, what a ledger stands for, and `specs/Serving`, what a run of it reads,
-//! stores and answers. [`begin`] levels a journal and
-//! its replica and goes on from them, and [`Ledger::serve`] serves an input to its end.
-//! [`print_journal`] prints what a journal has.
+//! stores and answers. [`begin`] goes on from a journal and [`begin_with_replica`] from a journal and
+//! its replica, which it levels: both read them piece by piece, as [`Coming`] gives them.
+//! [`Ledger::serve`] serves an input to its end, and [`print_journal`] prints what a journal has.
 #![tactic(auto)]
 
+mod accounts;
+mod coming;
 mod fault;
 mod ledger;
 mod printing;
@@ -15,8 +17,10 @@ mod records;
 mod start;
 mod start_fault;
 
+pub use accounts::Accounts;
+pub use coming::{Coming, Role};
 pub use fault::LedgerFault;
 pub use ledger::Ledger;
 pub use printing::print_journal;
-pub use start::{Opened, agree, begin, booked};
+pub use start::{agree, begin, begin_with_replica, level};
 pub use start_fault::StartFault;

@@ -6,7 +6,7 @@ ghost use Rattle.dr_journal.specs.Meaning.Format.{IsForeign, recovered};
 ghost use Rattle.dr_ledger.specs.Printing.{CountsPrinting, Prints, PrintsNothing, TellsFile};
 ghost use Rattle.dr_ledger.specs.Standing.{Say};
 
-use crate::start::read;
+use crate::records::read;
 use crate::{LedgerFault, StartFault};
 use dr_files::{Counted, ReadFault, read_all, write_text};
 use dr_journal::{MemoryDevice, recover};
