@@ -178,6 +178,23 @@ class Ring(unittest.TestCase):
             threading.Thread(target=sender.halt).start()
         self.assertEqual((seen, disruptor.completed("sees")), ([0, 1, 2, 3], 4))
 
+    def test_a_ring_that_ends_leaves_the_claim_of_another_thread_to_it(self):
+        filling, seen = threading.Event(), []
+
+        def fill(sender):
+            with sender.event() as event:
+                event.number = 1
+                filling.set()
+                time.sleep(0.03)
+                event.number = 2
+
+        disruptor = Disruptor(4, Event).handle("sees", lambda event, sequence, is_last: seen.append(event.number))
+        with self.assertRaises(KeyboardInterrupt), disruptor.senders(1) as senders:
+            threading.Thread(target=fill, args=senders).start()
+            filling.wait()
+            raise KeyboardInterrupt
+        self.assertEqual(seen, [2])
+
     def test_an_interrupt_right_after_a_claim_leaves_none_open(self):
         ends = ends_of(4, [0])
         with unittest.mock.patch.object(Events, "at", side_effect=KeyboardInterrupt), self.assertRaises(KeyboardInterrupt):

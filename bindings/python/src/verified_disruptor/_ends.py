@@ -129,10 +129,10 @@ class Sender(_End):
     def __init__(self, ends: Ends, handle: int):
         super().__init__(ends, handle)
         # (the claim that is not published, where there is one: the library writes its first sequence there)
-        self._lo, self._n = ctypes.c_uint64(_NO_SEQUENCE), 0
+        self._lo, self._n, self._claimer = ctypes.c_uint64(_NO_SEQUENCE), 0, 0
         self._lo_at, self._waiting = ctypes.addressof(self._lo), Waiting(ends.bell)
-        # (how many events it published, which any thread may read)
-        self.published = 0
+        # (how many events it published, which any thread may read, and how many before its last claim)
+        self.published = self._published_before = 0
 
     def slots_to_claim(self) -> Events | Records:
         """The slots, where no claim is open."""
@@ -144,6 +144,7 @@ class Sender(_End):
         """The first of n sequences, once there is room."""
         deadline = None if timeout is None else time.monotonic() + timeout
         self._n = n = number_or(0, n)
+        self._claimer, self._published_before = threading.get_ident(), self.published
         while True:
             number = LIBRARY.disruptor_claim_at(self._handle, 1, n, self._lo_at, 1)
             if not number:
@@ -162,10 +163,18 @@ class Sender(_End):
         """Publishes the claim that is open, where there is one: at the end of its `with`, or where an interrupt kept that from it."""
         lo = self._lo.value
         if lo != _NO_SEQUENCE:
-            check(LIBRARY.disruptor_publish_slots_at(self._handle, 1, lo, lo + self._n - 1))
+            number = LIBRARY.disruptor_publish_slots_at(self._handle, 1, lo, lo + self._n - 1)
+            # (an interrupt may come after the publication too, so each step may be made again)
+            if number and number != Reason.ALREADY_PUBLISHED:
+                raise Refusal(number)
+            self.published = self._published_before + self._n
             self._lo.value = _NO_SEQUENCE
-            self.published += self._n
             self._ends.bell.ring()
+
+    def publish_own_claim(self) -> None:
+        """The same for a claim of the thread that asks; that of another thread is published at the end of its own `with`."""
+        if self._claimer == threading.get_ident():
+            self.publish_claim()
 
     def event(self, timeout: float | None = None) -> _Claim:
         """The next event, once there is room, for a `with` that fills it: `with sender.event() as order: order.price = 3`.
