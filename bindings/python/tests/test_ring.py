@@ -74,6 +74,27 @@ class Ring(unittest.TestCase):
         ends.receivers[1].run(lambda event, sequence, is_last: seen.append(sequence))
         self.assertEqual(seen[9:], list(range(10)))
 
+    def test_what_is_in_hand_after_a_handler_raised_comes_by_the_room_too(self):
+        ends, seen = ends_of(16, [0]), []
+        receiver = ends.receivers[0]
+        send(ends.senders[0], range(10))
+        ends.senders[0].close()
+
+        def handle(event, sequence, is_last):
+            if sequence == 2:
+                raise ValueError("the third event")
+            seen.append((event.number, is_last))
+
+        with self.assertRaises(ValueError):
+            receiver.receive(handle, 0)
+        for no_room in (0, -1):
+            self.refused(Reason.BAD_COUNT, receiver.receive, handle, 0, no_room)
+        self.assertEqual((receiver.completed, receiver.receive(handle, 0, room=2), receiver.completed), (2, 2, 5))
+        self.assertEqual(seen, [(0, False), (1, False), (3, False), (4, True)])
+        batches = []
+        receiver.run_batches(lambda events, first: batches.append((first, len(events))), room=3)
+        self.assertEqual(batches, [(5, 3), (8, 2)])
+
     def test_a_filling_that_raises_leaves_the_ring_in_order(self):
         ends, seen = ends_of(4, [0]), []
         with self.assertRaises(ValueError), ends.senders[0].event():

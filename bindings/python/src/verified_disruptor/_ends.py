@@ -226,12 +226,20 @@ class Receiver(_End):
             self.completed = upto
             self._ends.bell.ring()
 
-    def _take(self, room: int | None, deadline: float | None = None) -> bool:
-        """Has the next events in hand, once there are any, or answers False where none come any more, or none came in time."""
+    def _take(self, room: int | None, deadline: float | None = None) -> int:
+        """How many events to show next, `room` at most, once there are any, or 0 where none come any more, or none came in time."""
+        size = self._ends.slots.size
+        room = size if room is None else min(number_or(0, room), size)
+        if not room:
+            raise Refusal(Reason.BAD_COUNT)
         self._complete(self._shown)
-        if self._shown < self._taken:
-            return True
-        room = min(room or self._ends.slots.size, self._ends.slots.size)
+        # (some are in hand still where a handler raised)
+        if self._shown == self._taken and not self._poll(room, deadline):
+            return 0
+        return min(room, self._taken - self._shown)
+
+    def _poll(self, room: int, deadline: float | None) -> bool:
+        """Has the next events in hand, once there are any, or answers False where none come any more, or none came in time."""
         while True:
             # (it asks for its cut before it looks, so that it misses no event)
             cut = self._ends.cut(self._upstreams)
@@ -252,10 +260,10 @@ class Receiver(_End):
         """Halts the ring for this handler, which goes away before it had every event, so that nobody waits for it."""
         self._ends.give_up(self._own)
 
-    def _show(self, handle: Callable[[Any, int, bool], object]) -> int:
-        first, last = self._shown, self._taken - 1
+    def _show(self, handle: Callable[[Any, int, bool], object], count: int) -> int:
+        last = self._shown + count - 1
         try:
-            for event in self._ends.slots.each(first, self._taken - first):
+            for event in self._ends.slots.each(self._shown, count):
                 handle(event, self._shown, self._shown == last)
                 self._shown += 1
         except BaseException:
@@ -263,23 +271,24 @@ class Receiver(_End):
             self._shown += 1
             raise
         self._complete(self._shown)
-        return self._shown - first
+        return count
 
     def run(self, handle: Callable[[Any, int, bool], object], room: int | None = None) -> None:
-        """Shows `handle(event, sequence, is_last_of_batch)` every event until the ring is drained."""
-        while self._take(room):
-            self._show(handle)
+        """Shows `handle(event, sequence, is_last_of_batch)` every event until the ring is drained, `room` at most in a batch."""
+        while count := self._take(room):
+            self._show(handle, count)
 
     def receive(self, handle: Callable[[Any, int, bool], object], timeout: float, room: int | None = None) -> int:
-        """Shows the next events, once there are any, and completes them. It answers how many: none where none came within `timeout`
-        seconds, and ten milliseconds more at most, or where the ring is drained (`is_drained`)."""
-        return self._show(handle) if self._take(room, time.monotonic() + timeout) else 0
+        """Shows the next events, `room` at most, once there are any, and completes them. It answers how many: none where none came
+        within `timeout` seconds, and ten milliseconds more at most, or where the ring is drained (`is_drained`)."""
+        return self._show(handle, self._take(room, time.monotonic() + timeout))
 
     def run_batches(self, handle: Callable[[Any, int], object], room: int | None = None) -> None:
         """Shows `handle(events, first_sequence)` every batch until the ring is drained: a list, or views of records.
 
         Where it raises, nothing of the batch is completed; it counts as handled if it is run again."""
-        while self._take(room):
-            first, self._shown = self._shown, self._taken
-            handle(self._ends.slots.stretch(first, self._taken - first), first)
+        while count := self._take(room):
+            first = self._shown
+            self._shown += count
+            handle(self._ends.slots.stretch(first, count), first)
             self._complete(self._shown)
