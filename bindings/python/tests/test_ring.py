@@ -95,6 +95,28 @@ class Ring(unittest.TestCase):
         receiver.run_batches(lambda events, first: batches.append((first, len(events))), room=3)
         self.assertEqual(batches, [(5, 3), (8, 2)])
 
+    def test_a_handler_that_receives_by_its_own_end_is_refused(self):
+        ends, seen = ends_of(4, [0]), []
+        receiver = ends.receivers[0]
+        send(ends.senders[0], range(3))
+
+        def handle(event, sequence, is_last):
+            seen.append((event.number, sequence))
+            with self.assertRaisesRegex(RuntimeError, "a handler receives by its own end"):
+                receiver.receive(handle, 0)
+
+        def handle_batch(events, first):
+            seen.append((len(events), first))
+            receiver.run_batches(handle_batch)
+
+        self.assertEqual((receiver.receive(handle, 0), receiver.progress()), (3, (3, 3)))
+        send(ends.senders[0], [3, 4])
+        with self.assertRaisesRegex(RuntimeError, "a handler receives by its own end"):
+            receiver.run_batches(handle_batch)
+        send(ends.senders[0], [5])
+        self.assertEqual((receiver.receive(handle, 0), receiver.progress()), (1, (6, 6)))
+        self.assertEqual(seen, [(0, 0), (1, 1), (2, 2), (2, 3), (5, 5)])
+
     def test_a_filling_that_raises_leaves_the_ring_in_order(self):
         ends, seen = ends_of(4, [0]), []
         with self.assertRaises(ValueError), ends.senders[0].event():

@@ -208,7 +208,7 @@ class Receiver(_End):
     """The end of a handler, for one thread, which is shown every event after those that it follows had it.
 
     Where the handler raises, the events before the one at which it did are completed. If it is run again, that one counts as
-    handled, and it goes on after it.
+    handled, and it goes on after it. A handler that receives by its own end meanwhile is refused with RuntimeError.
     """
 
     def __init__(self, ends: Ends, handle: int, place: int, upstreams: int):
@@ -218,7 +218,7 @@ class Receiver(_End):
         self._offer_at = ctypes.addressof(self._offer)
         # (how many events it completed, which any thread may read)
         self.completed = self._shown = self._taken = 0
-        self.is_drained = False
+        self.is_drained = self._is_showing = False
 
     def _complete(self, upto: int) -> None:
         if upto != self.completed:
@@ -228,6 +228,8 @@ class Receiver(_End):
 
     def _take(self, room: int | None, deadline: float | None = None) -> int:
         """How many events to show next, `room` at most, once there are any, or 0 where none come any more, or none came in time."""
+        if self._is_showing:
+            raise RuntimeError("a handler receives by its own end")
         size = self._ends.slots.size
         room = size if room is None else min(number_or(0, room), size)
         if not room:
@@ -263,6 +265,7 @@ class Receiver(_End):
     def _show(self, handle: Callable[[Any, int, bool], object], count: int) -> int:
         last = self._shown + count - 1
         try:
+            self._is_showing = True
             for event in self._ends.slots.each(self._shown, count):
                 handle(event, self._shown, self._shown == last)
                 self._shown += 1
@@ -270,6 +273,8 @@ class Receiver(_End):
             self._complete(self._shown)
             self._shown += 1
             raise
+        finally:
+            self._is_showing = False
         self._complete(self._shown)
         return count
 
@@ -290,5 +295,9 @@ class Receiver(_End):
         while count := self._take(room):
             first = self._shown
             self._shown += count
-            handle(self._ends.slots.stretch(first, count), first)
+            try:
+                self._is_showing = True
+                handle(self._ends.slots.stretch(first, count), first)
+            finally:
+                self._is_showing = False
             self._complete(self._shown)
