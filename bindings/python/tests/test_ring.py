@@ -137,6 +137,27 @@ class Ring(unittest.TestCase):
         ends.receivers[0].run(lambda event, sequence, is_last: None)
         self.assertTrue(ends.receivers[0].is_drained)
 
+    def test_a_receiver_whose_with_ends_before_it_is_drained_halts_the_ring(self):
+        ends = ends_of(4, [0, 1])
+        send(ends.senders[0], range(4))
+
+        def fail(event, sequence, is_last):
+            if sequence == 2:
+                raise ValueError("the third event")
+
+        with self.assertRaises(ValueError), ends.receivers[0] as receiver:
+            receiver.run(fail)
+        self.refused(Reason.HALTED, ends.senders[0].event(timeout=1).__enter__)
+        seen = []
+        with self.assertRaises(Broken), ends.receivers[1] as receiver:
+            receiver.run(lambda event, sequence, is_last: seen.append(sequence))
+        self.assertEqual(seen, [0, 1])
+        drained = ends_of(4, [0])
+        with drained.receivers[0] as receiver:
+            drained.senders[0].close()
+            receiver.run(fail)
+        self.assertEqual(drained.cut(1), ends_of(4, [0]).cut(1))
+
     def test_graphs_are_refused_by_name(self):
         def one():
             return Disruptor(4, Event).handle("a", print)

@@ -209,6 +209,8 @@ class Receiver(_End):
 
     Where the handler raises, the events before the one at which it did are completed. If it is run again, that one counts as
     handled, and it goes on after it. A handler that receives by its own end meanwhile is refused with RuntimeError.
+
+    Until then all others wait for it. Run it in `with receiver:`, which gives it up where it ends before it is drained.
     """
 
     def __init__(self, ends: Ends, handle: int, place: int, upstreams: int):
@@ -261,6 +263,13 @@ class Receiver(_End):
     def give_up(self) -> None:
         """Halts the ring for this handler, which goes away before it had every event, so that nobody waits for it."""
         self._ends.give_up(self._own)
+
+    def __enter__(self) -> Receiver:
+        return self
+
+    def __exit__(self, *raised: object) -> None:
+        if not self.is_drained:
+            self.give_up()
 
     def _show(self, handle: Callable[[Any, int, bool], object], count: int) -> int:
         last = self._shown + count - 1
