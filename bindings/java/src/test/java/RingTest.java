@@ -99,6 +99,13 @@ public final class RingTest {
         expect(receiver.completed(), 10L);
     }
 
+    private static void tooManyHandlersAreRefusedAfterABadSize() {
+        for (int handlers : new int[] {17, 65, 1000}) {
+            refused(Refusal.Reason.BAD_SIZE, () -> ring(5, new long[handlers]));
+            refused(Refusal.Reason.TOO_MANY, () -> ring(4, new long[handlers]));
+        }
+    }
+
     private static void aFillingThatThrowsLeavesTheRingInOrder() throws Exception {
         Ring<Event> ring = ring(4, 0);
         Sender<Event> sender = ring.senders().get(0);
@@ -321,6 +328,7 @@ public final class RingTest {
     public static void main(String[] arguments) throws Exception {
         aFullRingHasNoRoom();
         aBatchGoesOnAfterTheEventAtWhichAHandlerThrew();
+        tooManyHandlersAreRefusedAfterABadSize();
         aFillingThatThrowsLeavesTheRingInOrder();
         thoseWhoFollowOneThatGaveUpEnd();
         graphsAreRefusedByName();
