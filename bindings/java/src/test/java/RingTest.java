@@ -99,6 +99,25 @@ public final class RingTest {
         expect(receiver.completed(), 10L);
     }
 
+    private static void aHandlerThatReceivesByItsOwnEndIsRefused() throws Exception {
+        Ring<Event> ring = ring(4, 0);
+        Receiver<Event> receiver = ring.receivers().get(0);
+        ring.senders().get(0).publishEvents(4, RingTest::fill);
+        List<Long> seen = new ArrayList<>();
+        EventHandler<Event> handler = (event, sequence, endOfBatch) -> {
+            seen.add(sequence);
+            if (sequence == 0) {
+                receiver.receive(0, TimeUnit.SECONDS, (other, itsSequence, isItsEnd) -> seen.add(itsSequence));
+            }
+        };
+        Throwable thrown = thrown(() -> receiver.receive(0, TimeUnit.SECONDS, handler));
+        expect(thrown.getMessage(), "a handler receives by its own end");
+        // (that handler failed at its event)
+        expect(receiver.receive(0, TimeUnit.SECONDS, handler), 3);
+        expect(seen, List.of(0L, 1L, 2L, 3L));
+        expect(receiver.completed(), 4L);
+    }
+
     private static void tooManyHandlersAreRefusedAfterABadSize() {
         for (int handlers : new int[] {17, 65, 1000}) {
             refused(Refusal.Reason.BAD_SIZE, () -> ring(5, new long[handlers]));
@@ -328,6 +347,7 @@ public final class RingTest {
     public static void main(String[] arguments) throws Exception {
         aFullRingHasNoRoom();
         aBatchGoesOnAfterTheEventAtWhichAHandlerThrew();
+        aHandlerThatReceivesByItsOwnEndIsRefused();
         tooManyHandlersAreRefusedAfterABadSize();
         aFillingThatThrowsLeavesTheRingInOrder();
         thoseWhoFollowOneThatGaveUpEnd();

@@ -9,7 +9,8 @@ import java.util.concurrent.atomic.AtomicLong;
  * The end of one handler, for one thread, which is shown every event after those that it follows had it.
  *
  * <p>Where the handler throws, the events before the one at which it did are completed. If it is run again, that one counts as
- * handled, and it goes on after it.
+ * handled, and it goes on after it. A handler that receives by its own end meanwhile is refused with an
+ * {@link IllegalStateException}.
  *
  * @param <T> the class of the events
  */
@@ -25,6 +26,7 @@ public final class Receiver<T> {
     private long shown;
     private long taken;
     private boolean isDrained;
+    private boolean isShowing;
 
     /** The bit of who gives up the whole ring. */
     private static final long WHOLE = Long.MIN_VALUE;
@@ -51,6 +53,9 @@ public final class Receiver<T> {
 
     /** Looks for events where none are in hand, and answers whether it still has none and more may come. */
     private boolean lacks() throws Broken {
+        if (isShowing) {
+            throw new IllegalStateException("a handler receives by its own end");
+        }
         complete(shown);
         if (shown < taken || isDrained) {
             return false;
@@ -86,6 +91,7 @@ public final class Receiver<T> {
         long first = shown;
         long sequence = shown;
         long end = taken;
+        isShowing = true;
         try {
             for (; sequence < end; sequence++) {
                 handler.onEvent(ring.get(sequence), sequence, sequence + 1 == end);
@@ -94,6 +100,8 @@ public final class Receiver<T> {
             complete(sequence);
             shown = sequence + 1;
             throw thrown;
+        } finally {
+            isShowing = false;
         }
         shown = end;
         return (int) (end - first);
