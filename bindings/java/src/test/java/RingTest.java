@@ -118,6 +118,35 @@ public final class RingTest {
         expect(receiver.completed(), 4L);
     }
 
+    private static void aReceiverThatIsClosedBeforeItIsDrainedHaltsTheRing() throws Exception {
+        Ring<Event> ring = ring(4, 0, 1);
+        Sender<Event> sender = ring.senders().get(0);
+        sender.publishEvents(4, RingTest::fill);
+        Throwable thrown = thrown(() -> {
+            try (Receiver<Event> receiver = ring.receivers().get(0)) {
+                receiver.run((event, sequence, endOfBatch) -> {
+                    if (sequence == 2) {
+                        throw new IllegalStateException("the third event");
+                    }
+                });
+            }
+            return null;
+        });
+        expect(thrown.getMessage(), "the third event");
+        refused(Refusal.Reason.HALTED, () -> sender.tryPublishEvents(1, 1, TimeUnit.SECONDS, RingTest::fill));
+        List<Long> seen = new ArrayList<>();
+        expect(thrown(() -> {
+            ring.receivers().get(1).run((event, sequence, endOfBatch) -> seen.add(sequence));
+            return null;
+        }).getClass(), Broken.class);
+        expect(seen, List.of(0L, 1L));
+        Ring<Event> drained = ring(4, 0);
+        try (Receiver<Event> receiver = drained.receivers().get(0)) {
+            drained.senders().get(0).close();
+            receiver.run((event, sequence, endOfBatch) -> {});
+        }
+    }
+
     private static void tooManyHandlersAreRefusedAfterABadSize() {
         for (int handlers : new int[] {17, 65, 1000}) {
             refused(Refusal.Reason.BAD_SIZE, () -> ring(5, new long[handlers]));
@@ -348,6 +377,7 @@ public final class RingTest {
         aFullRingHasNoRoom();
         aBatchGoesOnAfterTheEventAtWhichAHandlerThrew();
         aHandlerThatReceivesByItsOwnEndIsRefused();
+        aReceiverThatIsClosedBeforeItIsDrainedHaltsTheRing();
         tooManyHandlersAreRefusedAfterABadSize();
         aFillingThatThrowsLeavesTheRingInOrder();
         thoseWhoFollowOneThatGaveUpEnd();

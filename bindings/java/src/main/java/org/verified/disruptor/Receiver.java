@@ -12,9 +12,11 @@ import java.util.concurrent.atomic.AtomicLong;
  * handled, and it goes on after it. A handler that receives by its own end meanwhile is refused with an
  * {@link IllegalStateException}.
  *
+ * <p>Until then all others wait for it. Run it in a {@code try (receiver)}, which gives it up where it ends before it is drained.
+ *
  * @param <T> the class of the events
  */
-public final class Receiver<T> {
+public final class Receiver<T> implements AutoCloseable {
     private final Ring<T> ring;
     private final long handle;
     private final long answer;
@@ -84,6 +86,14 @@ public final class Receiver<T> {
     /** Halts the ring for this handler, which goes away before it had every event, so that nobody waits for it. */
     public void giveUp() {
         ring.giveUp(own);
+    }
+
+    /** Gives up where it is not drained. */
+    @Override
+    public void close() {
+        if (!isDrained) {
+            giveUp();
+        }
     }
 
     /** Shows the events that are in hand, and answers how many. */
