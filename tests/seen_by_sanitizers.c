@@ -54,6 +54,7 @@ static uint32_t open(uint64_t size, uint64_t limit, size_t width, const uint64_t
     for (size_t k = 0; k < handlers; k++)
         if (upstreams[k] >> k) return DISRUPTOR_BAD_ORDER;
     if (count < 1 || count > 16) return DISRUPTOR_BAD_PRODUCERS;
+    if (limit == 0 || limit > DISRUPTOR_MAX_LIMIT) return DISRUPTOR_BAD_LIMIT;
     struct ring *ring = calloc(1, sizeof *ring);
     ring->size = size, ring->limit = limit, ring->handlers = handlers, ring->width = width, ring->of_several = of_several;
     memcpy(ring->upstreams, upstreams, handlers * sizeof *upstreams);
@@ -118,6 +119,7 @@ uint32_t disruptor_publish_slots_at(disruptor_sender *sender, size_t senders, ui
     struct end *end = end_of(sender);
     struct ring *ring = end->ring;
     (void)senders;
+    if (end->done == end->begun) return DISRUPTOR_ALREADY_PUBLISHED;
     if (!ring->of_several && lo != end->done) return DISRUPTOR_OUT_OF_ORDER;
     end->done += hi + 1 - lo;
     for (uint64_t s = lo; ring->of_several && s <= hi; s++) atomic_store(&ring->published[s & (ring->size - 1)], s + 1);

@@ -41,7 +41,9 @@ final class Ends {
 
     private static long sumOf(Receiver<Event> receiver) throws Exception {
         long[] sum = new long[1];
-        receiver.run((event, sequence, endOfBatch) -> sum[0] += event.number);
+        try (receiver) {
+            receiver.run((event, sequence, endOfBatch) -> sum[0] += event.number);
+        }
         return sum[0];
     }
 

@@ -28,7 +28,8 @@ def main():
         def add(event, sequence, is_last):
             sums[k] += event.number
 
-        ends.receivers[k].run(add)
+        with ends.receivers[k] as receiver:
+            receiver.run(add)
 
     threads = [threading.Thread(target=handle, args=[k]) for k in range(len(sums))]
     for thread in threads:

@@ -74,6 +74,49 @@ class Ring(unittest.TestCase):
         ends.receivers[1].run(lambda event, sequence, is_last: seen.append(sequence))
         self.assertEqual(seen[9:], list(range(10)))
 
+    def test_what_is_in_hand_after_a_handler_raised_comes_by_the_room_too(self):
+        ends, seen = ends_of(16, [0]), []
+        receiver = ends.receivers[0]
+        send(ends.senders[0], range(10))
+        ends.senders[0].close()
+
+        def handle(event, sequence, is_last):
+            if sequence == 2:
+                raise ValueError("the third event")
+            seen.append((event.number, is_last))
+
+        with self.assertRaises(ValueError):
+            receiver.receive(handle, 0)
+        for no_room in (0, -1):
+            self.refused(Reason.BAD_COUNT, receiver.receive, handle, 0, no_room)
+        self.assertEqual((receiver.completed, receiver.receive(handle, 0, room=2), receiver.completed), (2, 2, 5))
+        self.assertEqual(seen, [(0, False), (1, False), (3, False), (4, True)])
+        batches = []
+        receiver.run_batches(lambda events, first: batches.append((first, len(events))), room=3)
+        self.assertEqual(batches, [(5, 3), (8, 2)])
+
+    def test_a_handler_that_receives_by_its_own_end_is_refused(self):
+        ends, seen = ends_of(4, [0]), []
+        receiver = ends.receivers[0]
+        send(ends.senders[0], range(3))
+
+        def handle(event, sequence, is_last):
+            seen.append((event.number, sequence))
+            with self.assertRaisesRegex(RuntimeError, "a handler receives by its own end"):
+                receiver.receive(handle, 0)
+
+        def handle_batch(events, first):
+            seen.append((len(events), first))
+            receiver.run_batches(handle_batch)
+
+        self.assertEqual((receiver.receive(handle, 0), receiver.progress()), (3, (3, 3)))
+        send(ends.senders[0], [3, 4])
+        with self.assertRaisesRegex(RuntimeError, "a handler receives by its own end"):
+            receiver.run_batches(handle_batch)
+        send(ends.senders[0], [5])
+        self.assertEqual((receiver.receive(handle, 0), receiver.progress()), (1, (6, 6)))
+        self.assertEqual(seen, [(0, 0), (1, 1), (2, 2), (2, 3), (5, 5)])
+
     def test_a_filling_that_raises_leaves_the_ring_in_order(self):
         ends, seen = ends_of(4, [0]), []
         with self.assertRaises(ValueError), ends.senders[0].event():
@@ -93,6 +136,27 @@ class Ring(unittest.TestCase):
         # (the sender closed the ring then)
         ends.receivers[0].run(lambda event, sequence, is_last: None)
         self.assertTrue(ends.receivers[0].is_drained)
+
+    def test_a_receiver_whose_with_ends_before_it_is_drained_halts_the_ring(self):
+        ends = ends_of(4, [0, 1])
+        send(ends.senders[0], range(4))
+
+        def fail(event, sequence, is_last):
+            if sequence == 2:
+                raise ValueError("the third event")
+
+        with self.assertRaises(ValueError), ends.receivers[0] as receiver:
+            receiver.run(fail)
+        self.refused(Reason.HALTED, ends.senders[0].event(timeout=1).__enter__)
+        seen = []
+        with self.assertRaises(Broken), ends.receivers[1] as receiver:
+            receiver.run(lambda event, sequence, is_last: seen.append(sequence))
+        self.assertEqual(seen, [0, 1])
+        drained = ends_of(4, [0])
+        with drained.receivers[0] as receiver:
+            drained.senders[0].close()
+            receiver.run(fail)
+        self.assertEqual(drained.cut(1), ends_of(4, [0]).cut(1))
 
     def test_graphs_are_refused_by_name(self):
         def one():
@@ -177,6 +241,23 @@ class Ring(unittest.TestCase):
             sender.events(2).__enter__()
             threading.Thread(target=sender.halt).start()
         self.assertEqual((seen, disruptor.completed("sees")), ([0, 1, 2, 3], 4))
+
+    def test_a_ring_that_ends_leaves_the_claim_of_another_thread_to_it(self):
+        filling, seen = threading.Event(), []
+
+        def fill(sender):
+            with sender.event() as event:
+                event.number = 1
+                filling.set()
+                time.sleep(0.03)
+                event.number = 2
+
+        disruptor = Disruptor(4, Event).handle("sees", lambda event, sequence, is_last: seen.append(event.number))
+        with self.assertRaises(KeyboardInterrupt), disruptor.senders(1) as senders:
+            threading.Thread(target=fill, args=senders).start()
+            filling.wait()
+            raise KeyboardInterrupt
+        self.assertEqual(seen, [2])
 
     def test_an_interrupt_right_after_a_claim_leaves_none_open(self):
         ends = ends_of(4, [0])

@@ -129,10 +129,10 @@ class Sender(_End):
     def __init__(self, ends: Ends, handle: int):
         super().__init__(ends, handle)
         # (the claim that is not published, where there is one: the library writes its first sequence there)
-        self._lo, self._n = ctypes.c_uint64(_NO_SEQUENCE), 0
+        self._lo, self._n, self._claimer = ctypes.c_uint64(_NO_SEQUENCE), 0, 0
         self._lo_at, self._waiting = ctypes.addressof(self._lo), Waiting(ends.bell)
-        # (how many events it published, which any thread may read)
-        self.published = 0
+        # (how many events it published, which any thread may read, and how many before its last claim)
+        self.published = self._published_before = 0
 
     def slots_to_claim(self) -> Events | Records:
         """The slots, where no claim is open."""
@@ -144,6 +144,7 @@ class Sender(_End):
         """The first of n sequences, once there is room."""
         deadline = None if timeout is None else time.monotonic() + timeout
         self._n = n = number_or(0, n)
+        self._claimer, self._published_before = threading.get_ident(), self.published
         while True:
             number = LIBRARY.disruptor_claim_at(self._handle, 1, n, self._lo_at, 1)
             if not number:
@@ -162,10 +163,18 @@ class Sender(_End):
         """Publishes the claim that is open, where there is one: at the end of its `with`, or where an interrupt kept that from it."""
         lo = self._lo.value
         if lo != _NO_SEQUENCE:
-            check(LIBRARY.disruptor_publish_slots_at(self._handle, 1, lo, lo + self._n - 1))
+            number = LIBRARY.disruptor_publish_slots_at(self._handle, 1, lo, lo + self._n - 1)
+            # (an interrupt may come after the publication too, so each step may be made again)
+            if number and number != Reason.ALREADY_PUBLISHED:
+                raise Refusal(number)
+            self.published = self._published_before + self._n
             self._lo.value = _NO_SEQUENCE
-            self.published += self._n
             self._ends.bell.ring()
+
+    def publish_own_claim(self) -> None:
+        """The same for a claim of the thread that asks; that of another thread is published at the end of its own `with`."""
+        if self._claimer == threading.get_ident():
+            self.publish_claim()
 
     def event(self, timeout: float | None = None) -> _Claim:
         """The next event, once there is room, for a `with` that fills it: `with sender.event() as order: order.price = 3`.
@@ -199,7 +208,9 @@ class Receiver(_End):
     """The end of a handler, for one thread, which is shown every event after those that it follows had it.
 
     Where the handler raises, the events before the one at which it did are completed. If it is run again, that one counts as
-    handled, and it goes on after it.
+    handled, and it goes on after it. A handler that receives by its own end meanwhile is refused with RuntimeError.
+
+    Until then all others wait for it. Run it in `with receiver:`, which gives it up where it ends before it is drained.
     """
 
     def __init__(self, ends: Ends, handle: int, place: int, upstreams: int):
@@ -209,7 +220,7 @@ class Receiver(_End):
         self._offer_at = ctypes.addressof(self._offer)
         # (how many events it completed, which any thread may read)
         self.completed = self._shown = self._taken = 0
-        self.is_drained = False
+        self.is_drained = self._is_showing = False
 
     def _complete(self, upto: int) -> None:
         if upto != self.completed:
@@ -217,12 +228,22 @@ class Receiver(_End):
             self.completed = upto
             self._ends.bell.ring()
 
-    def _take(self, room: int | None, deadline: float | None = None) -> bool:
-        """Has the next events in hand, once there are any, or answers False where none come any more, or none came in time."""
+    def _take(self, room: int | None, deadline: float | None = None) -> int:
+        """How many events to show next, `room` at most, once there are any, or 0 where none come any more, or none came in time."""
+        if self._is_showing:
+            raise RuntimeError("a handler receives by its own end")
+        size = self._ends.slots.size
+        room = size if room is None else min(number_or(0, room), size)
+        if not room:
+            raise Refusal(Reason.BAD_COUNT)
         self._complete(self._shown)
-        if self._shown < self._taken:
-            return True
-        room = min(room or self._ends.slots.size, self._ends.slots.size)
+        # (some are in hand still where a handler raised)
+        if self._shown == self._taken and not self._poll(room, deadline):
+            return 0
+        return min(room, self._taken - self._shown)
+
+    def _poll(self, room: int, deadline: float | None) -> bool:
+        """Has the next events in hand, once there are any, or answers False where none come any more, or none came in time."""
         while True:
             # (it asks for its cut before it looks, so that it misses no event)
             cut = self._ends.cut(self._upstreams)
@@ -243,34 +264,49 @@ class Receiver(_End):
         """Halts the ring for this handler, which goes away before it had every event, so that nobody waits for it."""
         self._ends.give_up(self._own)
 
-    def _show(self, handle: Callable[[Any, int, bool], object]) -> int:
-        first, last = self._shown, self._taken - 1
+    def __enter__(self) -> Receiver:
+        return self
+
+    def __exit__(self, *raised: object) -> None:
+        if not self.is_drained:
+            self.give_up()
+
+    def _show(self, handle: Callable[[Any, int, bool], object], count: int) -> int:
+        last = self._shown + count - 1
         try:
-            for event in self._ends.slots.each(first, self._taken - first):
+            self._is_showing = True
+            for event in self._ends.slots.each(self._shown, count):
                 handle(event, self._shown, self._shown == last)
                 self._shown += 1
         except BaseException:
             self._complete(self._shown)
             self._shown += 1
             raise
+        finally:
+            self._is_showing = False
         self._complete(self._shown)
-        return self._shown - first
+        return count
 
     def run(self, handle: Callable[[Any, int, bool], object], room: int | None = None) -> None:
-        """Shows `handle(event, sequence, is_last_of_batch)` every event until the ring is drained."""
-        while self._take(room):
-            self._show(handle)
+        """Shows `handle(event, sequence, is_last_of_batch)` every event until the ring is drained, `room` at most in a batch."""
+        while count := self._take(room):
+            self._show(handle, count)
 
     def receive(self, handle: Callable[[Any, int, bool], object], timeout: float, room: int | None = None) -> int:
-        """Shows the next events, once there are any, and completes them. It answers how many: none where none came within `timeout`
-        seconds, and ten milliseconds more at most, or where the ring is drained (`is_drained`)."""
-        return self._show(handle) if self._take(room, time.monotonic() + timeout) else 0
+        """Shows the next events, `room` at most, once there are any, and completes them. It answers how many: none where none came
+        within `timeout` seconds, and ten milliseconds more at most, or where the ring is drained (`is_drained`)."""
+        return self._show(handle, self._take(room, time.monotonic() + timeout))
 
     def run_batches(self, handle: Callable[[Any, int], object], room: int | None = None) -> None:
         """Shows `handle(events, first_sequence)` every batch until the ring is drained: a list, or views of records.
 
         Where it raises, nothing of the batch is completed; it counts as handled if it is run again."""
-        while self._take(room):
-            first, self._shown = self._shown, self._taken
-            handle(self._ends.slots.stretch(first, self._taken - first), first)
+        while count := self._take(room):
+            first = self._shown
+            self._shown += count
+            try:
+                self._is_showing = True
+                handle(self._ends.slots.stretch(first, count), first)
+            finally:
+                self._is_showing = False
             self._complete(self._shown)

@@ -90,18 +90,17 @@ class Disruptor:
                 raise ValueError(f"{name} would change events that another handler reads at the same time")
 
     @staticmethod
-    def _end(ends: Ends, senders: int | None, threads: list[threading.Thread]) -> None:
-        """Closes or halts the ring, and waits for the threads. Where one could not be started, nobody waits for its handler."""
-        started = [thread for thread in threads if thread.ident is not None]
-        if len(started) < len(threads):
+    def _stop(ends: Ends, senders: int | None, threads: list[threading.Thread]) -> None:
+        """Closes or halts the ring, which may be done again. Where a thread could not be started, nobody waits for its handler."""
+        if any(thread.ident is None for thread in threads):
             ends.give_up()
         elif senders is None:
             ends.senders[0].publish_claim()
             ends.senders[0].close()
         else:
+            for sender in ends.senders:
+                sender.publish_own_claim()
             ends.halt()
-        for thread in started:
-            thread.join()
 
     @contextmanager
     def _running(self, senders: int | None) -> Iterator[Ends]:
@@ -130,7 +129,16 @@ class Disruptor:
             if not failed or refusal.reason != Reason.HALTED:
                 raise
         finally:
-            self._end(ends, senders, threads)
+            try:
+                self._stop(ends, senders, threads)
+            except BaseException:
+                # (an interrupt came once more, after one that ended the `with`)
+                self._stop(ends, senders, threads)
+                raise
+            finally:
+                for thread in threads:
+                    if thread.ident is not None:
+                        thread.join()
         if failed:
             raise HandlerFailed(failed[0][0]) from failed[0][1]
 

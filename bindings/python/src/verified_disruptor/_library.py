@@ -48,7 +48,7 @@ class Reason(enum.IntEnum):
 
 
 class Refusal(Exception):
-    """A call was refused, and changed nothing."""
+    """A call was refused, and changed nothing; but a claim that is refused with HALTED closes a ring of one sender."""
 
     def __init__(self, number: int):
         self.reason = Reason(number)

@@ -13,28 +13,30 @@ class Bell:
     """Wakes those that sleep. A thread first says that it sleeps, and then looks once more; who changed something asks afterwards."""
 
     def __init__(self) -> None:
-        self._condition = threading.Condition()
+        # (its own lock is entered in one step, where an interrupt in a condition's `__enter__` would leave it locked)
+        self._lock = threading.Lock()
+        self._condition = threading.Condition(self._lock)
         self._sleepers = self._rings = 0
 
     def ring(self) -> None:
         if self._sleepers:
-            with self._condition:
+            with self._lock:
                 self._rings += 1
                 self._condition.notify_all()
 
     def listen(self) -> int:
-        with self._condition:
+        with self._lock:
             self._sleepers += 1
             return self._rings
 
     def sleep(self, heard: int) -> None:
         """Sleeps until a ring after the listening that answered `heard`, ten milliseconds at most."""
-        with self._condition:
+        with self._lock:
             self._condition.wait_for(lambda: self._rings != heard, _LONGEST_SLEEP)
             self._sleepers -= 1
 
     def stop_listening(self) -> None:
-        with self._condition:
+        with self._lock:
             self._sleepers -= 1
 
 

@@ -25,11 +25,12 @@ static handle *handle_at(jlong address) {
 /* Opens a ring of so many senders, or of one where that is 0, and answers the address of its handles. As much memory lies behind
  * them, for what calls that Java makes itself answer. */
 NATIVE(jlong, open, jlong size, jlong limit, jlongArray upstreams, jint senders) {
-    const size_t handlers = (size_t)(*env)->GetArrayLength(env, upstreams), ends = senders > 0 ? (size_t)senders : 1;
-    uint64_t masks[64];
-    /* (more handlers than this are refused by the ring, whatever their masks) */
-    if (handlers > 64) return -DISRUPTOR_TOO_MANY;
-    jlong given[64];
+    /* (more handlers than 16 are refused by the ring, however many) */
+    enum { MOST = 17 };
+    const jsize there = (*env)->GetArrayLength(env, upstreams);
+    const size_t handlers = there < MOST ? (size_t)there : MOST, ends = senders > 0 ? (size_t)senders : 1;
+    uint64_t masks[MOST];
+    jlong given[MOST];
     (*env)->GetLongArrayRegion(env, upstreams, 0, (jsize)handlers, given);
     for (size_t k = 0; k < handlers; k++) masks[k] = (uint64_t)given[k];
     const size_t bytes = 2 * sizeof(handle) * (ends + handlers + 1);

@@ -99,6 +99,61 @@ public final class RingTest {
         expect(receiver.completed(), 10L);
     }
 
+    private static void aHandlerThatReceivesByItsOwnEndIsRefused() throws Exception {
+        Ring<Event> ring = ring(4, 0);
+        Receiver<Event> receiver = ring.receivers().get(0);
+        ring.senders().get(0).publishEvents(4, RingTest::fill);
+        List<Long> seen = new ArrayList<>();
+        EventHandler<Event> handler = (event, sequence, endOfBatch) -> {
+            seen.add(sequence);
+            if (sequence == 0) {
+                receiver.receive(0, TimeUnit.SECONDS, (other, itsSequence, isItsEnd) -> seen.add(itsSequence));
+            }
+        };
+        Throwable thrown = thrown(() -> receiver.receive(0, TimeUnit.SECONDS, handler));
+        expect(thrown.getMessage(), "a handler receives by its own end");
+        // (that handler failed at its event)
+        expect(receiver.receive(0, TimeUnit.SECONDS, handler), 3);
+        expect(seen, List.of(0L, 1L, 2L, 3L));
+        expect(receiver.completed(), 4L);
+    }
+
+    private static void aReceiverThatIsClosedBeforeItIsDrainedHaltsTheRing() throws Exception {
+        Ring<Event> ring = ring(4, 0, 1);
+        Sender<Event> sender = ring.senders().get(0);
+        sender.publishEvents(4, RingTest::fill);
+        Throwable thrown = thrown(() -> {
+            try (Receiver<Event> receiver = ring.receivers().get(0)) {
+                receiver.run((event, sequence, endOfBatch) -> {
+                    if (sequence == 2) {
+                        throw new IllegalStateException("the third event");
+                    }
+                });
+            }
+            return null;
+        });
+        expect(thrown.getMessage(), "the third event");
+        refused(Refusal.Reason.HALTED, () -> sender.tryPublishEvents(1, 1, TimeUnit.SECONDS, RingTest::fill));
+        List<Long> seen = new ArrayList<>();
+        expect(thrown(() -> {
+            ring.receivers().get(1).run((event, sequence, endOfBatch) -> seen.add(sequence));
+            return null;
+        }).getClass(), Broken.class);
+        expect(seen, List.of(0L, 1L));
+        Ring<Event> drained = ring(4, 0);
+        try (Receiver<Event> receiver = drained.receivers().get(0)) {
+            drained.senders().get(0).close();
+            receiver.run((event, sequence, endOfBatch) -> {});
+        }
+    }
+
+    private static void tooManyHandlersAreRefusedAfterABadSize() {
+        for (int handlers : new int[] {17, 65, 1000}) {
+            refused(Refusal.Reason.BAD_SIZE, () -> ring(5, new long[handlers]));
+            refused(Refusal.Reason.TOO_MANY, () -> ring(4, new long[handlers]));
+        }
+    }
+
     private static void aFillingThatThrowsLeavesTheRingInOrder() throws Exception {
         Ring<Event> ring = ring(4, 0);
         Sender<Event> sender = ring.senders().get(0);
@@ -321,6 +376,9 @@ public final class RingTest {
     public static void main(String[] arguments) throws Exception {
         aFullRingHasNoRoom();
         aBatchGoesOnAfterTheEventAtWhichAHandlerThrew();
+        aHandlerThatReceivesByItsOwnEndIsRefused();
+        aReceiverThatIsClosedBeforeItIsDrainedHaltsTheRing();
+        tooManyHandlersAreRefusedAfterABadSize();
         aFillingThatThrowsLeavesTheRingInOrder();
         thoseWhoFollowOneThatGaveUpEnd();
         graphsAreRefusedByName();

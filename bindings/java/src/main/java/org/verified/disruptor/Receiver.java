@@ -9,11 +9,14 @@ import java.util.concurrent.atomic.AtomicLong;
  * The end of one handler, for one thread, which is shown every event after those that it follows had it.
  *
  * <p>Where the handler throws, the events before the one at which it did are completed. If it is run again, that one counts as
- * handled, and it goes on after it.
+ * handled, and it goes on after it. A handler that receives by its own end meanwhile is refused with an
+ * {@link IllegalStateException}.
+ *
+ * <p>Until then all others wait for it. Run it in a {@code try (receiver)}, which gives it up where it ends before it is drained.
  *
  * @param <T> the class of the events
  */
-public final class Receiver<T> {
+public final class Receiver<T> implements AutoCloseable {
     private final Ring<T> ring;
     private final long handle;
     private final long answer;
@@ -25,6 +28,7 @@ public final class Receiver<T> {
     private long shown;
     private long taken;
     private boolean isDrained;
+    private boolean isShowing;
 
     /** The bit of who gives up the whole ring. */
     private static final long WHOLE = Long.MIN_VALUE;
@@ -51,6 +55,9 @@ public final class Receiver<T> {
 
     /** Looks for events where none are in hand, and answers whether it still has none and more may come. */
     private boolean lacks() throws Broken {
+        if (isShowing) {
+            throw new IllegalStateException("a handler receives by its own end");
+        }
         complete(shown);
         if (shown < taken || isDrained) {
             return false;
@@ -81,11 +88,20 @@ public final class Receiver<T> {
         ring.giveUp(own);
     }
 
+    /** Gives up where it is not drained. */
+    @Override
+    public void close() {
+        if (!isDrained) {
+            giveUp();
+        }
+    }
+
     /** Shows the events that are in hand, and answers how many. */
     private int show(EventHandler<? super T> handler) throws Exception {
         long first = shown;
         long sequence = shown;
         long end = taken;
+        isShowing = true;
         try {
             for (; sequence < end; sequence++) {
                 handler.onEvent(ring.get(sequence), sequence, sequence + 1 == end);
@@ -94,6 +110,8 @@ public final class Receiver<T> {
             complete(sequence);
             shown = sequence + 1;
             throw thrown;
+        } finally {
+            isShowing = false;
         }
         shown = end;
         return (int) (end - first);

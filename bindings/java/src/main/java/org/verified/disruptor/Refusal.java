@@ -1,8 +1,8 @@
 package org.verified.disruptor;
 
 /**
- * A call was refused, and changed nothing. Where that is {@code HALTED} since a handler failed, {@link #getCause} is the
- * {@link HandlerFailed}.
+ * A call was refused, and changed nothing; but a claim that is refused with {@code HALTED} closes a ring of one sender. Where that is
+ * since a handler failed, {@link #getCause} is the {@link HandlerFailed}.
  */
 public final class Refusal extends RuntimeException {
     private static final long serialVersionUID = 1;

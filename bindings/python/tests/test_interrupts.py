@@ -1,0 +1,115 @@
+"""An interrupt at each step of the package by which events are claimed and published, and another at each by which the ring ends."""
+
+import gc
+import os
+import sys
+import threading
+import unittest
+import unittest.mock
+
+import verified_disruptor
+from verified_disruptor import Disruptor
+from verified_disruptor._waiting import Waiting
+
+NEVER = 1 << 60
+PACKAGE = os.path.dirname(os.path.abspath(verified_disruptor.__file__))
+
+
+class Event:
+    number = 0
+
+
+class OnceJoined:
+    """In place of a thread: it runs when it is joined, so that one that has to wait then would wait for ever."""
+
+    ident = None
+
+    def __init__(self, target, args, name):
+        self.join = lambda: target(*args)
+
+    def start(self):
+        self.ident = 1
+
+
+class Interrupt:
+    """Comes at one step of a call: where a function of the package begins or ends, or at a line of it."""
+
+    def __init__(self, step):
+        self._steps_left = step
+
+    def _trace(self, frame, event, argument):
+        if not frame.f_code.co_filename.startswith(PACKAGE):
+            return None
+        self._steps_left -= 1
+        if self._steps_left == -1:
+            raise KeyboardInterrupt
+        return self._trace
+
+    def came(self):
+        return self._steps_left < 0
+
+    def during(self, call, *arguments):
+        # (else it might come where an earlier ring is let go)
+        gc.disable()
+        sys.settrace(self._trace)
+        try:
+            return call(*arguments)
+        finally:
+            sys.settrace(None)
+            gc.enable()
+
+
+def send(sender):
+    for number in range(2):
+        with sender.event() as event:
+            event.number = number
+
+
+class Interrupts(unittest.TestCase):
+    def setUp(self):
+        self.wait = unittest.mock.Mock(side_effect=TimeoutError)
+        for patch in (
+            unittest.mock.patch.object(threading, "Thread", OnceJoined),
+            unittest.mock.patch.object(Waiting, "wait", self.wait),
+        ):
+            patch.start()
+            self.addCleanup(patch.stop)
+
+    def run_with(self, of_several, first, second):
+        """Each event that was claimed is published, and the handler has it."""
+        seen, stop = [], Disruptor._stop
+        disruptor = Disruptor(8, Event).handle("sees", lambda event, sequence, is_last: seen.append(sequence))
+        with unittest.mock.patch.object(Disruptor, "_stop", staticmethod(lambda *each: second.during(stop, *each))):
+            try:
+                with disruptor.senders(2) if of_several else disruptor.sender() as ends:
+                    sender = ends[0] if of_several else ends
+                    first.during(send, sender)
+            except KeyboardInterrupt:
+                self.assertTrue(first.came() or second.came())
+        self.assertFalse(self.wait.called, "it waits for ever")
+        self.assertEqual(seen, list(range(sender.published)))
+        if not of_several:
+            self.assertEqual(sender.progress(), (sender.published, sender.published))
+
+    def run_with_each_second(self, of_several, first_step):
+        """Whether the first interrupt came. (A second one at each step takes long, so there is none after most of the first)"""
+        first, step = Interrupt(first_step), 0
+        second = Interrupt(0 if first_step % 16 == 0 else NEVER)
+        self.run_with(of_several, first, second)
+        while second.came():
+            step += 1
+            second = Interrupt(step)
+            with self.subTest(of_several=of_several, first=first_step, second=step):
+                self.run_with(of_several, Interrupt(first_step), second)
+        return first.came()
+
+    def test_a_ring_ends_whenever_an_interrupt_comes_and_one_more(self):
+        for of_several in (False, True):
+            step = 0
+            while self.run_with_each_second(of_several, step):
+                step += 1
+            self.assertGreater(step, 40)
+
+
+if __name__ == "__main__":
+    unittest.main()
