@@ -98,11 +98,13 @@ static inline bool disruptor_follows(const disruptor_graph *graph, disruptor_wor
 
 /* Adds a handler, which follows those that `after` names, with a space between two, or none. The name stays where it is. Refusals: BAD_ORDER
  * (one of the names of `after` is none before, or another handler has this name) and TOO_MANY; disruptor_start answers them too. Of the
- * first one graph.at_fault names the handler, and graph.why says why. */
+ * first one graph.at_fault names the handler, and graph.why says why. STILL_OPEN: the graph has started; once it is finished it may
+ * have more. */
 static inline uint32_t disruptor_add(disruptor_graph *graph, const disruptor_work *added, const char *after) {
     disruptor_work work = *added;
     uint32_t refused = DISRUPTOR_BAD_ORDER;
     const char *why = NULL;
+    if (graph->started) return disruptor_at_fault(graph, DISRUPTOR_STILL_OPEN, work.name, "the graph has started");
     if (graph->handlers == DISRUPTOR_MOST_HANDLERS) why = "there are 16 handlers before it", refused = DISRUPTOR_TOO_MANY;
     else if (disruptor_place_of(graph, work.name, strlen(work.name)) < graph->handlers) why = "another handler has this name";
     else if (!disruptor_follows(graph, &work, after ? after : "")) why = "it follows a name that no handler before it has";

@@ -221,6 +221,23 @@ static void who_follows_two_has_what_both_completed_up_to_the_cut(void) {
     EXPECT(followed == 500 && disruptor_completed(&graph, "slow") == 800);
 }
 
+static void a_handler_after_the_start_is_refused(void) {
+    uint64_t lo, counted = 0, late = 0;
+    disruptor_graph graph = DISRUPTOR_GRAPH(events);
+    disruptor_handle(&graph, "counts", counts, &counted, NULL);
+    for (uint64_t round = 0; round < 2; round++) {
+        EXPECT(disruptor_start(&graph) == DISRUPTOR_OK);
+        EXPECT(disruptor_handle(&graph, "late", counts, &late, "counts") == DISRUPTOR_STILL_OPEN);
+        EXPECT(is_at_fault(&graph, "late", "the graph has started"));
+        EXPECT(disruptor_next(&graph, 1, &lo) == DISRUPTOR_OK && disruptor_send(&graph, lo, 1) == DISRUPTOR_OK);
+        EXPECT(disruptor_finish(&graph) == 0 && counted == round + 1 && late == 0);
+    }
+    /* (once it is finished it may have more) */
+    EXPECT(disruptor_handle(&graph, "late", counts, &late, "counts") == DISRUPTOR_OK);
+    EXPECT(disruptor_start(&graph) == DISRUPTOR_OK);
+    EXPECT(disruptor_next(&graph, 1, &lo) == DISRUPTOR_OK && disruptor_finish(&graph) == 0 && late == 1);
+}
+
 static disruptor_graph stopped;
 static bool is_over;
 
@@ -281,6 +298,7 @@ int main(void) {
     who_follows_two_has_what_both_completed_up_to_the_cut();
     a_handler_whose_thread_ends_halts_the_ring();
     a_graph_that_failed_may_be_started_again();
+    a_handler_after_the_start_is_refused();
     a_graph_may_be_stopped_at_any_time();
     a_handler_may_keep_its_thread_on_a_processor();
     puts("each test passed");
