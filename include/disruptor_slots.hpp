@@ -114,7 +114,7 @@ public:
             return polled(found);
         };
         slots<T> &events = slots_of(slots_);
-        return show(take, [&](std::uint64_t s) -> T & { return events.at(s); }, handle);
+        return show(room, take, [&](std::uint64_t s) -> T & { return events.at(s); }, handle);
     }
     // The same, once there are events: what it finds when the time is up, or at its cut where a handler that it follows went away, may
     // be none. It may take ten milliseconds more, where it sleeps.
