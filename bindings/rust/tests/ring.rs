@@ -106,6 +106,23 @@ fn a_panic_at_the_last_event_of_a_batch_is_gone_on_from() {
 }
 
 #[test]
+fn what_a_handler_that_panicked_left_comes_by_the_room_too() {
+    let (mut sender, mut receivers, _halter) = open(&plan(16, &[0]), || 0u64).unwrap();
+    let receiver = &mut receivers[0];
+    sender.try_publish_batch(10, |_| ()).unwrap();
+    assert!(catch_unwind(AssertUnwindSafe(|| receiver.receive(10, |_, s, _| assert!(s < 2)))).is_err());
+    // (a refused call changes nothing)
+    assert_eq!(receiver.receive(0, |_, _, _| ()), Err(Refusal::BadCount));
+    assert_eq!(receiver.progress(), Counts { begun: 10, done: 2 });
+    let mut seen = Vec::new();
+    assert_eq!(receiver.receive(2, |_, s, is_last| seen.push((s, is_last))), Ok(Polled::Handled(2)));
+    assert_eq!(receiver.progress(), Counts { begun: 10, done: 5 });
+    assert_eq!(receiver.receive_mut(3, |_, s, is_last| seen.push((s, is_last))), Ok(Polled::Handled(3)));
+    assert_eq!(receiver.receive(u64::MAX, |_, s, is_last| seen.push((s, is_last))), Ok(Polled::Handled(2)));
+    assert_eq!(seen, [(3, false), (4, true), (5, false), (6, false), (7, true), (8, false), (9, true)]);
+}
+
+#[test]
 fn a_receiver_that_is_dropped_halts_the_ring() {
     let (mut sender, mut receivers, _halter) = open(&plan(4, &[0, 1]), || 0u64).unwrap();
     let mut second = receivers.pop().unwrap();
