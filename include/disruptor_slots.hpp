@@ -268,10 +268,18 @@ private:
 };
 
 // A ring of one sender whose handlers run. When it is finished or goes away the ring is closed, and it waits until each handler had
-// every event. One thread uses it, but any may halt it or ask what is completed.
+// every event. One thread uses it, but any may halt it or ask what is completed. Its sender cannot be moved out of it, since the handlers
+// end once that closes the ring.
 template <typename T>
-class running : public sender_in_place<T> {
+class running : private sender_in_place<T> {
 public:
+    using sender_in_place<T>::publish;
+    using sender_in_place<T>::publish_batch;
+    using sender_in_place<T>::try_publish_batch;
+    using sender_in_place<T>::try_publish_batch_for;
+    using sender_in_place<T>::watched;
+    using sender_in_place<T>::progress;
+    using sender_in_place<T>::close;
     running(sender_in_place<T> sender, disruptor::halter halter, handlers threads)
         : sender_in_place<T>(std::move(sender)), halter_(std::move(halter)), threads_(std::move(threads)) {}
     running(running &&) = default;

@@ -135,6 +135,12 @@ void a_handler_that_receives_by_its_own_end_is_refused() {
     EXPECT((seen == numbers{0, 1, 2}));
 }
 
+// A run is its own sender for good: it ends by closing it.
+template <typename Run>
+constexpr bool gives_its_sender_away = std::is_convertible<Run &, disruptor::sender_in_place<int> &>::value
+                                       || std::is_constructible<disruptor::sender_in_place<int>, Run>::value;
+static_assert(!gives_its_sender_away<disruptor::running<int>>, "else its end waits for ever");
+
 void a_filler_that_throws_leaves_the_ring_in_order() {
     auto ring = disruptor::open_in_place<std::uint64_t>(4, {0});
     EXPECT(thrown<std::runtime_error>([&] { ring.sender.publish([](std::uint64_t &) { throw std::runtime_error("unfilled"); }); }) == "unfilled");
