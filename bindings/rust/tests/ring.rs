@@ -154,6 +154,8 @@ fn graphs_are_refused_by_name() {
     assert_eq!(fault(one().handle_mut("b", |_, _, _| ())), Fault::NotAlone("b".into()));
     assert_eq!(fault(Builder::new(5, || 0).handle("a", |_, _, _| ())), Fault::Refused(Refusal::BadSize));
     assert_eq!(fault(Builder::new(4, || 0)), Fault::Refused(Refusal::NoHandlers));
+    let many = (0..65).fold(Builder::new(4, || 0), |all, k| all.handle(&k.to_string(), |_, _, _| ()));
+    assert_eq!(fault(many.after(["64"]).handle("c", |_, _, _| ())), Fault::Refused(Refusal::TooMany));
     for senders in [0, 17, usize::MAX] {
         assert_eq!(one().build_several(senders).err(), Some(Fault::Refused(Refusal::BadProducers)));
     }
