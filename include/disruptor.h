@@ -4,7 +4,8 @@
  * but the openings and disruptor_free takes memory or gives it back.
  *
  * Each call that lists refusals answers DISRUPTOR_OK or the number of one (DISRUPTOR_REFUSALS): the first for which there is
- * cause. A refused call changes nothing; at most it has looked at what other ends stored.
+ * cause. A refused call changes nothing; at most it has looked at what other ends stored, and one of disruptor_publish_slots has
+ * counted sequences as written.
  *
  * What you owe. Of these nothing can be checked, so a program that breaks one of them is undefined:
  *   - A handle is all zeros before it is first opened (DISRUPTOR_NEW), only calls change it, and it is never copied: its
@@ -206,8 +207,9 @@ static inline uint32_t disruptor_open_bytes(uint64_t size, uint64_t limit, size_
  *   - each handler whose batch has it, from the poll by disruptor_poll_slots until it completes it. All may read it. A handler may
  *     also change it, if each other one comes before it or after it in the graph: those after it see all that it wrote;
  *   - before its first claim, and once all ends are freed, who opened the ring.
- * Nobody else touches it meanwhile: that is proved of cell k of the ring, for each k. That cell k is element k of your array is an
- * argument, since no contract speaks of memory that the library never sees; that you keep to this is up to you. In memory each
+ * Nobody else touches it meanwhile: that is proved of cell k of the ring, for each k, where handlers only read. That one which changes
+ * it has it alone is argued: no handler takes more than those before it completed, which is proved. So is that cell k is element k of
+ * your array, since no contract speaks of memory that the library never sees; that you keep to this is up to you. In memory each
  * hand-over is ordered by sequentially consistent words of the library.
  *
  * All other calls are the same. Refusals: those of disruptor_open, and of disruptor_open_several. */
@@ -329,15 +331,16 @@ static inline uint32_t disruptor_halt(disruptor_halter *halter) {
 
 /* Says in *count how far the senders came: of one how many events it published, of several how many sequences they claimed. Any
  * thread may ask at any time, as of the calls of a halter one at a time. It is what the ring's word held at a moment of the call, and
- * never less than an earlier call said. Refusals: BAD_POINTER (of either), NOT_OPEN, WRONG_END (also the halter of a ring whose events
- * are two words); then *count stays as it was. */
+ * never less than an earlier call said. Refusals: BAD_POINTER (of either), NOT_OPEN, WRONG_END (also the halter of a ring of one sender
+ * whose events are two words); then *count stays as it was. */
 static inline uint32_t disruptor_cursor(disruptor_halter *halter, uint64_t *count) {
     return disruptor_cursor_at(DISRUPTOR_ONE(disruptor_halter, halter), DISRUPTOR_ONE(uint64_t, count));
 }
 
 /* Says in *count how many events a handler completed, as disruptor_cursor does. So the handler with the least count is behind, and the
- * ring has as many free slots as its size plus the least count of the final handlers, less what is claimed. Refusals: those of
- * disruptor_cursor, and NO_HANDLER. */
+ * ring has as many free slots as its size plus the least count of the final handlers, less the cursor. The numbers are of different
+ * moments: ask the cursor first, and take the size where that is less. Of one sender, what it claimed beyond the cursor is not free
+ * either. Refusals: those of disruptor_cursor, and NO_HANDLER. */
 static inline uint32_t disruptor_completed_by(disruptor_halter *halter, size_t handler, uint64_t *count) {
     return disruptor_completed_at(DISRUPTOR_ONE(disruptor_halter, halter), handler, DISRUPTOR_ONE(uint64_t, count));
 }

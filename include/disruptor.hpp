@@ -295,7 +295,8 @@ public:
 
 // The end of a handler, which is shown every event after those that it follows had it. Where the handler throws, the events before
 // the one at which it did are completed, and what it threw passes. If it is run again, that one counts as handled, and it goes on
-// after it. A receiver that goes away before it is drained halts the ring.
+// after it. One that receives by its own end is refused: std::logic_error is thrown in it. A receiver that goes away before it is
+// drained halts the ring.
 class receiving : public end<disruptor_receiver> {
 public:
     using end::end;
@@ -329,25 +330,31 @@ protected:
         is_drained_ = found.kind == DISRUPTOR_DRAINED;
         return found;
     }
-    // Shows `handle(at(sequence), sequence, is_last_of_batch)` the next events, and completes them: what a handler that threw left,
-    // or else what `poll()` takes.
+    // Shows `handle(at(sequence), sequence, is_last_of_batch)` the next events, `room` at most, and completes them: what a handler that
+    // threw left, or else what `poll()` takes.
     template <typename Poll, typename At, typename Handler>
-    offer show(Poll &&poll, At &&at, Handler &&handle) {
+    offer show(std::uint64_t room, Poll &&poll, At &&at, Handler &&handle) {
+        if (!shared_) throw refusal(DISRUPTOR_NOT_OPEN);
+        if (is_showing_) throw std::logic_error("a handler receives by its own end");
+        if (room == 0) throw refusal(DISRUPTOR_BAD_COUNT);
         if (std::exchange(has_thrown_, false)) complete(next_);
         if (next_ == taken_) {
             const offer found = poll();
             if (found.kind != DISRUPTOR_BATCH) return found;
             next_ = found.first, taken_ = found.first + found.count, is_at_end_ = found.end;
         }
-        const offer shown = {DISRUPTOR_BATCH, is_at_end_, next_, taken_ - next_};
+        const offer shown = {DISRUPTOR_BATCH, room < taken_ - next_ ? 0 : is_at_end_, next_, std::min(room, taken_ - next_)};
+        const std::uint64_t upto = shown.first + shown.count;
+        is_showing_ = true;
         try {
-            for (; next_ != taken_; next_++) handle(at(next_), next_, next_ + 1 == taken_);
+            for (; next_ != upto; next_++) handle(at(next_), next_, next_ + 1 == upto);
         } catch (...) {
-            has_thrown_ = true;
+            is_showing_ = false, has_thrown_ = true;
             complete(next_++);
             throw;
         }
-        complete(taken_);
+        is_showing_ = false;
+        complete(upto);
         return shown;
     }
     // Takes turns until the ring is drained, and sleeps while none comes. It answers false where it came to its cut.
@@ -380,7 +387,7 @@ private:
     // Of the events that are taken the next one to show, and up to where they go.
     std::uint64_t next_ = 0, taken_ = 0;
     std::uint32_t is_at_end_ = 0;
-    bool has_thrown_ = false, is_drained_ = false;
+    bool is_showing_ = false, has_thrown_ = false, is_drained_ = false;
 };
 
 class receiver : public receiving {
@@ -400,7 +407,7 @@ public:
             first_ = found.first;
             return found;
         };
-        const auto turn = [&] { return show(take, [&](std::uint64_t s) { return events_[s - first_]; }, handle); };
+        const auto turn = [&] { return show(room, take, [&](std::uint64_t s) { return events_[s - first_]; }, handle); };
         if (!take_turns(room, turn)) throw broken();
     }
 
@@ -438,7 +445,7 @@ public:
     template <typename Handler>
     void run(std::uint64_t room, Handler &&handle) {
         const auto take = [&] { return poll(room); };
-        if (!take_turns(room, [&] { return show(take, [&](std::uint64_t s) { return read(s); }, handle); })) throw broken();
+        if (!take_turns(room, [&] { return show(room, take, [&](std::uint64_t s) { return read(s); }, handle); })) throw broken();
     }
 };
 

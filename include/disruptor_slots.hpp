@@ -114,7 +114,7 @@ public:
             return polled(found);
         };
         slots<T> &events = slots_of(slots_);
-        return show(take, [&](std::uint64_t s) -> T & { return events.at(s); }, handle);
+        return show(room, take, [&](std::uint64_t s) -> T & { return events.at(s); }, handle);
     }
     // The same, once there are events: what it finds when the time is up, or at its cut where a handler that it follows went away, may
     // be none. It may take ten milliseconds more, where it sleeps.
@@ -268,10 +268,18 @@ private:
 };
 
 // A ring of one sender whose handlers run. When it is finished or goes away the ring is closed, and it waits until each handler had
-// every event. One thread uses it, but any may halt it or ask what is completed.
+// every event. One thread uses it, but any may halt it or ask what is completed. Its sender cannot be moved out of it, since the handlers
+// end once that closes the ring.
 template <typename T>
-class running : public sender_in_place<T> {
+class running : private sender_in_place<T> {
 public:
+    using sender_in_place<T>::publish;
+    using sender_in_place<T>::publish_batch;
+    using sender_in_place<T>::try_publish_batch;
+    using sender_in_place<T>::try_publish_batch_for;
+    using sender_in_place<T>::watched;
+    using sender_in_place<T>::progress;
+    using sender_in_place<T>::close;
     running(sender_in_place<T> sender, disruptor::halter halter, handlers threads)
         : sender_in_place<T>(std::move(sender)), halter_(std::move(halter)), threads_(std::move(threads)) {}
     running(running &&) = default;

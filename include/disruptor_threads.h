@@ -98,11 +98,13 @@ static inline bool disruptor_follows(const disruptor_graph *graph, disruptor_wor
 
 /* Adds a handler, which follows those that `after` names, with a space between two, or none. The name stays where it is. Refusals: BAD_ORDER
  * (one of the names of `after` is none before, or another handler has this name) and TOO_MANY; disruptor_start answers them too. Of the
- * first one graph.at_fault names the handler, and graph.why says why. */
+ * first one graph.at_fault names the handler, and graph.why says why. STILL_OPEN: the graph has started; once it is finished it may
+ * have more. */
 static inline uint32_t disruptor_add(disruptor_graph *graph, const disruptor_work *added, const char *after) {
     disruptor_work work = *added;
     uint32_t refused = DISRUPTOR_BAD_ORDER;
     const char *why = NULL;
+    if (graph->started) return disruptor_at_fault(graph, DISRUPTOR_STILL_OPEN, work.name, "the graph has started");
     if (graph->handlers == DISRUPTOR_MOST_HANDLERS) why = "there are 16 handlers before it", refused = DISRUPTOR_TOO_MANY;
     else if (disruptor_place_of(graph, work.name, strlen(work.name)) < graph->handlers) why = "another handler has this name";
     else if (!disruptor_follows(graph, &work, after ? after : "")) why = "it follows a name that no handler before it has";
@@ -145,7 +147,7 @@ static inline uint64_t disruptor_completed(const disruptor_graph *graph, const c
     return k < graph->handlers ? __atomic_load_n(&graph->works[k].completed, __ATOMIC_ACQUIRE) : 0;
 }
 
-/* Halts the ring from any thread. */
+/* Halts the ring from any thread, at any time: before the start and after the end there is none to halt. */
 static inline void disruptor_stop(disruptor_graph *graph) {
     pthread_mutex_lock(&graph->lock);
     disruptor_halt(&graph->halter);
@@ -263,7 +265,9 @@ static inline int disruptor_finish(disruptor_graph *graph) {
     graph->started = 0;
     disruptor_free(&graph->sender);
     for (size_t k = 0; k < graph->handlers; k++) disruptor_free(&graph->receivers[k]);
+    pthread_mutex_lock(&graph->lock);
     disruptor_free(&graph->halter);
+    pthread_mutex_unlock(&graph->lock);
     return graph->failure;
 }
 
@@ -277,8 +281,11 @@ static inline uint32_t disruptor_start(disruptor_graph *graph) {
     const char *not_alone = disruptor_not_alone(graph);
     if (not_alone)
         return disruptor_at_fault(graph, DISRUPTOR_BAD_ORDER, not_alone, "it would change events that another handler reads at the same time");
+    /* (another thread may stop it meanwhile) */
+    pthread_mutex_lock(&graph->lock);
     const uint32_t refused = disruptor_open_slots(graph->size, DISRUPTOR_MAX_LIMIT, upstreams, graph->handlers, &graph->sender,
                                                   graph->receivers, graph->handlers, &graph->halter);
+    pthread_mutex_unlock(&graph->lock);
     if (refused) return disruptor_at_fault(graph, refused, "the ring", disruptor_text(refused));
     graph->waiting = disruptor_waits_by(graph->size, &graph->bell);
     graph->failed = NULL, graph->failure = 0, graph->gone = 0;

@@ -3,6 +3,7 @@
 #include <stdio.h>
 #include <stdlib.h>
 #include <threads.h>
+#include <unistd.h>
 
 static void expect(bool holds, const char *what, int line) {
     if (holds) return;
@@ -220,6 +221,48 @@ static void who_follows_two_has_what_both_completed_up_to_the_cut(void) {
     EXPECT(followed == 500 && disruptor_completed(&graph, "slow") == 800);
 }
 
+static void a_handler_after_the_start_is_refused(void) {
+    uint64_t lo, counted = 0, late = 0;
+    disruptor_graph graph = DISRUPTOR_GRAPH(events);
+    disruptor_handle(&graph, "counts", counts, &counted, NULL);
+    for (uint64_t round = 0; round < 2; round++) {
+        EXPECT(disruptor_start(&graph) == DISRUPTOR_OK);
+        EXPECT(disruptor_handle(&graph, "late", counts, &late, "counts") == DISRUPTOR_STILL_OPEN);
+        EXPECT(is_at_fault(&graph, "late", "the graph has started"));
+        EXPECT(disruptor_next(&graph, 1, &lo) == DISRUPTOR_OK && disruptor_send(&graph, lo, 1) == DISRUPTOR_OK);
+        EXPECT(disruptor_finish(&graph) == 0 && counted == round + 1 && late == 0);
+    }
+    /* (once it is finished it may have more) */
+    EXPECT(disruptor_handle(&graph, "late", counts, &late, "counts") == DISRUPTOR_OK);
+    EXPECT(disruptor_start(&graph) == DISRUPTOR_OK);
+    EXPECT(disruptor_next(&graph, 1, &lo) == DISRUPTOR_OK && disruptor_finish(&graph) == 0 && late == 1);
+}
+
+static disruptor_graph stopped;
+static bool is_over;
+
+static void *stops(void *nothing) {
+    while (!__atomic_load_n(&is_over, __ATOMIC_SEQ_CST)) disruptor_stop(&stopped);
+    return nothing;
+}
+
+/* One that stops the graph goes on while that is started and finished. */
+static void a_graph_may_be_stopped_at_any_time(void) {
+    uint64_t lo;
+    pthread_t thread;
+    const disruptor_graph graph = DISRUPTOR_GRAPH(events);
+    stopped = graph;
+    disruptor_handle(&stopped, "none", none, NULL, NULL);
+    EXPECT(pthread_create(&thread, NULL, stops, NULL) == 0);
+    for (int round = 0; round < 100; round++) {
+        EXPECT(disruptor_start(&stopped) == DISRUPTOR_OK);
+        while (!disruptor_next(&stopped, 1, &lo)) disruptor_send(&stopped, lo, 1);
+        EXPECT(disruptor_finish(&stopped) == 0);
+    }
+    __atomic_store_n(&is_over, true, __ATOMIC_SEQ_CST);
+    EXPECT(pthread_join(thread, NULL) == 0);
+}
+
 static void a_deadline_ends_a_wait(void) {
     const uint64_t upstreams[1] = {0}, short_time = 20000000;
     uint64_t lo;
@@ -246,6 +289,7 @@ static void a_deadline_ends_a_wait(void) {
 }
 
 int main(void) {
+    alarm(100);
     a_deadline_ends_a_wait();
     graphs_are_refused();
     each_follows_its_own();
@@ -254,6 +298,8 @@ int main(void) {
     who_follows_two_has_what_both_completed_up_to_the_cut();
     a_handler_whose_thread_ends_halts_the_ring();
     a_graph_that_failed_may_be_started_again();
+    a_handler_after_the_start_is_refused();
+    a_graph_may_be_stopped_at_any_time();
     a_handler_may_keep_its_thread_on_a_processor();
     puts("each test passed");
     return 0;

@@ -2,6 +2,7 @@
 #include <cstdio>
 #include <cstdlib>
 #include <disruptor_slots.hpp>
+#include <unistd.h>
 
 namespace {
 
@@ -94,6 +95,51 @@ void a_batch_goes_on_after_the_event_at_which_a_handler_threw() {
     bytes.sender.close();
     goes_on([&](auto &handle) { bytes.receivers[0].run(16, handle); });
 }
+
+void what_is_left_comes_by_the_room_too() {
+    auto ring = disruptor::open_in_place<std::uint64_t>(16, {0});
+    auto &receiver = ring.receivers[0];
+    ring.sender.publish_batch(10, fill);
+    const auto throws = [](std::uint64_t event, std::uint64_t, bool) {
+        if (event == 2) throw std::runtime_error("the third event");
+    };
+    EXPECT(thrown<std::runtime_error>([&] { receiver.receive(10, throws); }) == "the third event");
+    EXPECT(refused([&] { receiver.receive(0, fill_nothing); }) == DISRUPTOR_BAD_COUNT && receiver.progress().done == 2);
+    numbers seen;
+    const auto see = [&](std::uint64_t event, std::uint64_t, bool is_last) {
+        seen.push_back(event);
+        EXPECT(is_last == (event == 4 || event == 9));
+    };
+    const disruptor::offer some = receiver.receive(2, see);
+    EXPECT(some.first == 3 && some.count == 2 && some.end == 0 && receiver.progress().done == 5);
+    EXPECT(refused([&] { receiver.receive(0, see); }) == DISRUPTOR_BAD_COUNT);
+    auto moved = std::move(receiver);
+    const disruptor::offer rest = moved.receive(16, see);
+    EXPECT(rest.first == 5 && rest.count == 5 && rest.end == 1);
+    EXPECT((seen == numbers{3, 4, 5, 6, 7, 8, 9}));
+}
+
+void a_handler_that_receives_by_its_own_end_is_refused() {
+    auto ring = disruptor::open_in_place<std::uint64_t>(4, {0});
+    auto &receiver = ring.receivers[0];
+    ring.sender.publish_batch(3, fill);
+    numbers seen;
+    const auto receives = [&](std::uint64_t event, std::uint64_t sequence, bool) {
+        EXPECT(event == sequence && sequence < 3);
+        seen.push_back(event);
+        if (event == 0) (void)receiver.receive(4, fill_nothing);
+    };
+    EXPECT(thrown<std::logic_error>([&] { receiver.receive(4, receives); }) == "a handler receives by its own end");
+    // (that handler failed at its event)
+    EXPECT(receiver.receive(4, receives).count == 2);
+    EXPECT((seen == numbers{0, 1, 2}));
+}
+
+// A run is its own sender for good: it ends by closing it.
+template <typename Run>
+constexpr bool gives_its_sender_away = std::is_convertible<Run &, disruptor::sender_in_place<int> &>::value
+                                       || std::is_constructible<disruptor::sender_in_place<int>, Run>::value;
+static_assert(!gives_its_sender_away<disruptor::running<int>>, "else its end waits for ever");
 
 void a_filler_that_throws_leaves_the_ring_in_order() {
     auto ring = disruptor::open_in_place<std::uint64_t>(4, {0});
@@ -313,9 +359,12 @@ void a_deadline_ends_a_wait() {
 } // namespace
 
 int main() {
+    alarm(100);
     a_deadline_ends_a_wait();
     a_full_ring_has_no_room();
     a_batch_goes_on_after_the_event_at_which_a_handler_threw();
+    what_is_left_comes_by_the_room_too();
+    a_handler_that_receives_by_its_own_end_is_refused();
     a_filler_that_throws_leaves_the_ring_in_order();
     a_receiver_that_goes_away_halts_the_ring();
     a_sender_that_goes_away_closes_the_ring_or_gives_it_up();

@@ -121,7 +121,9 @@ impl<T: Send + Sync + 'static> Builder<T> {
         for name in names {
             match self.handlers.iter().position(|handler| handler.name == name) {
                 Some(k) if k < 64 => self.after |= 1 << k,
-                _ => {
+                // (a ring of so many is refused)
+                Some(_) => {}
+                None => {
                     self.fault.get_or_insert(Fault::Unknown(name.to_owned()));
                 }
             }

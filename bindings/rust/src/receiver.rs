@@ -107,6 +107,9 @@ impl<T> Receiver<T> {
 
     /// Takes more events, `room` at most, where a handler that panicked left none to show.
     fn take(&mut self, room: u64) -> Result<Option<Polled>, Refusal> {
+        if room == 0 {
+            return Err(Refusal::BadCount);
+        }
         complete(&mut self.handle, &self.completed, self.shown, &self.ring.bell);
         if self.shown < self.taken {
             return Ok(None);
@@ -128,13 +131,18 @@ impl<T> Receiver<T> {
         })
     }
 
+    /// From where on and up to where events are to be shown that are taken.
+    fn next(&self, room: u64) -> (u64, u64) {
+        (self.shown, self.taken.min(self.shown.saturating_add(room)))
+    }
+
     /// Shows the next events, `room` at most, to `handle(event, sequence, is_last_of_batch)`, and completes them.
     pub fn receive(&mut self, room: u64, handle: impl FnMut(&T, u64, bool)) -> Result<Polled, Refusal> {
         if let Some(found) = self.take(room)? {
             return Ok(found);
         }
-        let Receiver { handle: end, ring, completed, shown, taken, .. } = self;
-        let (at, upto) = (*shown, *taken);
+        let (at, upto) = self.next(room);
+        let Receiver { handle: end, ring, completed, shown, .. } = self;
         // SAFETY: the handler has them in hand until it completes them, and whoever may change them comes before it or after it.
         let (front, back) = unsafe { ring.slots.read(at, upto - at) };
         Ok(Showing { handle: end, bell: &ring.bell, completed, shown, at, upto }.show(front.iter().chain(back), handle))
@@ -169,8 +177,8 @@ impl<T> Receiver<T> {
         if let Some(found) = self.take(room)? {
             return Ok(found);
         }
-        let Receiver { handle: end, ring, completed, shown, taken, .. } = self;
-        let (at, upto) = (*shown, *taken);
+        let (at, upto) = self.next(room);
+        let Receiver { handle: end, ring, completed, shown, .. } = self;
         // SAFETY: the handler has them in hand until it completes them, and no other one has them meanwhile.
         let (front, back) = unsafe { ring.slots.own(at, upto - at) };
         let events = front.iter_mut().chain(back);

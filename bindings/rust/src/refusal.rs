@@ -5,7 +5,8 @@ use std::fmt;
 
 macro_rules! refusals {
     ($($(#[doc = $doc:literal])* $name:ident = $number:literal,)*) => {
-        /// Why a call was refused. A refused call changes nothing.
+        /// Why a call was refused. A refused call changes nothing: it has claimed, shown and completed no event, and not called the
+        /// closure that it was given.
         #[derive(Clone, Copy, Debug, PartialEq, Eq, Hash)]
         #[non_exhaustive]
         pub enum Refusal {

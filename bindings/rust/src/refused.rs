@@ -1,4 +1,4 @@
-//! What the types refuse, as tests: each of these would be unsound. The first is right, and shows that the others fail by their own.
+//! What the types refuse, as tests: each of these would be unsound, but for the last, which would wait for ever. The first is right, and shows that the others fail by their own.
 //!
 //! ```
 //! let plan = verified_disruptor::Plan { size: 4, limit: 4, upstreams: vec![0], wait: Default::default() };
@@ -8,6 +8,10 @@
 //! receivers[0].receive(4, |event, _, _| kept = Some(event.clone())).unwrap();
 //! std::thread::spawn(move || sender.publish(|event| event.push('b')));
 //! std::thread::spawn(move || receivers[0].is_alone());
+//! let run = || verified_disruptor::Builder::new(4, String::new).handle("reads", |_, _, _| ()).build().unwrap();
+//! let (mut one, mut other) = (run(), run());
+//! std::mem::swap(&mut one, &mut other);
+//! one.finish().unwrap();
 //! ```
 //!
 //! A filler keeps an event:
@@ -49,4 +53,12 @@
 //! let plan = verified_disruptor::Plan { size: 4, limit: 4, upstreams: vec![0], wait: Default::default() };
 //! let (mut sender, mut receivers, _halter) = verified_disruptor::open(&plan, String::new).unwrap();
 //! std::thread::scope(|scope| drop(scope.spawn(|| receivers[0].is_alone())));
+//! ```
+//!
+//! A run has the sender of another one:
+//!
+//! ```compile_fail
+//! let run = || verified_disruptor::Builder::new(4, String::new).handle("reads", |_, _, _| ()).build().unwrap();
+//! let (mut one, mut other) = (run(), run());
+//! std::mem::swap(&mut *one, &mut *other);
 //! ```

@@ -1,14 +1,16 @@
 //! A ring whose handlers run.
 
 use crate::builder::{Fault, Handler};
+use crate::ffi::Counts;
 use crate::open::Halter;
 use crate::receiver::{Broken, Receiver};
-use crate::sender::Sender;
+use crate::refusal::Refusal;
+use crate::sender::{Batch, Sender};
 use crate::watch::Watch;
 use std::any::Any;
 use std::fmt;
-use std::ops::{Deref, DerefMut};
 use std::thread::{self, JoinHandle};
+use std::time::Duration;
 
 /// Handlers panicked: each by its name, with what it panicked with. The ring was halted, and nobody who follows one of them was
 /// shown the event at which it panicked.
@@ -86,8 +88,8 @@ pub(crate) fn start<T: Send + Sync + 'static>(
     Ok(threads)
 }
 
-/// A ring whose handlers run. Publish by it, as by its [`Sender`]. When it is finished or dropped the ring is closed, and it waits
-/// until each handler had every event.
+/// A ring whose handlers run. Publish by it, as by a [`Sender`]. When it is finished or dropped the ring is closed, and it waits
+/// until each handler had every event. Its sender cannot be taken out of it, since the handlers end once that closes the ring.
 pub struct Disruptor<T: Send + Sync> {
     sender: Option<Sender<T>>,
     threads: Threads,
@@ -102,6 +104,50 @@ impl<T: Send + Sync> Disruptor<T> {
     fn end(&mut self) -> Result<(), Panicked> {
         self.sender = None;
         self.threads.join()
+    }
+
+    fn sender(&mut self) -> &mut Sender<T> {
+        self.sender.as_mut().expect("it is not ended")
+    }
+
+    /// As [`Sender::publish`].
+    pub fn publish<R>(&mut self, fill: impl FnOnce(&mut T) -> R) -> Result<R, Refusal> {
+        self.sender().publish(fill)
+    }
+
+    /// As [`Sender::try_publish`].
+    pub fn try_publish<R>(&mut self, fill: impl FnOnce(&mut T) -> R) -> Result<R, Refusal> {
+        self.sender().try_publish(fill)
+    }
+
+    /// As [`Sender::publish_batch`].
+    pub fn publish_batch<R>(&mut self, n: u64, fill: impl FnOnce(Batch<'_, T>) -> R) -> Result<R, Refusal> {
+        self.sender().publish_batch(n, fill)
+    }
+
+    /// As [`Sender::publish_batch_timeout`].
+    pub fn publish_batch_timeout<R>(
+        &mut self,
+        n: u64,
+        timeout: Duration,
+        fill: impl FnOnce(Batch<'_, T>) -> R,
+    ) -> Result<R, Refusal> {
+        self.sender().publish_batch_timeout(n, timeout, fill)
+    }
+
+    /// As [`Sender::try_publish_batch`].
+    pub fn try_publish_batch<R>(&mut self, n: u64, fill: impl FnOnce(Batch<'_, T>) -> R) -> Result<R, Refusal> {
+        self.sender().try_publish_batch(n, fill)
+    }
+
+    /// As [`Sender::watch`].
+    pub fn watch(&self) -> Watch {
+        self.sender.as_ref().expect("it is not ended").watch()
+    }
+
+    /// As [`Sender::progress`].
+    pub fn progress(&mut self) -> Result<Counts, Refusal> {
+        self.sender().progress()
     }
 
     /// Closes the ring, and waits until each handler had every event.
@@ -128,20 +174,6 @@ impl<T: Send + Sync> Disruptor<T> {
 impl<T: Send + Sync> Drop for Disruptor<T> {
     fn drop(&mut self) {
         let _ = self.end();
-    }
-}
-
-impl<T: Send + Sync> Deref for Disruptor<T> {
-    type Target = Sender<T>;
-
-    fn deref(&self) -> &Sender<T> {
-        self.sender.as_ref().expect("it is not ended")
-    }
-}
-
-impl<T: Send + Sync> DerefMut for Disruptor<T> {
-    fn deref_mut(&mut self) -> &mut Sender<T> {
-        self.sender.as_mut().expect("it is not ended")
     }
 }
 

@@ -106,6 +106,23 @@ fn a_panic_at_the_last_event_of_a_batch_is_gone_on_from() {
 }
 
 #[test]
+fn what_a_handler_that_panicked_left_comes_by_the_room_too() {
+    let (mut sender, mut receivers, _halter) = open(&plan(16, &[0]), || 0u64).unwrap();
+    let receiver = &mut receivers[0];
+    sender.try_publish_batch(10, |_| ()).unwrap();
+    assert!(catch_unwind(AssertUnwindSafe(|| receiver.receive(10, |_, s, _| assert!(s < 2)))).is_err());
+    // (a refused call changes nothing)
+    assert_eq!(receiver.receive(0, |_, _, _| ()), Err(Refusal::BadCount));
+    assert_eq!(receiver.progress(), Counts { begun: 10, done: 2 });
+    let mut seen = Vec::new();
+    assert_eq!(receiver.receive(2, |_, s, is_last| seen.push((s, is_last))), Ok(Polled::Handled(2)));
+    assert_eq!(receiver.progress(), Counts { begun: 10, done: 5 });
+    assert_eq!(receiver.receive_mut(3, |_, s, is_last| seen.push((s, is_last))), Ok(Polled::Handled(3)));
+    assert_eq!(receiver.receive(u64::MAX, |_, s, is_last| seen.push((s, is_last))), Ok(Polled::Handled(2)));
+    assert_eq!(seen, [(3, false), (4, true), (5, false), (6, false), (7, true), (8, false), (9, true)]);
+}
+
+#[test]
 fn a_receiver_that_is_dropped_halts_the_ring() {
     let (mut sender, mut receivers, _halter) = open(&plan(4, &[0, 1]), || 0u64).unwrap();
     let mut second = receivers.pop().unwrap();
@@ -137,6 +154,8 @@ fn graphs_are_refused_by_name() {
     assert_eq!(fault(one().handle_mut("b", |_, _, _| ())), Fault::NotAlone("b".into()));
     assert_eq!(fault(Builder::new(5, || 0).handle("a", |_, _, _| ())), Fault::Refused(Refusal::BadSize));
     assert_eq!(fault(Builder::new(4, || 0)), Fault::Refused(Refusal::NoHandlers));
+    let many = (0..65).fold(Builder::new(4, || 0), |all, k| all.handle(&k.to_string(), |_, _, _| ()));
+    assert_eq!(fault(many.after(["64"]).handle("c", |_, _, _| ())), Fault::Refused(Refusal::TooMany));
     for senders in [0, 17, usize::MAX] {
         assert_eq!(one().build_several(senders).err(), Some(Fault::Refused(Refusal::BadProducers)));
     }
