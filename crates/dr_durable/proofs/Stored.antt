@@ -107,6 +107,16 @@ module _ {D E A : Type 0} (seen : D → List ℕ) (may_leave : D → List ℕ �
             (HasFirst (records_of seen (writer_of mid).journal) l)) came left);
       }
 
+  -- so it is of the first batches of a run
+  pub run_had_stored : ((file : D) (c : List ℕ) → left_since file (moment file) c → may_leave file c)
+      → (most : ℕ) (start after : A) (events : List E) (went : WentThrough goes most start after events) → length events ≤ most
+      → IsFresh seen may_leave (writer_of start) → (front rest : List (Dealt E)) → went.batches ≡ front ++ rest
+      → HadStored seen may_leave moment left_since writer_of record_of goes start after front rest
+  run_had_stored only_now most start after events went few fresh front rest are =
+      let marked = subst AreMarked are (are_marked most (length events) 0 went.batches few went.order went.polled) in
+      had_stored only_now front rest start after marked fresh
+      (subst (λ (l : List (Dealt E)). GoesThrough goes start (shown_of l) after) are went.through)
+
   module _ {V : Type 0} (value : E → V) (value_in : List ℕ → Option V)
       (back : (old new : A) (event : E) (s : ℕ) (end : Bool) → goes old event s end new → IsWell new
       → value_in (record_of event) ≡ Some (value event)) where

@@ -1,9 +1,5 @@
-use Rattle.std.proofs.Common.{ℕ, List, length, subst}
-use Rattle.dr_meaning.specs.Calls.Handling.{GoesThrough}
-use Rattle.dr_workers.specs.Meaning.Work.{Dealt, shown_of}
 use Rattle.dr_journal.specs.Calls.Writers.{writer_of}
-use Rattle.dr_durable.proofs.Batches.{AreMarked, are_marked}
-use Rattle.dr_durable.proofs.Stored.{had_stored, run_stored}
+use Rattle.dr_durable.proofs.Stored.{run_had_stored, run_stored}
 use Rattle.dr_durable.proofs.what_a_run_stores.Goals as goal
 
 pub returns-clause-all : goal.returns-clause-all
@@ -17,6 +13,5 @@ pub returns-clause-at_each_completion : goal.returns-clause-at_each_completion
 returns-clause-at_each_completion g c most start after events went few fresh front rest are =
     let d = g.D.Device in
     let e = g.E.AsRecord in
-    let marked = subst AreMarked are (are_marked most (length events) 0 went.batches few went.order went.polled) in
-    had_stored d.seen d.may_leave d.moment d.left_since d.faults writer_of (λ event. e.record_of (e.value event)) _ (λ old new event s end goes. goes.0)
-    g.met.D.Device.only_now front rest start after marked fresh (subst (λ (l : List (Dealt g.row.E.Denot)). GoesThrough _ start (shown_of l) after) are went.through)
+    run_had_stored d.seen d.may_leave d.moment d.left_since d.faults writer_of (λ event. e.record_of (e.value event)) _ (λ old new event s end goes. goes.0)
+    g.met.D.Device.only_now most start after events went few fresh front rest are
