@@ -1,5 +1,5 @@
 -- A handler that journals has stored what it was shown of batches, each of which ends with a mark.
-use Rattle.std.proofs.Common.{◌≡◌, ℕ, ◌≤◌, Bool, true, List, [], ◌∷◌, ◌++◌, length, Option, None, Some, map}
+use Rattle.std.proofs.Common.{◌≡◌, ℕ, ◌≤◌, Bool, List, [], ◌∷◌, ◌++◌, length, Option, None, Some, map}
 use Rattle.std.proofs.Common.{refl, sym, ◌∙◌, ap, subst, append-nil}
 use Rattle.std.proofs.lemmas.List.{map-append}
 use Rattle.dr_meaning.specs.Calls.Handling.{GoesThrough, Relation, Showing}

@@ -1,5 +1,5 @@
 -- A day's orders, on the disk and in the book.
-use Rattle.std.proofs.Common.{◌≡◌, ℕ, List, ◌++◌, map, ap, sym, subst, ◌∙◌}
+use Rattle.std.proofs.Common.{◌≡◌, ◌<◌, ◌≤◌, ◌-◌, ◌^◌, ℕ, List, ◌++◌, length, map, ap, arith, sym, ◌∙◌}
 use Rattle.std.specs.Prelude.{Some}
 use Rattle.std.proofs.lemmas.List.{map-append, map-id}
 use Rattle.dr_journal.specs.Calls.Journals.{records_of}
@@ -12,6 +12,10 @@ use Rattle.example_durable.specs.Days.{IsOnDisk}
 use Rattle.example_durable.specs.Orders.{IsBookOf, order_in, order_record}
 use Rattle.example_durable.specs.declared.Day.{Day}
 use Rattle.example_durable.specs.declared.order.Order.{Order}
+
+-- as many orders as a number counts fit into a batch that nothing bounds
+pub fits : (orders : List Order) (n most : ℕ) → n ≡ length orders → n < 2 ^ 64 → most ≡ 2 ^ 64 - 1 → length orders ≤ most
+fits orders n most many few bound = omega arith
 
 -- the journal stored the orders that the book added up
 pub day_after : (before after : Day) (orders : List Order) → (was : IsOnDisk before) → Stores file_seen file_left before.journal after.journal (map order_record orders)

@@ -2,7 +2,7 @@
 //! again. It takes the name of the journal, and without one shows two days over a file that it removes.
 #![tactic(auto)]
 
-ghost use Rattle.std.specs.Prelude.{◌<◌, ◌^◌, ◌-◌, List, length, IfOk};
+ghost use Rattle.std.specs.Prelude.{◌≡◌, ◌≤◌, ℕ, List, length, IfOk};
 ghost use Rattle.dr_disruptor.specs.Handlers.{WentThrough};
 ghost use Rattle.example_durable.specs.Days.{IsOnDisk};
 ghost use Rattle.example_durable.specs.declared.order.Order.{Order};
@@ -40,15 +40,16 @@ fn start(files: &HostRuntime, path: &str) -> Result<Day, Fault>
     Ok(Day { journal, book })
 }
 
-/// Takes a thousand orders through the journal and then the book.
+/// Takes a thousand orders through the journal and then the book, and tells how many were sent.
 fn taken<R: Threads + Wait + Copy + Send + 'static>(
     rt: R,
     alloc: Global,
     graph: &Graph,
     journal: Journaling<FileDevice>,
     book: Book,
-) -> Result<(Journaling<FileDevice>, Book), RunFault>
-    ensures { IfOk result (λ after. (orders : List Order) × (length orders < 2 ^ 64) × WentThrough ⟦<Journaling<FileDevice> as InPlaceHandler<Order>>⟧.goes (2 ^ 64 - 1) journal after.0 orders × WentThrough ⟦<Book as InPlaceHandler<Order>>⟧.goes (2 ^ 64 - 1) book after.1 orders) }
+) -> Result<(Journaling<FileDevice>, Book, u64), RunFault>
+    // Both went through the same orders, of which a batch could have had all.
+    ensures { IfOk result (λ after. (orders : List Order) × (length orders ≡ after.2) × (most : ℕ) × (length orders ≤ most) × WentThrough ⟦<Journaling<FileDevice> as InPlaceHandler<Order>>⟧.goes most journal after.0 orders × WentThrough ⟦<Book as InPlaceHandler<Order>>⟧.goes most book after.1 orders) }
 {
     let size = Size::new(64)?;
     let slots = new_events(alloc, size, || Ok(Order::default()))?;
@@ -66,7 +67,9 @@ fn taken<R: Threads + Wait + Copy + Send + 'static>(
         },
     )?;
     ran.sent?;
-    Ok(ran.handlers)
+    let sent = ran.settled.published();
+    let (journal, book) = ran.handlers;
+    Ok((journal, book, sent))
 }
 
 /// Takes a thousand orders more: each is on the disk before the book has it.
@@ -82,7 +85,7 @@ fn trade<R: Threads + Wait + Copy + Send + 'static>(
 {
     let Day { journal, book } = day;
     let journal = Journaling::new(alloc, journal);
-    let (journal, book) = taken(rt, alloc, graph, journal, book)?;
+    let (journal, book, _sent) = taken(rt, alloc, graph, journal, book)?;
     if let Some(fault) = journal.fault() {
         return Err(Fault::Disk(fault));
     }

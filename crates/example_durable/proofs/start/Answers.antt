@@ -1,4 +1,4 @@
-use Rattle.std.proofs.Common.{◌≡◌, ◌∙◌, ap, subst, map}
+use Rattle.std.proofs.Common.{◌≡◌, ◌∙◌, ap, subst}
 use Rattle.std.proofs.lemmas.List.{map-id}
 use Rattle.dr_journal.specs.Calls.Journals.{bytes_of, records_of}
 use Rattle.dr_journal.specs.Calls.Opened.{file_seen}

@@ -1,4 +1,4 @@
-use Rattle.std.proofs.Common.{◌≡◌, ◌<◌, ◌≤◌, ◌^◌, ◌-◌, List, length, map, sym, ap, subst, arith, ◌∙◌}
+use Rattle.std.proofs.Common.{◌≡◌, map, sym, ap, subst, ◌∙◌}
 use Rattle.std.specs.Prelude.{None}
 use Rattle.dr_journal.specs.Calls.Handling.{Writer}
 use Rattle.dr_journal.specs.Calls.Journals.{IsAtRest}
@@ -20,17 +20,17 @@ returns g c =
     let start = c.new-journal in
     let gave = c.in_ok-journal in
     let orders = gave.ensures.0 in
-    let few : length orders ≤ 2 ^ 64 - 1 = let less = gave.ensures.1 in omega arith in
+    let most = gave.ensures.2 in
     let fresh : IsFresh file_seen file_left (writer_of start.result) = record {
       well = ap (λ (w : Writer FileDevice). w.fault) start.ensures;
       idle = ap (λ (w : Writer FileDevice). w.waiting) start.ensures;
       at_rest = subst (λ (j : Journal FileDevice). IsAtRest file_seen file_left j) (sym (ap (λ (w : Writer FileDevice). w.journal) start.ensures)) was.at_rest;
     } in
-    let none : (writer_of gave.journal).fault ≡ None = ? in
+    let none : (writer_of gave.journal).fault ≡ None = sym c.fault.ensures ∙ c.in_default.is in
     let all = run_stored file_seen file_left _ _ _ writer_of order_record _ (λ old new event s end goes. goes.0) (λ (o : Order). o) order_in
-    (λ old new event s end goes. goes.1) (2 ^ 64 - 1) start.result gave.journal orders gave.ensures.2 few fresh none in
+    (λ old new event s end goes. goes.1) most start.result gave.journal orders gave.ensures.4 gave.ensures.3 fresh none in
     let stores = subst (λ (j : Journal FileDevice). Stores file_seen file_left c.args.day.journal j (map order_record orders)) (sym c.into_journal-journal.ensures.value)
     (subst (λ (j : Journal FileDevice). Stores file_seen file_left j (writer_of gave.journal).journal (map order_record orders))
     (ap (λ (w : Writer FileDevice). w.journal) start.ensures) all.0) in
     day_after c.args.day (record { journal = c.into_journal-journal.result; book = gave.book }) orders was stores all.1
-    (more_booked (2 ^ 64 - 1) c.args.day.book gave.book was.orders orders was.booked gave.ensures.3)
+    (more_booked most c.args.day.book gave.book was.orders orders was.booked gave.ensures.5)
