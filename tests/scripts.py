@@ -18,7 +18,7 @@ from itertools import chain
 
 TOP = os.path.dirname(os.path.dirname(os.path.abspath(__file__)))
 BUILDS = ("", ".by-rattle")
-PROGRAMS = ("disruptor", "disruptor_hostile", "disruptor_waits", "disruptor_bench")
+PROGRAMS = ("disruptor", "disruptor_hostile", "disruptor_waits", "disruptor_bench", "example_durable")
 # What each build is tried with, by the names of programs, the longest first; and what waits for quiet.
 EACH = (
     "tests/hostile/refused.py disruptor disruptor_hostile",
@@ -33,6 +33,7 @@ EACH = (
     "tests/ledger/kill.py disruptor",
     "tests/ledger/cuts.py disruptor",
     "tests/ledger/memory.py disruptor",
+    "tests/durable.py example_durable",
 )
 QUIET = ("tests/progress.py disruptor", "tests/waits.py disruptor_waits disruptor")
 # What LLVM's build alone is tried with, and the tests of scripts, which need none.

@@ -1,0 +1,2 @@
+mod Booking
+mod Trading
