@@ -9,10 +9,10 @@ import unittest.mock
 
 import verified_disruptor
 from verified_disruptor import Disruptor
-from verified_disruptor._waiting import Waiting
+from verified_disruptor._waiting import Bell, Waiting
 
 NEVER = 1 << 60
-PACKAGE = os.path.dirname(os.path.abspath(verified_disruptor.__file__))
+STEPS_IN = (os.path.dirname(os.path.abspath(verified_disruptor.__file__)), threading.__file__)
 
 
 class Event:
@@ -31,18 +31,22 @@ class OnceJoined:
         self.ident = 1
 
 
-class Interrupt:
-    """Comes at one step of a call: where a function of the package begins or ends, or at a line of it."""
+def interrupt():
+    raise KeyboardInterrupt
 
-    def __init__(self, step):
-        self._steps_left = step
+
+class Interrupt:
+    """Comes at one step of a call: where a function of the package or of `threading` begins or ends, or at a line of it."""
+
+    def __init__(self, step, come=interrupt):
+        self._steps_left, self._come = step, come
 
     def _trace(self, frame, event, argument):
-        if not frame.f_code.co_filename.startswith(PACKAGE):
+        if not frame.f_code.co_filename.startswith(STEPS_IN):
             return None
         self._steps_left -= 1
         if self._steps_left == -1:
-            raise KeyboardInterrupt
+            self._come()
         return self._trace
 
     def came(self):
@@ -109,6 +113,42 @@ class Interrupts(unittest.TestCase):
             while self.run_with_each_second(of_several, step):
                 step += 1
             self.assertGreater(step, 40)
+
+
+class Bells(unittest.TestCase):
+    def use(self, bell, it):
+        """What is raised where something comes at a step of the bell's calls, each of which ends, also afterwards."""
+        raised = []
+
+        def work():
+            try:
+                it.during(lambda: (bell.listen(), bell.sleep(bell.listen()), bell.ring()))
+            except BaseException as error:
+                raised.append(type(error))
+            bell.sleep(bell.listen())
+            bell.ring()
+
+        thread = threading.Thread(target=work, daemon=True)
+        thread.start()
+        thread.join(5)
+        self.assertFalse(thread.is_alive(), "it waits for ever")
+        return raised
+
+    def test_an_interrupt_at_any_step_leaves_a_bell_that_rings(self):
+        step, it = 0, Interrupt(0)
+        while self.use(Bell(), it) == [KeyboardInterrupt]:
+            step += 1
+            it = Interrupt(step)
+        self.assertFalse(it.came())
+        self.assertGreater(step, 10)
+
+    def test_the_handler_of_a_signal_rings_at_any_step(self):
+        step, came = 0, True
+        while came:
+            bell = Bell()
+            it = Interrupt(step, bell.ring)
+            self.assertEqual(self.use(bell, it), [])
+            step, came = step + 1, it.came()
 
 
 if __name__ == "__main__":
