@@ -1,6 +1,7 @@
 """An interrupt at each step of the package by which events are claimed and published, and another at each by which the ring ends."""
 
 import gc
+import linecache
 import os
 import sys
 import threading
@@ -8,7 +9,8 @@ import unittest
 import unittest.mock
 
 import verified_disruptor
-from verified_disruptor import Disruptor
+from verified_disruptor import Disruptor, Ends
+from verified_disruptor._slots import Events
 from verified_disruptor._waiting import Bell, Waiting
 
 NEVER = 1 << 60
@@ -63,6 +65,16 @@ class Interrupt:
             gc.enable()
 
 
+class BetweenSteps(Interrupt):
+    """Comes only where Python lets one come in code that calls nothing: where a function begins, or a loop goes round."""
+
+    def _trace(self, frame, event, argument):
+        line = linecache.getline(frame.f_code.co_filename, frame.f_lineno).lstrip()
+        if event == "call" or (event == "line" and line.startswith(("for ", "while "))):
+            return super()._trace(frame, event, argument)
+        return self._trace
+
+
 def send(sender):
     for number in range(2):
         with sender.event() as event:
@@ -113,6 +125,34 @@ class Interrupts(unittest.TestCase):
             while self.run_with_each_second(of_several, step):
                 step += 1
             self.assertGreater(step, 40)
+
+
+class Receipts(unittest.TestCase):
+    def run_with(self, it, run):
+        """A handler has each event once, where it is run again after an interrupt."""
+        ends, seen = Ends(4, lambda size: Events(size, Event), [0]), []
+        receiver = ends.receivers[0]
+        send(ends.senders[0])
+        ends.senders[0].close()
+        try:
+            it.during(run, receiver, seen)
+        except KeyboardInterrupt:
+            self.assertTrue(it.came())
+        run(receiver, seen)
+        self.assertEqual((seen, receiver.progress(), receiver.completed), ([0, 1], (2, 2), 2))
+
+    def test_a_handler_has_each_event_whenever_an_interrupt_comes(self):
+        for run in (
+            lambda receiver, seen: receiver.run(lambda event, sequence, is_last: seen.append(event.number)),
+            lambda receiver, seen: receiver.run_batches(lambda events, first: seen.extend(it.number for it in events)),
+        ):
+            step, came = 0, True
+            while came:
+                it = BetweenSteps(step)
+                with self.subTest(step=step):
+                    self.run_with(it, run)
+                step, came = step + 1, it.came()
+            self.assertGreater(step, 10)
 
 
 class Bells(unittest.TestCase):
