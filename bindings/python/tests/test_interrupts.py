@@ -3,6 +3,7 @@
 import gc
 import linecache
 import os
+import subprocess
 import sys
 import threading
 import unittest
@@ -26,7 +27,7 @@ class OnceJoined:
 
     ident = None
 
-    def __init__(self, target, args, name):
+    def __init__(self, target, args, name, daemon):
         self.join = lambda: target(*args)
 
     def start(self):
@@ -125,6 +126,25 @@ class Interrupts(unittest.TestCase):
             while self.run_with_each_second(of_several, step):
                 step += 1
             self.assertGreater(step, 40)
+
+    def test_a_program_ends_whose_ring_an_interrupt_kept_from_ending(self):
+        program = """
+import contextlib, sys
+from verified_disruptor import Disruptor
+
+class Event: number = 0
+
+def interrupt(frame, event, argument):
+    if frame.f_code is contextlib._GeneratorContextManager.__exit__.__code__: raise KeyboardInterrupt
+
+seen = Disruptor(4, Event).handle("sees", lambda event, sequence, is_last: print(event.number, flush=True))
+with seen.sender() as sender:
+    with sender.event() as event:
+        event.number = 7
+    sys.settrace(interrupt)
+"""
+        ran = subprocess.run([sys.executable, "-c", program], capture_output=True, text=True, timeout=20)
+        self.assertEqual((ran.stdout, ran.stderr.splitlines()[-1]), ("7\n", "KeyboardInterrupt"))
 
 
 class Receipts(unittest.TestCase):
