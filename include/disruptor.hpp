@@ -268,14 +268,14 @@ protected:
         shared_->ring();
     }
     bool has_open_claim() const noexcept { return open_ > 0; }
-
-private:
     void leave() noexcept {
         if (!shared_) return;
         if (has_open_claim()) shared_->give_up();
         else if (disruptor_close(get()) == DISRUPTOR_OK) shared_->ring();
         else shared_->lose_sender();
     }
+
+private:
     // How many sequences are claimed and not published.
     std::uint64_t open_ = 0;
 };

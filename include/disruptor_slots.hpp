@@ -284,9 +284,8 @@ public:
         : sender_in_place<T>(std::move(sender)), halter_(std::move(halter)), threads_(std::move(threads)) {}
     running(running &&) = default;
     running &operator=(running &&) = delete;
-    ~running() {
-        if (this->shared_) disruptor_close(this->get()), this->shared_->ring();
-    }
+    // (its sender leaves first, since the threads are joined before that goes away)
+    ~running() { this->leave(); }
     void halt() { halter_.halt(); }
     // How many events the handler with this name completed, or nothing where none has it. Any thread may ask that at any time.
     [[nodiscard]] std::optional<std::uint64_t> completed(const std::string &name) const { return threads_.completed(name); }

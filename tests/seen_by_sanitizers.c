@@ -117,8 +117,9 @@ uint32_t disruptor_claim_at(disruptor_sender *sender, size_t senders, uint64_t n
 
 uint32_t disruptor_publish_slots_at(disruptor_sender *sender, size_t senders, uint64_t lo, uint64_t hi) {
     struct end *end = end_of(sender);
-    struct ring *ring = end->ring;
     (void)senders;
+    if (!end) return DISRUPTOR_NOT_OPEN;
+    struct ring *ring = end->ring;
     if (end->done == end->begun) return DISRUPTOR_ALREADY_PUBLISHED;
     if (!ring->of_several && lo != end->done) return DISRUPTOR_OUT_OF_ORDER;
     end->done += hi + 1 - lo;

@@ -141,6 +141,16 @@ constexpr bool gives_its_sender_away = std::is_convertible<Run &, disruptor::sen
                                        || std::is_constructible<disruptor::sender_in_place<int>, Run>::value;
 static_assert(!gives_its_sender_away<disruptor::running<int>>, "else its end waits for ever");
 
+void a_run_that_its_own_filler_moves_away_ends() {
+    std::size_t seen = 0;
+    disruptor::builder<std::uint64_t> graph(4);
+    graph.handle("counts", [&](std::uint64_t, std::uint64_t, bool) { seen++; });
+    disruptor::running<std::uint64_t> run = graph.start();
+    run.publish([](std::uint64_t &event) { event = 0; });
+    EXPECT(refused([&] { run.publish([&](std::uint64_t &) { const auto gone = std::move(run); }); }) == DISRUPTOR_NOT_OPEN);
+    EXPECT(seen == 1);
+}
+
 void a_filler_that_throws_leaves_the_ring_in_order() {
     auto ring = disruptor::open_in_place<std::uint64_t>(4, {0});
     EXPECT(thrown<std::runtime_error>([&] { ring.sender.publish([](std::uint64_t &) { throw std::runtime_error("unfilled"); }); }) == "unfilled");
@@ -365,6 +375,7 @@ int main() {
     a_batch_goes_on_after_the_event_at_which_a_handler_threw();
     what_is_left_comes_by_the_room_too();
     a_handler_that_receives_by_its_own_end_is_refused();
+    a_run_that_its_own_filler_moves_away_ends();
     a_filler_that_throws_leaves_the_ring_in_order();
     a_receiver_that_goes_away_halts_the_ring();
     a_sender_that_goes_away_closes_the_ring_or_gives_it_up();

@@ -1,18 +1,21 @@
 """An interrupt at each step of the package by which events are claimed and published, and another at each by which the ring ends."""
 
 import gc
+import linecache
 import os
+import subprocess
 import sys
 import threading
 import unittest
 import unittest.mock
 
 import verified_disruptor
-from verified_disruptor import Disruptor
-from verified_disruptor._waiting import Waiting
+from verified_disruptor import Disruptor, Ends
+from verified_disruptor._slots import Events
+from verified_disruptor._waiting import Bell, Waiting
 
 NEVER = 1 << 60
-PACKAGE = os.path.dirname(os.path.abspath(verified_disruptor.__file__))
+STEPS_IN = (os.path.dirname(os.path.abspath(verified_disruptor.__file__)), threading.__file__)
 
 
 class Event:
@@ -24,25 +27,29 @@ class OnceJoined:
 
     ident = None
 
-    def __init__(self, target, args, name):
+    def __init__(self, target, args, name, daemon):
         self.join = lambda: target(*args)
 
     def start(self):
         self.ident = 1
 
 
-class Interrupt:
-    """Comes at one step of a call: where a function of the package begins or ends, or at a line of it."""
+def interrupt():
+    raise KeyboardInterrupt
 
-    def __init__(self, step):
-        self._steps_left = step
+
+class Interrupt:
+    """Comes at one step of a call: where a function of the package or of `threading` begins or ends, or at a line of it."""
+
+    def __init__(self, step, come=interrupt):
+        self._steps_left, self._come = step, come
 
     def _trace(self, frame, event, argument):
-        if not frame.f_code.co_filename.startswith(PACKAGE):
+        if not frame.f_code.co_filename.startswith(STEPS_IN):
             return None
         self._steps_left -= 1
         if self._steps_left == -1:
-            raise KeyboardInterrupt
+            self._come()
         return self._trace
 
     def came(self):
@@ -57,6 +64,16 @@ class Interrupt:
         finally:
             sys.settrace(None)
             gc.enable()
+
+
+class BetweenSteps(Interrupt):
+    """Comes only where Python lets one come in code that calls nothing: where a function begins, or a loop goes round."""
+
+    def _trace(self, frame, event, argument):
+        line = linecache.getline(frame.f_code.co_filename, frame.f_lineno).lstrip()
+        if event == "call" or (event == "line" and line.startswith(("for ", "while "))):
+            return super()._trace(frame, event, argument)
+        return self._trace
 
 
 def send(sender):
@@ -109,6 +126,89 @@ class Interrupts(unittest.TestCase):
             while self.run_with_each_second(of_several, step):
                 step += 1
             self.assertGreater(step, 40)
+
+    def test_a_program_ends_whose_ring_an_interrupt_kept_from_ending(self):
+        program = """
+import contextlib, sys
+from verified_disruptor import Disruptor
+
+class Event: number = 0
+
+def interrupt(frame, event, argument):
+    if frame.f_code is contextlib._GeneratorContextManager.__exit__.__code__: raise KeyboardInterrupt
+
+seen = Disruptor(4, Event).handle("sees", lambda event, sequence, is_last: print(event.number, flush=True))
+with seen.sender() as sender:
+    with sender.event() as event:
+        event.number = 7
+    sys.settrace(interrupt)
+"""
+        ran = subprocess.run([sys.executable, "-c", program], capture_output=True, text=True, timeout=20)
+        self.assertEqual((ran.stdout, ran.stderr.splitlines()[-1]), ("7\n", "KeyboardInterrupt"))
+
+
+class Receipts(unittest.TestCase):
+    def run_with(self, it, run):
+        """A handler has each event once, where it is run again after an interrupt."""
+        ends, seen = Ends(4, lambda size: Events(size, Event), [0]), []
+        receiver = ends.receivers[0]
+        send(ends.senders[0])
+        ends.senders[0].close()
+        try:
+            it.during(run, receiver, seen)
+        except KeyboardInterrupt:
+            self.assertTrue(it.came())
+        run(receiver, seen)
+        self.assertEqual((seen, receiver.progress(), receiver.completed), ([0, 1], (2, 2), 2))
+
+    def test_a_handler_has_each_event_whenever_an_interrupt_comes(self):
+        for run in (
+            lambda receiver, seen: receiver.run(lambda event, sequence, is_last: seen.append(event.number)),
+            lambda receiver, seen: receiver.run_batches(lambda events, first: seen.extend(it.number for it in events)),
+        ):
+            step, came = 0, True
+            while came:
+                it = BetweenSteps(step)
+                with self.subTest(step=step):
+                    self.run_with(it, run)
+                step, came = step + 1, it.came()
+            self.assertGreater(step, 10)
+
+
+class Bells(unittest.TestCase):
+    def use(self, bell, it):
+        """What is raised where something comes at a step of the bell's calls, each of which ends, also afterwards."""
+        raised = []
+
+        def work():
+            try:
+                it.during(lambda: (bell.listen(), bell.sleep(bell.listen()), bell.ring()))
+            except BaseException as error:
+                raised.append(type(error))
+            bell.sleep(bell.listen())
+            bell.ring()
+
+        thread = threading.Thread(target=work, daemon=True)
+        thread.start()
+        thread.join(5)
+        self.assertFalse(thread.is_alive(), "it waits for ever")
+        return raised
+
+    def test_an_interrupt_at_any_step_leaves_a_bell_that_rings(self):
+        step, it = 0, Interrupt(0)
+        while self.use(Bell(), it) == [KeyboardInterrupt]:
+            step += 1
+            it = Interrupt(step)
+        self.assertFalse(it.came())
+        self.assertGreater(step, 10)
+
+    def test_the_handler_of_a_signal_rings_at_any_step(self):
+        step, came = 0, True
+        while came:
+            bell = Bell()
+            it = Interrupt(step, bell.ring)
+            self.assertEqual(self.use(bell, it), [])
+            step, came = step + 1, it.came()
 
 
 if __name__ == "__main__":

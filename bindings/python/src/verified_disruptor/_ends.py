@@ -237,10 +237,16 @@ class Receiver(_End):
         if not room:
             raise Refusal(Reason.BAD_COUNT)
         self._complete(self._shown)
-        # (some are in hand still where a handler raised)
-        if self._shown == self._taken and not self._poll(room, deadline):
+        # (some are in hand still where a handler raised, or where an interrupt came right after a poll)
+        if self._shown == self._upto() and not self._poll(room, deadline):
             return 0
-        return min(room, self._taken - self._shown)
+        return min(room, self._upto() - self._shown)
+
+    def _upto(self) -> int:
+        """Up to where events are taken: where the last poll took some, the library left in the offer which."""
+        if self._offer.kind == BATCH:
+            self._taken = self._offer.first + self._offer.count
+        return self._taken
 
     def _poll(self, room: int, deadline: float | None) -> bool:
         """Has the next events in hand, once there are any, or answers False where none come any more, or none came in time."""
@@ -250,7 +256,6 @@ class Receiver(_End):
             check(LIBRARY.disruptor_poll_slots_at(self._handle, 1, room, self._offer_at, 1))
             if self._offer.kind == BATCH:
                 self._waiting.found()
-                self._taken = self._offer.first + self._offer.count
                 return True
             self.is_drained = self._offer.kind == DRAINED
             if self.is_drained or (deadline is not None and time.monotonic() >= deadline):
@@ -272,19 +277,21 @@ class Receiver(_End):
             self.give_up()
 
     def _show(self, handle: Callable[[Any, int, bool], object], count: int) -> int:
-        last = self._shown + count - 1
+        done = self._shown
+        last = done + count - 1
         try:
             self._is_showing = True
-            for event in self._ends.slots.each(self._shown, count):
-                handle(event, self._shown, self._shown == last)
-                self._shown += 1
+            for event in self._ends.slots.each(done, count):
+                # (from here on it counts as handled; an interrupt between two events takes none away)
+                self._shown = done + 1
+                handle(event, done, done == last)
+                done += 1
         except BaseException:
-            self._complete(self._shown)
-            self._shown += 1
+            self._complete(done)
             raise
         finally:
             self._is_showing = False
-        self._complete(self._shown)
+        self._complete(done)
         return count
 
     def run(self, handle: Callable[[Any, int, bool], object], room: int | None = None) -> None:
@@ -303,10 +310,11 @@ class Receiver(_End):
         Where it raises, nothing of the batch is completed; it counts as handled if it is run again."""
         while count := self._take(room):
             first = self._shown
+            events = self._ends.slots.stretch(first, count)
             self._shown += count
             try:
                 self._is_showing = True
-                handle(self._ends.slots.stretch(first, count), first)
+                handle(events, first)
             finally:
                 self._is_showing = False
             self._complete(self._shown)

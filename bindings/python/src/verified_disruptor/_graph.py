@@ -2,9 +2,11 @@
 
 from __future__ import annotations
 
+import atexit
 import threading
 from collections.abc import Callable, Iterator
 from contextlib import contextmanager
+from functools import partial
 from typing import Any
 
 from ._ends import Broken, Ends, Receiver, Sender
@@ -102,6 +104,20 @@ class Disruptor:
                 sender.publish_own_claim()
             ends.halt()
 
+    @classmethod
+    def _end(cls, ends: Ends, senders: int | None, threads: list[threading.Thread]) -> None:
+        """Closes or halts the ring, and waits until each handler had every event."""
+        try:
+            cls._stop(ends, senders, threads)
+        except BaseException:
+            # (an interrupt came once more, after one that ended the `with`)
+            cls._stop(ends, senders, threads)
+            raise
+        finally:
+            for thread in threads:
+                if thread.ident is not None:
+                    thread.join()
+
     @contextmanager
     def _running(self, senders: int | None) -> Iterator[Ends]:
         self._check_changes()
@@ -119,8 +135,12 @@ class Disruptor:
                 receiver.give_up()
 
         threads = [
-            threading.Thread(target=work, args=each, name=each[0]) for each in zip(self._names, self._runs, ends.receivers)
+            threading.Thread(target=work, args=each, name=each[0], daemon=True)
+            for each in zip(self._names, self._runs, ends.receivers)
         ]
+        # (an interrupt where the `with` ends may keep this from going on after its `yield`; then the ring ends with the program)
+        end = partial(self._end, ends, senders, threads)
+        atexit.register(end)
         try:
             for thread in threads:
                 thread.start()
@@ -129,16 +149,8 @@ class Disruptor:
             if not failed or refusal.reason != Reason.HALTED:
                 raise
         finally:
-            try:
-                self._stop(ends, senders, threads)
-            except BaseException:
-                # (an interrupt came once more, after one that ended the `with`)
-                self._stop(ends, senders, threads)
-                raise
-            finally:
-                for thread in threads:
-                    if thread.ident is not None:
-                        thread.join()
+            end()
+            atexit.unregister(end)
         if failed:
             raise HandlerFailed(failed[0][0]) from failed[0][1]
 

@@ -10,41 +10,46 @@ _LONGEST_SLEEP = 0.01
 
 
 class Bell:
-    """Wakes those that sleep. A thread first says that it sleeps, and then looks once more; who changed something asks afterwards."""
+    """Wakes those that sleep. A thread first says that it sleeps, and then looks once more; who changed something asks afterwards.
+
+    Each that sleeps has a lock of its own, and who takes it from the list opens it. So no lock is held in a step where an interrupt
+    could leave it locked, or where a signal's handler that rings would wait for its own thread."""
 
     def __init__(self) -> None:
-        # (its own lock is entered in one step, where an interrupt in a condition's `__enter__` would leave it locked)
-        self._lock = threading.Lock()
-        self._condition = threading.Condition(self._lock)
-        self._sleepers = self._rings = 0
+        self._sleepers: list[threading.Lock] = []
 
     def ring(self) -> None:
-        if self._sleepers:
-            with self._lock:
-                self._rings += 1
-                self._condition.notify_all()
+        # (those that come meanwhile look after the change)
+        for _ in range(len(self._sleepers)):
+            try:
+                self._sleepers.pop(0).release()
+            except IndexError:
+                return
 
-    def listen(self) -> int:
-        with self._lock:
-            self._sleepers += 1
-            return self._rings
+    def listen(self) -> threading.Lock:
+        sleeper = threading.Lock()
+        sleeper.acquire()
+        self._sleepers.append(sleeper)
+        return sleeper
 
-    def sleep(self, heard: int) -> None:
-        """Sleeps until a ring after the listening that answered `heard`, ten milliseconds at most."""
-        with self._lock:
-            self._condition.wait_for(lambda: self._rings != heard, _LONGEST_SLEEP)
-            self._sleepers -= 1
+    def sleep(self, sleeper: threading.Lock) -> None:
+        """Sleeps until a ring after the listening that answered `sleeper`, ten milliseconds at most."""
+        sleeper.acquire(timeout=_LONGEST_SLEEP)
+        self.stop_listening(sleeper)
 
-    def stop_listening(self) -> None:
-        with self._lock:
-            self._sleepers -= 1
+    def stop_listening(self, sleeper: threading.Lock) -> None:
+        try:
+            self._sleepers.remove(sleeper)
+        except ValueError:
+            pass
 
 
 class Waiting:
     """Yields the interpreter after each of some looks that find nothing, and then sleeps by the bell."""
 
     def __init__(self, bell: Bell):
-        self._bell, self._looks, self._heard = bell, 0, None
+        self._bell, self._looks = bell, 0
+        self._heard: threading.Lock | None = None
 
     def wait(self) -> None:
         if self._looks < _YIELDING_LOOKS:
@@ -58,5 +63,5 @@ class Waiting:
     def found(self) -> None:
         self._looks = 0
         if self._heard is not None:
+            self._bell.stop_listening(self._heard)
             self._heard = None
-            self._bell.stop_listening()
