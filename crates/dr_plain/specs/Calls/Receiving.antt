@@ -21,6 +21,9 @@ use Rattle.dr_plain.specs.Calls.Ends.{ReceiverEnd, received_of, receiver_place}
 use Rattle.dr_runs.specs.Polls.{PollLooks, offer}
 
 module _ {T : Type 0} where
+  abbrev pub ups_of : ReceiverRecord T → List ℕ
+  ups_of r = upstreams_of r.plan.upstreams r.number
+
   -- what a receiver knows once it has looked so
   abbrev pub looked_round : ReceiverRecord T → PollLooks → ReceiverRecord T
   looked_round r seen = record r {

@@ -16,6 +16,9 @@ use Rattle.dr_ring.specs.Calls.Ends.{ReceiverEnd, received_of, receiver_place}
 use Rattle.dr_runs.specs.Looks.{look, count_looks}
 use Rattle.dr_runs.specs.Polls.{PollLooks, offer}
 
+abbrev pub ups_of : ReceiverRecord → List ℕ
+ups_of r = upstreams_of r.plan.upstreams r.number
+
 -- a receiver knows all of its own tests
 abbrev pub tests_of_poll : ReceiverRecord → ℕ → PollTests Verdict
 tests_of_poll r room = record (poll_tests (Some (received_of r)) room) { retired = Exactly false }

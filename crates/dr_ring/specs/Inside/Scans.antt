@@ -1,12 +1,11 @@
--- What the loops of the ends' calls come to.
-use Rattle.std.specs.Prelude.{◌≡◌, ◌≢◌, ℕ, ◌+◌, ◌<◌, ◌≤◌, ◌⊎◌, true, List, [], ◌++◌, length, slice_index, Option, Some, None, Contains}
-use Rattle.dr_graph.specs.Meaning.Graph.{upstreams_of, finals}
+-- What the sender's looks come to, as a claim goes on.
+use Rattle.std.specs.Prelude.{◌≡◌, ℕ, ◌+◌, ◌<◌, ◌≤◌, ◌⊎◌, List, [], ◌++◌, length, slice_index, Option, Some, None}
+use Rattle.dr_graph.specs.Meaning.Graph.{finals}
 use Rattle.dr_ring.specs.Meaning.Shape.{Shape}
-use Rattle.dr_runs.specs.Words.{cursor_word, count_word}
+use Rattle.dr_runs.specs.Words.{count_word}
 use Rattle.dr_runs.specs.declared.look.Look.{Look}
 use Rattle.dr_ring.specs.declared.record.SenderRecord.{SenderRecord}
-use Rattle.dr_ring.specs.declared.record.ReceiverRecord.{ReceiverRecord}
-use Rattle.dr_runs.specs.Looks.{last_look, offered_by, count_looks}
+use Rattle.dr_runs.specs.Looks.{last_look, count_looks}
 use Rattle.dr_meaning.specs.Calls.Ends.{with_claimed}
 use Rattle.dr_ring.specs.Inside.Fits.{IsSeenLeast}
 
@@ -46,26 +45,3 @@ pub record IsShort (k : Shape) (xs : List Look) (needed : ℕ) : Type 0 where
 abbrev pub Scans : SenderRecord → ℕ → SenderRecord → Option ℕ → Type 0
 Scans r need r' (Some least) = (seen : List Look) × LooksAtFinals r seen r' × IsEnough r seen need least
 Scans r need r' None = (seen : List Look) × LooksAtFinals r seen r' × IsShort r.plan seen need
-
--- a receiver has made these looks more
-abbrev pub receiver_saw : ReceiverRecord → List Look → ReceiverRecord
-receiver_saw r seen = record r { looks = r.looks ++ seen }
-
-abbrev pub ups_of : ReceiverRecord → List ℕ
-ups_of r = upstreams_of r.plan.upstreams r.number
-
--- so many events are offered to a receiver, as far as it saw
-pub record IsOfferedUpTo (r : ReceiverRecord) (upto : ℕ) : Type 0 where
-  pub completed : (u : ℕ) → Contains (ups_of r) u → upto ≤ last_look 0 r.looks (count_word u)
-  pub published : ups_of r ≡ [] → upto ≤ last_look 0 r.looks cursor_word
-
--- a receiver looked at each upstream's count
-pub record LooksAtUpstreams (r : ReceiverRecord) (cursor : ℕ) (r' : ReceiverRecord) (available : ℕ) : Type 0 where
-  pub counts : List ℕ
-  pub each : length counts ≡ length (ups_of r)
-  pub is : r' ≡ receiver_saw r (count_looks (ups_of r) counts)
-  pub offered : available ≡ offered_by cursor counts
-  pub taken : length r.received ≤ available
-  pub found : ups_of r ≢ [] → Contains counts available
-  pub completed : (u : ℕ) → Contains (ups_of r) u → available ≤ last_look 0 (r.looks ++ count_looks (ups_of r) counts) (count_word u)
-  pub told : r.told ≡ true → ups_of r ≢ [] → available ≤ length r.received
