@@ -25,7 +25,7 @@ use Rattle.dr_ring.specs.Meaning.Settling.{FoundUnhalted}
 use Rattle.dr_ring.specs.Meaning.Shape.{Shape}
 use Rattle.dr_ring.specs.Calls.Ends.{SenderEnd, SenderPlace, sender_place}
 use Rattle.dr_ring.specs.Calls.Sending.{ClosesOnceDone, LooksToClaim, gate_looks, tests_of_claim}
-use Rattle.dr_ring.specs.Calls.Telling.{sender_does}
+use Rattle.dr_ring.specs.Calls.Inlets.{sender_does}
 
 pub claims : (a b : SenderEnd) (n : ℕ) (answer : Result Claimed Trouble) → sender_does a (TriesClaim n answer) b
     → Claims n answer a.knows.sent b.knows.sent × GivesStretch n answer

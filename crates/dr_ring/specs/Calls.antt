@@ -5,6 +5,7 @@ pub mod Ends
 pub mod Finds
 pub mod Sending
 pub mod Receiving
-pub mod Telling
+pub mod Inlets
+pub mod Outlets
 pub mod Making
 pub mod Replies

@@ -5,7 +5,7 @@ ghost use Rattle.dr_meaning.specs.Calls.Ends.{IsEndsAnswer, PollAnswers, Complet
 ghost use Rattle.dr_ring.specs.Calls.Ends.{receiver_place, received_of};
 ghost use Rattle.dr_runs.specs.Looks.{looks_counted};
 ghost use Rattle.dr_ring.specs.Calls.Receiving.{PollCall, CompleteCall};
-ghost use Rattle.dr_ring.specs.Calls.Telling.{receiver_does};
+ghost use Rattle.dr_ring.specs.Calls.Outlets.{receiver_does};
 
 use crate::laws::ReceiverStation;
 use dr_meaning::{Outlet, Polled, Refusal, Trouble};

@@ -6,8 +6,8 @@ ghost use Rattle.dr_meaning.specs.Calls.Ends.{IsEndsAnswer, ClaimAnswers, WriteA
 ghost use Rattle.dr_ring.specs.Calls.Ends.{sender_place};
 ghost use Rattle.dr_ring.specs.Meaning.Records.{claimed as claimed_by};
 ghost use Rattle.dr_runs.specs.Looks.{looks_counted};
-ghost use Rattle.dr_ring.specs.Calls.Sending.{ClaimCall, WriteCall, WriteAllCall, PublishCall, CloseCall, ClosesOnceDone};
-ghost use Rattle.dr_ring.specs.Calls.Telling.{sender_does};
+ghost use Rattle.dr_ring.specs.Calls.Sending.{ClaimCall, WriteCall, PublishCall, CloseCall, ClosesOnceDone};
+ghost use Rattle.dr_ring.specs.Calls.Inlets.{sender_does, WriteAllCall};
 
 use crate::laws::SenderStation;
 use dr_meaning::{Claimed, Inlet, Refusal, Trouble, Wrote};
