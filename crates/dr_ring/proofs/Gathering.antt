@@ -25,7 +25,8 @@ use Rattle.dr_ring.specs.Meaning.Moments.{new_world, picture_of, Runs}
 use Rattle.dr_ring.specs.Meaning.Stores.{stores_of_sender, stores_of_receiver}
 use Rattle.dr_ring.specs.Meaning.Settling.{FoundUnhalted, Settles}
 use Rattle.dr_ring.specs.Inside.Seats.{Sitting, ring_ends, exchange, as_sender, as_halter, IsSender, IsHalter}
-use Rattle.dr_ring.specs.Inside.Stations.{sender_end, halter_end, sender_known, receiver_known, halter_known, halters_known}
+use Rattle.dr_ring.specs.Inside.Stations.{sender_end, halter_end}
+use Rattle.dr_ring.specs.Inside.Gathering.{sender_known, receiver_known, halter_known, halters_known}
 use Rattle.dr_ring.specs.Calls.Ends.{SenderEnd, ReceiverEnd, HalterEnd}
 use Rattle.dr_ring.specs.Calls.Settling.{AreReceiversOf, AreOfOneRun, HasRun}
 use Rattle.dr_ring.proofs.Seats.{kept_of}

@@ -30,7 +30,7 @@ use Rattle.dr_ring.specs.Meaning.Steps.{Happens}
 use Rattle.dr_ring.specs.Meaning.Moments.{Runs, picture_of}
 use Rattle.dr_ring.specs.Calls.Receiving.{AnswersAsSeen}
 use Rattle.dr_runs.specs.Polls.{PollLooks, offer, handed}
-use Rattle.dr_ring.specs.Calls.Replies.{HandsWhatWasThere}
+use Rattle.dr_ring.specs.Calls.Handing.{HandsWhatWasThere}
 use Rattle.dr_runs.proofs.Elements.{at_below}
 use Rattle.dr_ring.proofs.Keeps.{word_at, inside_of}
 use Rattle.dr_runs.proofs.Completions.{count_at, upstream_inside}

@@ -9,3 +9,4 @@ pub mod Inlets
 pub mod Outlets
 pub mod Making
 pub mod Replies
+pub mod Handing

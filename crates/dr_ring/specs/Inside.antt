@@ -6,3 +6,4 @@ pub mod Noted
 pub mod Fits
 pub mod Scans
 pub mod Polling
+pub mod Gathering

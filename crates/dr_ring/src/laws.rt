@@ -23,7 +23,8 @@ ghost use Rattle.dr_ring.specs.Meaning.Records.{claimed};
 ghost use Rattle.dr_ring.specs.Meaning.Rule.{World, KeepsRule};
 ghost use Rattle.dr_ring.specs.declared.record.Step.{Step};
 ghost use Rattle.dr_ring.specs.Meaning.Moments.{Runs, new_world, picture_of, WereTold};
-ghost use Rattle.dr_ring.specs.Calls.Replies.{RepliesAsAnswered, HandsWhatWasThere};
+ghost use Rattle.dr_ring.specs.Calls.Replies.{RepliesAsAnswered};
+ghost use Rattle.dr_ring.specs.Calls.Handing.{HandsWhatWasThere};
 
 use crate::plan::Plan;
 use crate::record::View;

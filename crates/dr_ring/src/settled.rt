@@ -6,7 +6,7 @@ ghost use Rattle.std.specs.Arc.{arc_value};
 ghost use Rattle.dr_ring.specs.Inside.Seats.{IsAtTable, ring_ends};
 ghost use Rattle.dr_ring.specs.Meaning.Records.{claimed as claimed_of};
 ghost use Rattle.dr_runs.specs.Gathering.{Gathers, counts_at};
-ghost use Rattle.dr_ring.specs.Inside.Stations.{AreOfRing, halters_known, receiver_known};
+ghost use Rattle.dr_ring.specs.Inside.Gathering.{AreOfRing, halters_known, receiver_known};
 ghost use Rattle.dr_ring.specs.Meaning.Settling.{FoundUnhalted, Settles};
 ghost use Rattle.dr_ring.specs.Calls.Settling.{AreAllEnds, AreOfOneRun, AreReceiversOf, HasRun, handler_counts};
 

@@ -2,7 +2,7 @@ use Rattle.std.proofs.Common.{◌≡◌, ◌<◌, ◌∷◌, length, set, arith,
 use Rattle.dr_runs.specs.Gathering.{IsInView}
 use Rattle.dr_runs.proofs.Gathering.{last_of, in_own, gathering_more, gathering_all, filled_more, filled_all}
 use Rattle.dr_ring.specs.Inside.Seats.{Sitting, ring_ends, as_receiver}
-use Rattle.dr_ring.specs.Inside.Stations.{receiver_known}
+use Rattle.dr_ring.specs.Inside.Gathering.{receiver_known}
 use Rattle.dr_ring.specs.declared.record.ReceiverRecord.{ReceiverRecord}
 use Rattle.dr_ring.specs.Calls.Ends.{ReceiverEnd}
 use Rattle.dr_ring.proofs.settled.gather.Goals as goal

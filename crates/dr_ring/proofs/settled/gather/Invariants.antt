@@ -1,7 +1,7 @@
 use Rattle.std.proofs.Common.{◌≡◌, List}
 use Rattle.dr_runs.proofs.Gathering.{Gathering, Filled}
 use Rattle.dr_ring.specs.Inside.Seats.{ring_ends}
-use Rattle.dr_ring.specs.Inside.Stations.{receiver_known}
+use Rattle.dr_ring.specs.Inside.Gathering.{receiver_known}
 use Rattle.dr_ring.specs.Calls.Ends.{ReceiverEnd}
 use Rattle.dr_ring.specs.Calls.Settling.{handler_counts}
 use Rattle.dr_ring.proofs.settled.gather.Given as goal

@@ -1,7 +1,7 @@
 use Rattle.std.proofs.Common.{Option, ap, subst, sym}
 use Rattle.dr_runs.specs.Gathering.{Gathers}
 use Rattle.dr_ring.specs.Inside.Seats.{Sitting, ring_ends}
-use Rattle.dr_ring.specs.Inside.Stations.{halters_known}
+use Rattle.dr_ring.specs.Inside.Gathering.{halters_known}
 use Rattle.dr_ring.specs.Calls.Ends.{HalterEnd}
 use Rattle.dr_ring.proofs.Gathering.{halter_comes}
 use Rattle.dr_ring.proofs.settled.gather_halter.Goals as goal
