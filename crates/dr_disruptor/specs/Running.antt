@@ -36,7 +36,7 @@ new_receivers ring k = map (at_ring ring) (fresh_receivers k 0 (handlers_of k))
 -- each handler was shown what the receiver at its place took, in polls with so much room, and came back at its place
 abbrev pub AreServedBack : {E A : Type 0} → Relation E A → ℕ → List (ReceiverEnd E) → List A → List (ReceiverEnd E) → List A → Type 0
 AreServedBack goes most ends starts outlets handlers =
-    CameBackServed receiver_place received_of (λ e. e.knows.told) (λ e n. SawPublished e.knows n) does_in_place goes most ends starts outlets handlers
+    CameBackServed receiver_place (λ e. received_of e.knows) (λ e. e.knows.told) (λ e n. SawPublished e.knows n) does_in_place goes most ends starts outlets handlers
 
 -- a receiver took and completed all that was published
 abbrev pub HasAll : {E : Type 0} → SenderEnd E → ReceiverEnd E → Type 0

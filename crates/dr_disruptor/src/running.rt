@@ -89,7 +89,7 @@ fn begin<
     way: Way,
 ) -> Result<(Sender<E>, Vec<Worker<Receiver<E>, H>>), AllocError>
     requires many { length receivers.items ≡ length handlers.items }
-    requires idle { All (λ e. IsIdle (received_of e)) receivers.items }
+    requires idle { All (λ e. IsIdle (received_of e.knows)) receivers.items }
     requires batch { 0 < way.batch }
     ensures sender { IfOk result (λ r. r.0 ≡ sender) }
     ensures ends { IfOk result (λ r. map given_end r.1.items ≡ receivers.items) }
@@ -129,7 +129,7 @@ fn wind_up<R: Threads + Wait + Copy, E: Drop, H: InPlaceHandler<E> + Drop>(
     requires ends { AreAllEnds live (map given_end workers.items) }
     requires halter { IsHalterOf live halter }
     requires unhalted { halter.knows.halted ≡ false }
-    requires fresh { (h : _) (e : ReceiverEnd E) → get_elem? (map given_end workers.items) h ≡ some e → (received_of e).events ≡ [] }
+    requires fresh { (h : _) (e : ReceiverEnd E) → get_elem? (map given_end workers.items) h ≡ some e → (received_of e.knows).events ≡ [] }
     requires batches { AreInBatches batch workers.items }
     ensures through { IfOk result (λ r. AllWentThrough H.goes batch (events_of live.knows.published) (map given_handler workers.items) r.0.items) }
     ensures served { IfOk result (λ r. AreServedBack H.goes batch (map given_end workers.items) (map given_handler workers.items) r.1.receivers.value.items r.0.items) }

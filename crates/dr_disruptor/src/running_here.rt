@@ -37,7 +37,7 @@ fn wind_up_here<R: Wait + Copy, E: Drop, H: InPlaceHandler<E> + Drop>(
     requires ends { AreAllEnds live.sender live.ends }
     requires halter { IsHalterOf live.sender halter }
     requires unhalted { halter.knows.halted ≡ false }
-    requires fresh { (h : _) (e : ReceiverEnd E) → get_elem? live.ends h ≡ some e → (received_of e).events ≡ [] }
+    requires fresh { (h : _) (e : ReceiverEnd E) → get_elem? live.ends h ≡ some e → (received_of e.knows).events ≡ [] }
     ensures through { IfOk result (λ r. AllWentThrough H.goes live.batch (events_of live.sender.knows.published) live.starts r.0.items) }
     ensures served { IfOk result (λ r. AreServedBack H.goes live.batch live.ends live.starts r.1.receivers.value.items r.0.items) }
     ensures settled { IfOk result (λ r. AreSettled live.sender r.1 r.2) }

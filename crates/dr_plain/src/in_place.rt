@@ -76,7 +76,7 @@ impl<T> InPlaceOutlet for Receiver<T> {
 
     ghost kept = { receiver_place };
 
-    ghost received = { received_of };
+    ghost received = { λ e. received_of e.knows };
 
     ghost told = { λ e. e.knows.told };
 

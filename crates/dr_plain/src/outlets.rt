@@ -32,7 +32,7 @@ impl<T: Copy> Outlet<T> for Receiver<T> {
 
     ghost kept = { receiver_place };
 
-    ghost received = { λ e. Some (received_of e) };
+    ghost received = { λ e. Some (received_of e.knows) };
 
     ghost told = { λ e. e.knows.told };
 
@@ -40,9 +40,9 @@ impl<T: Copy> Outlet<T> for Receiver<T> {
 
     fn poll_into(&mut self, out: &mut [T]) -> Result<Polled, Trouble>
         ensures kept { receiver_place self.new ≡ receiver_place self.old }
-        ensures answer { PollAnswers (Some (received_of self.old)) out.old out.new result }
+        ensures answer { PollAnswers (Some (received_of self.old.knows)) out.old out.new result }
         ensures told { self.new.knows.told ≡ (self.old.knows.told || is_drained result) }
-        ensures received { Takes out.new result (received_of self.old) (received_of self.new) }
+        ensures received { Takes out.new result (received_of self.old.knows) (received_of self.new.knows) }
         ensures own { IsEndsAnswer (PollIntoCall self.old out.old self.new out.new) result }
     {
         let _taken = &self.taken;
@@ -56,9 +56,9 @@ impl<T: Copy> Outlet<T> for Receiver<T> {
 
     fn complete(&mut self, upto: u64) -> Result<(), Trouble>
         ensures kept { receiver_place self.new ≡ receiver_place self.old }
-        ensures answer { CompleteAnswers (Some (received_of self.old)) upto result }
+        ensures answer { CompleteAnswers (Some (received_of self.old.knows)) upto result }
         ensures told { self.new.knows.told ≡ self.old.knows.told }
-        ensures received { Completes upto result (received_of self.old) (received_of self.new) }
+        ensures received { Completes upto result (received_of self.old.knows) (received_of self.new.knows) }
         ensures own { IsEndsAnswer (CompleteCall self.old upto self.new) result }
     {
         Ok(Receiver::complete(self, upto)?)

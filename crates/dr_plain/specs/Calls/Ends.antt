@@ -72,5 +72,5 @@ module _ {T : Type 0} where
   abbrev pub sent_of : SenderEnd T → Sent T
   sent_of e = record { published = events_of e.knows.published; pending = e.writes }
 
-  abbrev pub received_of : ReceiverEnd T → Received T
-  received_of e = record { events = events_of e.knows.received; completed = e.knows.completed }
+  abbrev pub received_of : ReceiverRecord T → Received T
+  received_of r = record { events = events_of r.received; completed = r.completed }

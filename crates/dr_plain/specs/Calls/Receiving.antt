@@ -59,7 +59,7 @@ module _ {T : Type 0} where
   abbrev pub TriesToComplete : ReceiverEnd T → ℕ → ReceiverEnd T → Result (Unit {0}) Refusal → Type 0
   TriesToComplete e n e' result =
       IsAnswerOf (complete_causes (tests_of_completion e.knows n)) (as_end result)
-      × Completes n (as_end result) (received_of e) (received_of e') × (e'.knows ≡ record e.knows { completed = e'.knows.completed })
+      × Completes n (as_end result) (received_of e.knows) (received_of e'.knows) × (e'.knows ≡ record e.knows { completed = e'.knows.completed })
 
   -- a receiver reads the event of a sequence that it took and did not complete, and of no other
   abbrev pub ReadsInHand : ReceiverRecord T → ℕ → T → Type 0
