@@ -25,10 +25,9 @@ use Rattle.dr_runs.specs.Looks.{look, last_look, offered_by, count_looks}
 use Rattle.dr_plain.specs.Meaning.Rule.{World, KeepsRule}
 use Rattle.dr_plain.specs.Meaning.Steps.{Happens, next_of}
 use Rattle.dr_plain.specs.Meaning.Moments.{Runs, picture_of}
-use Rattle.dr_plain.specs.Meaning.Replies.{LooksAt, OffersWhatWasThere}
 use Rattle.dr_plain.specs.Calls.Receiving.{AnswersAsSeen}
 use Rattle.dr_runs.specs.Polls.{PollLooks, offer, handed}
-use Rattle.dr_plain.specs.Calls.Handing.{HandsWhatWasThere}
+use Rattle.dr_plain.specs.Calls.Handing.{HandsWhatWasThere, LooksAt, OffersWhatWasThere}
 use Rattle.dr_runs.proofs.Elements.{at_below}
 use Rattle.dr_plain.proofs.Keeps.{word_at}
 use Rattle.dr_plain.proofs.Beginning.{keeps_step}

@@ -23,9 +23,8 @@ ghost use Rattle.dr_plain.specs.Meaning.Records.{claimed};
 ghost use Rattle.dr_plain.specs.Meaning.Rule.{World, KeepsRule};
 ghost use Rattle.dr_plain.specs.declared.record.Step.{Step};
 ghost use Rattle.dr_plain.specs.Meaning.Moments.{Runs, new_world, picture_of, WereTold};
-ghost use Rattle.dr_plain.specs.Meaning.Replies.{picture_with, open_writes, OffersWhatWasThere};
-ghost use Rattle.dr_plain.specs.Calls.Replies.{RepliesAsAnswered};
-ghost use Rattle.dr_plain.specs.Calls.Handing.{HandsWhatWasThere};
+ghost use Rattle.dr_plain.specs.Calls.Replies.{RepliesAsAnswered, picture_with, open_writes};
+ghost use Rattle.dr_plain.specs.Calls.Handing.{HandsWhatWasThere, OffersWhatWasThere};
 
 use crate::plan::Plan;
 use crate::record::View;

@@ -1,13 +1,13 @@
 -- What each call of a receiver answers, and what it leaves of what the receiver knows.
 use Rattle.std.specs.Prelude.{◌≡◌, ◌↔◌, ℕ, ◌+◌, ◌-◌, ◌<◌, ◌≤◌, ◌⊎◌, ◌==◌, ◌&&◌, ◌||◌, IsTrue, true, false, min, List, []}
-use Rattle.std.specs.Prelude.{◌∷◌, ◌++◌, length, Result, Ok, Err, Contains}
+use Rattle.std.specs.Prelude.{◌∷◌, ◌++◌, length, Some, Result, Ok, Err, Contains}
 use mathlib.Core.Option.{some}
 use lib.ListN.{get_elem?}
 use Rattle.dr_meaning.specs.declared.refusal.Refusal.{Refusal}
 use Rattle.dr_meaning.specs.declared.command.Polled.{Polled}
 use Rattle.dr_meaning.specs.declared.command.Polled.TheVariants.{Batch, Drained, Gating, Idle}
-use Rattle.dr_meaning.specs.Meaning.Refusals.{poll_causes, complete_causes}
-use Rattle.dr_meaning.specs.Calls.Ends.{IsAnswerOf, Completes, as_end}
+use Rattle.dr_meaning.specs.Meaning.Refusals.{PollTests, CompleteTests, poll_causes, complete_causes}
+use Rattle.dr_meaning.specs.Calls.Ends.{Verdict, Exactly, IsAnswerOf, poll_tests, complete_tests, Completes, as_end}
 use Rattle.dr_graph.specs.Meaning.Graph.{upstreams_of}
 use Rattle.dr_runs.specs.Runs.{IsBeginning, StoresWhereOk}
 use Rattle.dr_runs.specs.Words.{cursor_word, closed_word}
@@ -16,13 +16,19 @@ use Rattle.dr_plain.specs.declared.record.ReceiverRecord.{ReceiverRecord}
 use Rattle.dr_plain.specs.declared.record.Step.TheVariants.{ReceiverCompletes}
 use Rattle.dr_plain.specs.Meaning.Records.{events_of}
 use Rattle.dr_runs.specs.Looks.{look, count_looks}
-use Rattle.dr_plain.specs.Meaning.Replies.{tests_of_poll, tests_of_completion}
 use Rattle.dr_plain.specs.Calls.Ends.{ReceiverEnd, received_of, receiver_place}
 use Rattle.dr_runs.specs.Polls.{PollLooks, offer}
 
 module _ {T : Type 0} where
   abbrev pub ups_of : ReceiverRecord T → List ℕ
   ups_of r = upstreams_of r.plan.upstreams r.number
+
+  -- a receiver knows all of its own tests
+  abbrev pub tests_of_poll : ReceiverRecord T → ℕ → PollTests Verdict
+  tests_of_poll r room = record (poll_tests (Some (received_of r)) room) { retired = Exactly false }
+
+  abbrev pub tests_of_completion : ReceiverRecord T → ℕ → CompleteTests Verdict
+  tests_of_completion r upto = record (complete_tests (Some (received_of r)) upto) { retired = Exactly false }
 
   -- what a receiver knows once it has looked so
   abbrev pub looked_round : ReceiverRecord T → PollLooks → ReceiverRecord T

@@ -20,9 +20,8 @@ use Rattle.dr_plain.specs.Meaning.Rule.{World, KeepsRule}
 use Rattle.dr_plain.specs.declared.record.SenderRecord.{SenderRecord}
 use Rattle.dr_plain.specs.declared.record.Step.{Step}
 use Rattle.dr_plain.specs.Calls.Sending.{gate_looks, LooksToClaim}
-use Rattle.dr_plain.specs.Calls.Replies.{FoundHalt, DecidesClaim}
+use Rattle.dr_plain.specs.Calls.Replies.{FoundHalt, DecidesClaim, picture_with, open_writes}
 use Rattle.dr_plain.specs.Meaning.Moments.{Runs, new_world, picture_of}
-use Rattle.dr_plain.specs.Meaning.Replies.{picture_with, open_writes}
 use Rattle.dr_plain.proofs.Beginning.{kept_opening, keeps_runs, opens}
 use Rattle.dr_plain.proofs.Pictures.{lead_runs}
 use Rattle.dr_plain.proofs.Writings.{lead_open_writes}
