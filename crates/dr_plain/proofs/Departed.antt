@@ -24,7 +24,8 @@ use Rattle.dr_plain.specs.Inside.Stations.{sender_stand, receiver_stand, halter_
 use Rattle.dr_plain.specs.Inside.Views.{sender_end, receiver_end}
 use Rattle.dr_plain.specs.Inside.Fits.{SenderFields, SenderFits, TokensFit}
 use Rattle.dr_plain.specs.Inside.Gathering.{sender_known, receiver_known, halter_known}
-use Rattle.dr_plain.specs.Inside.Finishing.{first_lent, left_of, HasAllEnds, AreHandsOf, EndsKeep, AreLanes}
+use Rattle.dr_plain.specs.Inside.Finishing.{first_lent, left_of, HasAllEnds, AreLanes}
+use Rattle.dr_plain.specs.Inside.Bringing.{AreHandsOf, EndsKeep}
 use Rattle.dr_plain.specs.Inside.Leaving.{BelongsSender}
 use Rattle.dr_plain.proofs.Gathering.{Together, all_stand}
 use Rattle.dr_plain.proofs.Ending.{own_sender, own_halter}

@@ -28,7 +28,8 @@ use Rattle.dr_plain.specs.Calls.Ends.{SenderEnd, ReceiverEnd}
 use Rattle.dr_plain.specs.Calls.Settling.{AreAllEnds, handler_counts}
 use Rattle.dr_plain.specs.Inside.Fits.{Keeps, TokensFit, PartsFit}
 use Rattle.dr_plain.specs.Inside.Seats.{Hand}
-use Rattle.dr_plain.specs.Inside.Finishing.{first_lent, all_left, left_of, AreHandsOf, AreOut, AreLanes}
+use Rattle.dr_plain.specs.Inside.Finishing.{first_lent, all_left, left_of, AreOut, AreLanes}
+use Rattle.dr_plain.specs.Inside.Bringing.{AreHandsOf}
 use Rattle.dr_runs.proofs.Elements.{there, at_below}
 use Rattle.dr_plain.proofs.Collecting.{laid_first, laid_count}
 use Rattle.dr_plain.proofs.Gathering.{knows_of, AllStand}

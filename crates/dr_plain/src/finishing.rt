@@ -17,7 +17,8 @@ ghost use Rattle.dr_plain.specs.Calls.Ends.{SenderEnd, ReceiverEnd, HalterStand}
 ghost use Rattle.dr_plain.specs.Inside.Fits.{PartsFit};
 ghost use Rattle.dr_plain.specs.Inside.Seats.{IsAtTable, ring_ends, exchange};
 ghost use Rattle.dr_plain.specs.Inside.Gathering.{AreOfRing, receiver_known};
-ghost use Rattle.dr_plain.specs.Inside.Finishing.{AreHandsOf, EndsKeep, HasAllEnds};
+ghost use Rattle.dr_plain.specs.Inside.Finishing.{HasAllEnds};
+ghost use Rattle.dr_plain.specs.Inside.Bringing.{AreHandsOf, EndsKeep};
 
 use crate::body::RingBody;
 use crate::laws::{Halter, RingSeat, Words, moments, settling};

@@ -7,7 +7,7 @@ ghost use Rattle.dr_runs.specs.Gathering.{Gathers};
 ghost use Rattle.dr_plain.specs.Calls.Settling.{AreAllEnds, IsHalterOf, handler_counts};
 ghost use Rattle.dr_plain.specs.Inside.Seats.{ring_ends};
 ghost use Rattle.dr_plain.specs.Inside.Gathering.{AreOfRing, receiver_known};
-ghost use Rattle.dr_plain.specs.Inside.Finishing.{AreHandsOf};
+ghost use Rattle.dr_plain.specs.Inside.Bringing.{AreHandsOf};
 ghost use Rattle.dr_plain.specs.Inside.Leaving.{BelongsSender};
 
 use crate::finishing::{receive, take_back};
