@@ -15,7 +15,7 @@ use Rattle.dr_runs.proofs.Elements.{at_below, there, value_at}
 use Rattle.dr_plain_senders.specs.Meaning.Moments.{fresh_receivers, fresh_sender, fresh_senders}
 use Rattle.dr_plain_senders.specs.Meaning.Shape.{Shape, handlers_of}
 use Rattle.dr_plain_senders.specs.Calls.Ends.{HalterStand, ReceiverEnd, SenderEnd, receiver_place, received_of, sender_place}
-use Rattle.dr_plain_senders.specs.Calls.Making.{receiver_at, sender_at}
+use Rattle.dr_plain_senders.specs.Calls.Making.{receiver_at_ring, sender_at_ring}
 use Rattle.dr_plain_senders.specs.Calls.Settling.{AreAllEnds, HasRun}
 use Rattle.dr_plain_senders.specs.declared.record.ReceiverRecord.{ReceiverRecord}
 use Rattle.dr_disruptor.specs.declared.fault.RunFault.TheVariants as fault
@@ -39,18 +39,18 @@ module _ {E : Type 0} where
   is_told e = e.knows.told
 
   -- the ends of a new ring have taken and sent nothing
-  pub all_idle : (ring : TableId) (k : Shape E) (a n : ℕ) → All (λ (e : ReceiverEnd E). IsIdle (received_by e)) (map (receiver_at ring k) (fresh_receivers a n))
+  pub all_idle : (ring : TableId) (k : Shape E) (a n : ℕ) → All (λ (e : ReceiverEnd E). IsIdle (received_by e)) (map (receiver_at_ring ring k) (fresh_receivers a n))
   all_idle ring k a zero = All-nil (λ (e : ReceiverEnd E). IsIdle (received_by e))
   all_idle ring k a (suc n) = All-cons (λ (e : ReceiverEnd E). IsIdle (received_by e)) _ _ refl (all_idle ring k (suc a) n)
 
   -- a sender that owns nothing
-  unsent : (ring : TableId) (k : Shape E) → 0 < length k.begun → (p : ℕ) → IsUnsent (sender_at ring k (fresh_sender p))
+  unsent : (ring : TableId) (k : Shape E) → 0 < length k.begun → (p : ℕ) → IsUnsent (sender_at_ring ring k (fresh_sender p))
   unsent ring k there p =
       let one : has_one_stretch k [] [] ≡ true =
       and_from (nat_lt 0 (length k.begun) && true) true (and_from (nat_lt 0 (length k.begun)) true (lt-ltb 0 (length k.begun) there) refl) refl in
       (rw one refl, rw one refl)
 
-  pub all_unsent : (ring : TableId) (k : Shape E) → 0 < length k.begun → (a n : ℕ) → All (λ (s : SenderEnd E). IsUnsent s) (map (sender_at ring k) (fresh_senders a n))
+  pub all_unsent : (ring : TableId) (k : Shape E) → 0 < length k.begun → (a n : ℕ) → All (λ (s : SenderEnd E). IsUnsent s) (map (sender_at_ring ring k) (fresh_senders a n))
   all_unsent ring k there a zero = All-nil (λ (s : SenderEnd E). IsUnsent s)
   all_unsent ring k there a (suc n) = All-cons (λ (s : SenderEnd E). IsUnsent s) _ _ (unsent ring k there a) (all_unsent ring k there (suc a) n)
 

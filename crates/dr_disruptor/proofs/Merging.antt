@@ -27,7 +27,7 @@ use Rattle.dr_plain_senders.specs.Meaning.Settling.{Settles, published_events}
 use Rattle.dr_plain_senders.specs.Meaning.Shape.{IsShape, Shape, handlers_of}
 use Rattle.dr_plain_senders.specs.Calls.Ends.{EndPlace, HalterStand, ReceiverEnd, SenderEnd, receiver_place, received_of}
 use Rattle.dr_plain_senders.specs.Calls.Settling.{GivesBack}
-use Rattle.dr_plain_senders.specs.Calls.Making.{AreFreshEnds, at_ring, receiver_at, sender_at}
+use Rattle.dr_plain_senders.specs.Calls.Making.{AreFreshEnds, at_ring, receiver_at_ring, sender_at_ring}
 use Rattle.dr_plain_senders.proofs.Beginning.{kept_new_world, receiver_fresh, receivers_count, sender_fresh, senders_count}
 use Rattle.dr_plain_senders.proofs.Keeps.{keeps_runs}
 use Rattle.dr_plain_senders.proofs.Places.{one_value}
@@ -104,7 +104,7 @@ module _ {E A B F : Type 0} (goes : Relation E A) (room : ℕ) (k : Shape E) (bl
   -- the senders
 
   pub many_senders : length sent ≡ k.senders
-  many_senders = are.many ∙ ap length fresh.senders ∙ length-map (fresh_senders 0 k.senders) (sender_at t.ring k) ∙ senders_count E 0 k.senders
+  many_senders = are.many ∙ ap length fresh.senders ∙ length-map (fresh_senders 0 k.senders) (sender_at_ring t.ring k) ∙ senders_count E 0 k.senders
 
   pub record SenderPlace (p : ℕ) : Type 0 where
     pub back : Sent E B
@@ -120,10 +120,10 @@ module _ {E A B F : Type 0} (goes : Relation E A) (room : ℕ) (k : Shape E) (bl
       let b = there sent p (omega arith) in
       let (feed, e, at_feed, at_given, sending) = are.each p b.0 b.1 in
       let at_new = ap (λ (l : List (SenderEnd E)). get_elem? l p) (sym fresh.senders) ∙ at_given in
-      let from = lists.at_map (sender_at t.ring k) (fresh_senders 0 k.senders) p e at_new in
+      let from = lists.at_map (sender_at_ring t.ring k) (fresh_senders 0 k.senders) p e at_new in
       let z : 0 + p ≡ p = omega arith in
       let new : e ≡ new_sender ring k p =
-      sym from.2 ∙ ap (sender_at t.ring k) (sender_fresh 0 k.senders p from.0 from.1 ∙ ap fresh_sender z)
+      sym from.2 ∙ ap (sender_at_ring t.ring k) (sender_fresh 0 k.senders p from.0 from.1 ∙ ap fresh_sender z)
       ∙ ap (λ (r : TableId). new_sender r k p) same_ring in
       record {
         back = b.0;
@@ -138,13 +138,13 @@ module _ {E A B F : Type 0} (goes : Relation E A) (room : ℕ) (k : Shape E) (bl
   -- the handlers
 
   -- each end that was given is the new receiver at its place
-  new_ends : (h : ℕ) (e : ReceiverEnd E) → get_elem? (map given_end ws) h ≡ some e → e ≡ receiver_at ring k (fresh_receiver h)
+  new_ends : (h : ℕ) (e : ReceiverEnd E) → get_elem? (map given_end ws) h ≡ some e → e ≡ receiver_at_ring ring k (fresh_receiver h)
   new_ends h e at =
       let at_given = ap (λ (l : List (ReceiverEnd E)). get_elem? l h) (sym (ends ∙ fresh.receivers)) ∙ at in
-      let from = lists.at_map (receiver_at t.ring k) (fresh_receivers 0 (handlers_of k)) h e at_given in
+      let from = lists.at_map (receiver_at_ring t.ring k) (fresh_receivers 0 (handlers_of k)) h e at_given in
       let z : 0 + h ≡ h = omega arith in
-      sym from.2 ∙ ap (receiver_at t.ring k) (receiver_fresh 0 (handlers_of k) h from.0 from.1 ∙ ap fresh_receiver z)
-      ∙ ap (λ (r : TableId). receiver_at r k (fresh_receiver h)) same_ring
+      sym from.2 ∙ ap (receiver_at_ring t.ring k) (receiver_fresh 0 (handlers_of k) h from.0 from.1 ∙ ap fresh_receiver z)
+      ∙ ap (λ (r : TableId). receiver_at_ring r k (fresh_receiver h)) same_ring
 
   -- and the end of each handler is that of its place
   served_at_places : (given : List A) → given ≡ starts → AreServed receiver_place received_by is_told SawSome does_in_place goes room (new_receivers ring k) given served
@@ -156,7 +156,7 @@ module _ {E A B F : Type 0} (goes : Relation E A) (room : ℕ) (k : Shape E) (bl
   many_served : length served ≡ handlers_of k
   many_served =
       wound.kept.many ∙ ap length (ends ∙ fresh.receivers)
-      ∙ length-map (fresh_receivers 0 (handlers_of k)) (receiver_at t.ring k) ∙ receivers_count E 0 (handlers_of k)
+      ∙ length-map (fresh_receivers 0 (handlers_of k)) (receiver_at_ring t.ring k) ∙ receivers_count E 0 (handlers_of k)
 
   abbrev outlets : List (ReceiverEnd E)
   outlets = map (λ (s : Served (ReceiverEnd E) A). s.outlet) served

@@ -19,7 +19,7 @@ use Rattle.dr_plain.specs.Meaning.Records.{claimed, events_of}
 use Rattle.dr_plain.specs.Meaning.Settling.{FoundUnhalted, Settles}
 use Rattle.dr_plain.specs.Meaning.Shape.{Shape, handlers_of}
 use Rattle.dr_plain.specs.Calls.Ends.{HalterStand, ReceiverEnd, ReceiverPlace, SenderEnd, SenderPlace, receiver_place, received_of, sender_place}
-use Rattle.dr_plain.specs.Calls.Making.{at_ring}
+use Rattle.dr_plain.specs.Calls.Making.{receiver_at_ring}
 use Rattle.dr_plain.specs.Calls.Sending.{CloseCall}
 use Rattle.dr_plain.specs.Calls.Settling.{AreAllEnds, HasRun, IsHalterOf, handler_counts}
 use Rattle.dr_disruptor.specs.declared.fault.RunFault.TheVariants as fault
@@ -45,13 +45,13 @@ module _ {E : Type 0} where
   saw_by e n = SawPublished e.knows n
 
   -- the receivers of a new ring received nothing
-  pub none_received : (t : TableId) (k : Shape) (a n h : ℕ) (e : ReceiverEnd E) → get_elem? (map (at_ring t) (fresh_receivers k a n)) h ≡ some e
+  pub none_received : (t : TableId) (k : Shape) (a n h : ℕ) (e : ReceiverEnd E) → get_elem? (map (receiver_at_ring t) (fresh_receivers k a n)) h ≡ some e
       → (received_by e).events ≡ []
   none_received t k a zero h e at = absurd (some-ne-none e (sym at))
   none_received t k a (suc n) zero e at = sym (ap (λ (x : ReceiverEnd E). (received_by x).events) (some-injective _ e at))
   none_received t k a (suc n) (suc h) e at = none_received t k (suc a) n h e at
 
-  pub all_idle : (t : TableId) (k : Shape) (a n : ℕ) → All (λ (e : ReceiverEnd E). IsIdle (received_by e)) (map (at_ring t) (fresh_receivers k a n))
+  pub all_idle : (t : TableId) (k : Shape) (a n : ℕ) → All (λ (e : ReceiverEnd E). IsIdle (received_by e)) (map (receiver_at_ring t) (fresh_receivers k a n))
   all_idle t k a zero = All-nil (λ (e : ReceiverEnd E). IsIdle (received_by e))
   all_idle t k a (suc n) = All-cons (λ (e : ReceiverEnd E). IsIdle (received_by e)) _ _ refl (all_idle t k (suc a) n)
 

@@ -17,7 +17,7 @@ use Rattle.dr_plain_senders.specs.Meaning.Rule.{World}
 use Rattle.dr_plain_senders.specs.Meaning.Settling.{published_events}
 use Rattle.dr_plain_senders.specs.Meaning.Shape.{Shape, handlers_of}
 use Rattle.dr_plain_senders.specs.Calls.Ends.{HalterStand, HasStored, ReceiverEnd, SenderEnd, receiver_place, received_of, sender_place}
-use Rattle.dr_plain_senders.specs.Calls.Making.{at_ring, receiver_at, sender_at}
+use Rattle.dr_plain_senders.specs.Calls.Making.{at_ring, receiver_at_ring, sender_at_ring}
 use Rattle.dr_plain_senders.specs.Calls.Settling.{GivesBack, HasRun, handler_counts}
 use Rattle.dr_disruptor.specs.declared.fault.RunFault.{RunFault}
 use Rattle.dr_disruptor.specs.declared.fault.RunFault.TheVariants.{Handlers, Memory, Senders}
@@ -40,11 +40,11 @@ module _ {E : Type 0} where
 
   -- a sender of a ring of this shape, as it was made
   abbrev pub new_sender : TableId → Shape E → ℕ → SenderEnd E
-  new_sender ring k p = sender_at ring k (fresh_sender p)
+  new_sender ring k p = sender_at_ring ring k (fresh_sender p)
 
   -- its receivers as they were made, in the graph's order
   abbrev pub new_receivers : TableId → Shape E → List (ReceiverEnd E)
-  new_receivers ring k = map (receiver_at ring k) (fresh_receivers 0 (handlers_of k))
+  new_receivers ring k = map (receiver_at_ring ring k) (fresh_receivers 0 (handlers_of k))
 
   -- each handler was shown what the receiver at its place took, in polls with so much room, and came back at its place
   abbrev pub AreServedBack : {A : Type 0} → Relation E A → ℕ → List (ReceiverEnd E) → List A → List (ReceiverEnd E) → List A → Type 0

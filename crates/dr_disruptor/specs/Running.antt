@@ -9,7 +9,7 @@ use Rattle.dr_meaning.specs.declared.refusal.Refusal.{Refusal}
 use Rattle.dr_plain.specs.declared.settled.Settled.{Settled}
 use Rattle.dr_plain.specs.Calls.Ends.{ReceiverEnd, SenderEnd, receiver_place, received_of, sender_place}
 use Rattle.dr_plain.specs.Calls.InPlace.{SawPublished, does_in_place}
-use Rattle.dr_plain.specs.Calls.Making.{at_ring}
+use Rattle.dr_plain.specs.Calls.Making.{receiver_at_ring}
 use Rattle.dr_plain.specs.Calls.Sending.{CloseCall}
 use Rattle.dr_plain.specs.Calls.Settling.{HasRun, handler_counts}
 use Rattle.dr_plain.specs.Meaning.Moments.{fresh_receivers, fresh_sender}
@@ -31,7 +31,7 @@ shape_of upstreams size strip = record { upstreams = upstreams; size = size; lim
 
 -- the receivers of a new ring, in the graph's order
 abbrev pub new_receivers : {E : Type 0} → TableId → Shape → List (ReceiverEnd E)
-new_receivers ring k = map (at_ring ring) (fresh_receivers k 0 (handlers_of k))
+new_receivers ring k = map (receiver_at_ring ring) (fresh_receivers k 0 (handlers_of k))
 
 -- each handler was shown what the receiver at its place took, in polls with so much room, and came back at its place
 abbrev pub AreServedBack : {E A : Type 0} → Relation E A → ℕ → List (ReceiverEnd E) → List A → List (ReceiverEnd E) → List A → Type 0

@@ -30,7 +30,7 @@ use Rattle.dr_plain.specs.Inside.Fits.{ReceiverFits}
 use Rattle.dr_plain.specs.Inside.Views.{receiver_end}
 use Rattle.dr_plain.specs.Calls.Ends.{SenderEnd, ReceiverEnd, HalterStand}
 use Rattle.dr_plain.specs.Calls.Settling.{AreAllEnds}
-use Rattle.dr_plain.specs.Calls.Making.{at_ring, AreFreshEnds}
+use Rattle.dr_plain.specs.Calls.Making.{receiver_at_ring, AreFreshEnds}
 use Rattle.dr_runs.proofs.Elements.{at_below}
 use Rattle.dr_plain.proofs.Beginning.{fresh_at, fresh_count}
 
@@ -108,28 +108,28 @@ module _ {T : Type 0} where
   })
 
   pub listed_next : (t : TableId) (k : Shape) (h n : ℕ) (items new : List (ReceiverEnd T)) (e : ReceiverEnd T) (all : List (ReceiverEnd T)) → h < n
-      → items ++ map (λ r. at_ring t r) (fresh_receivers k h (n - h)) ≡ all → new ≡ items ++ e ∷ [] → e ≡ at_ring t (fresh_receiver k h)
-      → new ++ map (λ r. at_ring t r) (fresh_receivers k (h + 1) (n - (h + 1))) ≡ all
-  listed_next t k h n items new e all lt was is own = let rest : List (ReceiverEnd T) = map (λ r. at_ring t r) (fresh_receivers k (h + 1) (n - (h + 1))) in
+      → items ++ map (λ r. receiver_at_ring t r) (fresh_receivers k h (n - h)) ≡ all → new ≡ items ++ e ∷ [] → e ≡ receiver_at_ring t (fresh_receiver k h)
+      → new ++ map (λ r. receiver_at_ring t r) (fresh_receivers k (h + 1) (n - (h + 1))) ≡ all
+  listed_next t k h n items new e all lt was is own = let rest : List (ReceiverEnd T) = map (λ r. receiver_at_ring t r) (fresh_receivers k (h + 1) (n - (h + 1))) in
       ap (λ (xs : List (ReceiverEnd T)). xs ++ rest) (is ∙ ap (λ (x : ReceiverEnd T). items ++ x ∷ []) own)
-      ∙ append_assoc items (at_ring t (fresh_receiver k h) ∷ []) rest
-      ∙ ap (λ (rs : List (ReceiverRecord T)). items ++ map (λ r. at_ring t r) rs) (sym (fresh_next k h n lt)) ∙ was
+      ∙ append_assoc items (receiver_at_ring t (fresh_receiver k h) ∷ []) rest
+      ∙ ap (λ (rs : List (ReceiverRecord T)). items ++ map (λ r. receiver_at_ring t r) rs) (sym (fresh_next k h n lt)) ∙ was
 
   pub view_fresh : (t own : TableId) (me : Sitting T) (k : Shape) (h : ℕ) → own ≡ t → me ≡ own_seat k h
-      → receiver_end (receiver_stand own me) ≡ at_ring t (fresh_receiver k h)
+      → receiver_end (receiver_stand own me) ≡ receiver_at_ring t (fresh_receiver k h)
   view_fresh t own me k h same is = λ i. receiver_end (receiver_stand (same i) (is i))
 
-  fresh_end : (k : Shape) (t : TableId) (h n i : ℕ) (e : ReceiverEnd T) → get_elem? (map (λ r. at_ring t r) (fresh_receivers k h n)) i ≡ some e
+  fresh_end : (k : Shape) (t : TableId) (h n i : ℕ) (e : ReceiverEnd T) → get_elem? (map (λ r. receiver_at_ring t r) (fresh_receivers k h n)) i ≡ some e
       → (e.ring ≡ t) × (e.knows.number ≡ h + i)
   fresh_end k t h zero i e at = absurd (some-ne-none e (sym at))
-  fresh_end k t h (suc n) zero e at = subst (λ (x : ReceiverEnd T). (x.ring ≡ t) × (x.knows.number ≡ h + 0)) (some-injective (at_ring t (fresh_receiver k h)) e at) (refl, omega arith)
+  fresh_end k t h (suc n) zero e at = subst (λ (x : ReceiverEnd T). (x.ring ≡ t) × (x.knows.number ≡ h + 0)) (some-injective (receiver_at_ring t (fresh_receiver k h)) e at) (refl, omega arith)
   fresh_end k t h (suc n) (suc i) e at = let r = fresh_end k t (suc h) n i e at in let m = r.1 in (r.0, omega arith)
 
   -- the ends of a new ring are all of its ends
   pub all_fresh : (k : Shape) (events : List T) (s : SenderEnd T) (rs : List (ReceiverEnd T)) (t : HalterStand T) → AreFreshEnds k events s rs t
       → AreAllEnds s rs
   all_fresh k events s rs t F = record {
-    all = ap length F.receivers ∙ length-map (fresh_receivers k 0 (handlers_of k)) (λ (r : ReceiverRecord T). at_ring s.ring r) ∙ fresh_count T k 0 (handlers_of k)
+    all = ap length F.receivers ∙ length-map (fresh_receivers k 0 (handlers_of k)) (λ (r : ReceiverRecord T). receiver_at_ring s.ring r) ∙ fresh_count T k 0 (handlers_of k)
         ∙ sym (ap (λ (q : SenderRecord T). handlers_of q.plan) F.sender);
     each = λ h e at. (
         let x : (e.ring ≡ s.ring) × (e.knows.number ≡ 0 + h) = fresh_end k s.ring 0 (handlers_of k) h e (subst (λ (xs : List (ReceiverEnd T)). get_elem? xs h ≡ some e) F.receivers at) in

@@ -12,7 +12,7 @@ ghost use Rattle.dr_runs.specs.Seats.{fresh_seat};
 ghost use Rattle.dr_plain.specs.Inside.Seats.{IsAtTable, known_receivers};
 ghost use Rattle.dr_plain.specs.Inside.Making.{AreFreshStands, IsPrepared};
 ghost use Rattle.dr_plain.specs.Calls.Settling.{AreAllEnds, IsHalterOf};
-ghost use Rattle.dr_plain.specs.Calls.Making.{at_ring, AreFreshEnds};
+ghost use Rattle.dr_plain.specs.Calls.Making.{receiver_at_ring, AreFreshEnds};
 ghost use Rattle.dr_runs.specs.Fault.{fault_of};
 
 use crate::body::RingBody;
@@ -52,7 +52,7 @@ fn receivers<T: Drop>(
     requires table { IsAtTable rest.table_id (arc_value ring.now).table.shared.table_id (arc_value ring.now).plan }
     requires made { IsPlan (arc_value ring.now).plan }
     requires all { rest.me ≡ fresh_seat (known_receivers (arc_value ring.now).plan 0 (handlers_of (arc_value ring.now).plan)) }
-    ensures { IfOk result (λ v. v.items ≡ map (λ r. at_ring rest.table_id r) (fresh_receivers (arc_value ring.now).plan 0 (handlers_of (arc_value ring.now).plan))) }
+    ensures { IfOk result (λ v. v.items ≡ map (λ r. receiver_at_ring rest.table_id r) (fresh_receivers (arc_value ring.now).plan 0 (handlers_of (arc_value ring.now).plan))) }
 {
     let handlers = ring.plan.handlers();
     let mut receivers = Vec::with_capacity(alloc, handlers)?;

@@ -12,7 +12,7 @@ use Rattle.dr_plain_senders.specs.declared.record.SenderRecord.{SenderRecord}
 use Rattle.dr_plain_senders.specs.declared.record.ReceiverRecord.{ReceiverRecord}
 use Rattle.dr_plain_senders.specs.Meaning.Moments.{fresh_senders, fresh_receivers}
 use Rattle.dr_plain_senders.specs.Calls.Ends.{SenderEnd, ReceiverEnd, HalterStand, EndPlace, sender_place, receiver_place}
-use Rattle.dr_plain_senders.specs.Calls.Making.{sender_at, receiver_at, AreFreshEnds}
+use Rattle.dr_plain_senders.specs.Calls.Making.{sender_at_ring, receiver_at_ring, AreFreshEnds}
 use Rattle.dr_plain_senders.specs.Calls.Settling.{AreAllEnds}
 use Rattle.dr_plain_senders.proofs.Beginning.{sender_fresh, receiver_fresh, senders_count, receivers_count}
 
@@ -47,16 +47,16 @@ module _ {T : Type 0} where
   all_fresh k ss rs t F =
       let plan : t.plan ≡ k = ap (λ (e : HalterStand T). e.plan) F.halter in
       let place : ℕ → EndPlace T = λ i. (t.ring, k, i) in record {
-        senders = ap length F.senders ∙ length-map (fresh_senders 0 k.senders) (sender_at t.ring k) ∙ senders_count T 0 k.senders
+        senders = ap length F.senders ∙ length-map (fresh_senders 0 k.senders) (sender_at_ring t.ring k) ∙ senders_count T 0 k.senders
             ∙ ap (λ (p : Shape T). p.senders) (sym plan);
-        receivers = ap length F.receivers ∙ length-map (fresh_receivers 0 (handlers_of k)) (receiver_at t.ring k) ∙ receivers_count T 0 (handlers_of k)
+        receivers = ap length F.receivers ∙ length-map (fresh_receivers 0 (handlers_of k)) (receiver_at_ring t.ring k) ∙ receivers_count T 0 (handlers_of k)
             ∙ ap handlers_of (sym plan);
         each_sender = subst (λ (p : Shape T). AreInPlace sender_place t.ring p ss) (sym plan)
-            (fresh_in_place sender_place t.ring k (sender_at t.ring k) (fresh_senders 0 k.senders) ss
+            (fresh_in_place sender_place t.ring k (sender_at_ring t.ring k) (fresh_senders 0 k.senders) ss
             (λ p r at. (let number : r.number ≡ p = ap (λ (q : SenderRecord T). q.number) (sender_fresh 0 k.senders p r at) ∙ omega arith in ap place number))
             F.senders);
         each_receiver = subst (λ (p : Shape T). AreInPlace receiver_place t.ring p rs) (sym plan)
-            (fresh_in_place receiver_place t.ring k (receiver_at t.ring k) (fresh_receivers 0 (handlers_of k)) rs
+            (fresh_in_place receiver_place t.ring k (receiver_at_ring t.ring k) (fresh_receivers 0 (handlers_of k)) rs
             (λ h r at.
             (let number : r.number ≡ h =
             ap (λ (q : ReceiverRecord T). q.number) (receiver_fresh 0 (handlers_of k) h r at) ∙ omega arith in ap place number))

@@ -15,7 +15,7 @@ ghost use Rattle.dr_plain_senders.specs.Inside.Seats.{IsAtTable, known_senders, 
 ghost use Rattle.dr_plain_senders.specs.Inside.Stations.{IsKeyed};
 ghost use Rattle.dr_plain_senders.specs.Inside.Making.{AreFirst};
 ghost use Rattle.dr_plain_senders.specs.Inside.Rooms.{unmarked, AreBlankRows, AreRooms};
-ghost use Rattle.dr_plain_senders.specs.Calls.Making.{sender_at, receiver_at, AreFreshEnds, fault_of};
+ghost use Rattle.dr_plain_senders.specs.Calls.Making.{sender_at_ring, receiver_at_ring, AreFreshEnds, fault_of};
 ghost use Rattle.dr_plain_senders.specs.Calls.Settling.{AreAllEnds};
 
 use crate::body::RingBody;
@@ -63,7 +63,7 @@ fn senders<T: Drop>(
     requires marks { marks.items ≡ replicate (arc_value ring.now).plan.senders (unmarked (arc_value ring.now).plan.size) }
     requires rows { AreBlankRows (arc_value ring.now).plan.senders (arc_value ring.now).plan.size rows.items }
     requires none { senders.items ≡ [] }
-    ensures senders { IfOk result (λ made. made.0.items ≡ map (sender_at rest.table_id (arc_value ring.now).plan) (fresh_senders 0 (arc_value ring.now).plan.senders)) }
+    ensures senders { IfOk result (λ made. made.0.items ≡ map (sender_at_ring rest.table_id (arc_value ring.now).plan) (fresh_senders 0 (arc_value ring.now).plan.senders)) }
     ensures table { IfOk result (λ made. made.1.table_id ≡ rest.table_id) }
     ensures rest { IfOk result (λ made. made.1.me ≡ fresh_seat (known_receivers 0 (handlers_of (arc_value ring.now).plan))) }
 {
@@ -98,7 +98,7 @@ fn receivers<T: Drop>(
     requires all { rest.me ≡ fresh_seat (known_receivers 0 (handlers_of (arc_value ring.now).plan)) }
     requires rows { AreBlankRows (handlers_of (arc_value ring.now).plan) (arc_value ring.now).plan.size rows.items }
     requires none { receivers.items ≡ [] }
-    ensures { IfOk result (λ v. v.items ≡ map (receiver_at rest.table_id (arc_value ring.now).plan) (fresh_receivers 0 (handlers_of (arc_value ring.now).plan))) }
+    ensures { IfOk result (λ v. v.items ≡ map (receiver_at_ring rest.table_id (arc_value ring.now).plan) (fresh_receivers 0 (handlers_of (arc_value ring.now).plan))) }
 {
     let handlers = ring.plan.handlers();
     for number in 0..handlers {

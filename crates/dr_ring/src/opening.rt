@@ -9,7 +9,7 @@ ghost use Rattle.dr_ring.specs.Meaning.Moments.{fresh_receivers};
 ghost use Rattle.dr_runs.specs.Seats.{fresh_seat};
 ghost use Rattle.dr_ring.specs.Inside.Seats.{IsAtTable, known_receivers};
 ghost use Rattle.dr_ring.specs.Calls.Settling.{AreAllEnds};
-ghost use Rattle.dr_ring.specs.Calls.Making.{at_ring, AreFreshEnds};
+ghost use Rattle.dr_ring.specs.Calls.Making.{receiver_at_ring, AreFreshEnds};
 ghost use Rattle.dr_runs.specs.Fault.{fault_of};
 
 use crate::laws::{Halter, ReceiverStation, RingBody, RingSeat, RingTable, SenderStation};
@@ -45,7 +45,7 @@ fn receivers(
     requires table { IsAtTable rest.table_id (arc_value ring.now).table.shared.table_id (arc_value ring.now).plan }
     requires made { IsPlan (arc_value ring.now).plan }
     requires all { rest.me ≡ fresh_seat (known_receivers (arc_value ring.now).plan 0 (handlers_of (arc_value ring.now).plan)) }
-    ensures { IfOk result (λ v. v.items ≡ map (at_ring rest.table_id) (fresh_receivers (arc_value ring.now).plan 0 (handlers_of (arc_value ring.now).plan))) }
+    ensures { IfOk result (λ v. v.items ≡ map (receiver_at_ring rest.table_id) (fresh_receivers (arc_value ring.now).plan 0 (handlers_of (arc_value ring.now).plan))) }
 {
     let handlers = ring.plan.handlers();
     let mut receivers = Vec::with_capacity(alloc, handlers)?;

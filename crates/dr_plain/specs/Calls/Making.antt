@@ -7,8 +7,8 @@ use Rattle.dr_plain.specs.Meaning.Moments.{fresh_sender, fresh_receivers, fresh_
 use Rattle.dr_plain.specs.Calls.Ends.{SenderEnd, ReceiverEnd, HalterStand}
 
 -- a receiver of a new ring
-abbrev pub at_ring : {T : Type 0} → TableId → ReceiverRecord T → ReceiverEnd T
-at_ring ring r = record { ring = ring; knows = r; past = []; stored = [] }
+abbrev pub receiver_at_ring : {T : Type 0} → TableId → ReceiverRecord T → ReceiverEnd T
+receiver_at_ring ring r = record { ring = ring; knows = r; past = []; stored = [] }
 
 -- the ends of a new ring: nothing is claimed, received or halted, and no end has stored anything,
 -- the events lie in the cells, and the receivers stand in the graph's order
@@ -18,5 +18,5 @@ pub record AreFreshEnds {T : Type 0} (k : Shape) (events : List T) (s : SenderEn
   pub cells : s.cells ≡ map (λ event. Some event) events
   pub past : s.past ≡ []
   pub stored : s.stored ≡ []
-  pub receivers : rs ≡ map (λ r. at_ring s.ring r) (fresh_receivers k 0 (handlers_of k))
+  pub receivers : rs ≡ map (λ r. receiver_at_ring s.ring r) (fresh_receivers k 0 (handlers_of k))
   pub halter : t ≡ record { ring = s.ring; knows = fresh_halter k; hand = []; past = []; stored = [] }

@@ -7,7 +7,7 @@ use Rattle.dr_lent.proofs.Going.{cut_on}
 use Rattle.dr_plain.specs.Meaning.Shape.{handlers_of}
 use Rattle.dr_plain.specs.Meaning.Moments.{fresh_receivers}
 use Rattle.dr_plain.specs.declared.record.ReceiverRecord.{ReceiverRecord}
-use Rattle.dr_plain.specs.Calls.Making.{at_ring}
+use Rattle.dr_plain.specs.Calls.Making.{receiver_at_ring}
 use Rattle.dr_plain.specs.Inside.Seats.{Sitting}
 use Rattle.dr_plain.specs.Inside.Stations.{sender_stand, halter_stand}
 use Rattle.dr_plain.proofs.Making.{ruled_new, some_words}
@@ -50,6 +50,6 @@ returns g c =
       sender = ap (λ (m : Sitting g.row.T.Denot). sender_stand c.split_seat-second.new.seat.table_id m)
           (second.2 ∙ ap (λ (m : Sitting g.row.T.Denot). (first_view m.0, m.1)) first);
       receivers = c.in_ok-receivers.ensures
-          ∙ (λ i. map (λ (r : ReceiverRecord g.row.T.Denot). at_ring (receives i) r) (fresh_receivers (plan i) 0 (handlers_of (plan i))));
+          ∙ (λ i. map (λ (r : ReceiverRecord g.row.T.Denot). receiver_at_ring (receives i) r) (fresh_receivers (plan i) 0 (handlers_of (plan i))));
       halter = λ i. halter_stand (halts i) (halter i);
     }
