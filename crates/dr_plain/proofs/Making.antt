@@ -93,7 +93,7 @@ module _ {T : Type 0} where
 
   pub sits_fresh : (at own : TableId) (me : End T) (k : Shape) (h : ℕ) → IsAtTable own at k → IsPlan k → h < handlers_of k
       → me ≡ as_receiver (fresh_receiver k h) [] → ReceiverSits at own k me h 0
-  sits_fresh at own me k h table made lt is = subst (λ (m : End T). ReceiverSits at own k m h 0) (sym is) (record { table = table; made = made; end = refl; plan = refl; mine = refl; handler = lt; looks = refl })
+  sits_fresh at own me k h table made lt is = subst (λ (m : End T). ReceiverSits at own k m h 0) (sym is) (record { table = table; made = made; end = refl; plan = refl; own = refl; handler = lt; looks = refl })
 
   -- a receiver that has not stepped took nothing
   pub fits_fresh : (k : Shape) (h : ℕ) (own : TableId) (m : Sitting T) (parts : List (Token T)) → m ≡ own_seat k h → length parts ≡ k.size
