@@ -37,7 +37,7 @@ use std::snapshot::Snapshot;
 use std::sync::Arc;
 
 /// A receiver's seat comes to the sender's, and its counts and tokens to their places.
-pub(crate) fn receive<T>(
+pub(crate) fn bring_receiver<T>(
     words: &Words<T>,
     seat: &mut RingSeat<T>,
     receiver: ReceiverLeft<T>,
@@ -61,7 +61,7 @@ pub(crate) fn receive<T>(
 }
 
 // All receivers come so.
-fn gather<T: Drop>(
+fn gather_receivers<T: Drop>(
     ring: &Arc<RingBody<T>, Global>,
     seat: &mut RingSeat<T>,
     mut receivers: Vec<Receiver<T>>,
@@ -80,13 +80,13 @@ fn gather<T: Drop>(
     while let Some(receiver) = receivers.pop() {
         let place = receivers.len();
         let (_, _, left) = receiver.into_left();
-        receive(&ring.table.shared, seat, left, place, counts, hands);
+        bring_receiver(&ring.table.shared, seat, left, place, counts, hands);
     }
 }
 
 /// The seat that stands for all ends takes what lies in the slots, and ends the ring: each cell is
 /// whole again.
-pub(crate) fn take_back<T>(
+pub(crate) fn reclaim_all<T>(
     words: &Words<T>,
     plan: &Plan<T>,
     mut seat: RingSeat<T>,
@@ -127,8 +127,8 @@ fn bring_together<T: Drop>(
     let (_, halts) = halter.into_left();
     let (mut seat, mut counts, mut hands) = (sends.seat, sends.counts, sends.hands);
     settling::take_in(&ring.table.shared, &mut seat, halts.seat);
-    gather(&ring, &mut seat, receivers, &mut counts, &mut hands);
-    let row = take_back(
+    gather_receivers(&ring, &mut seat, receivers, &mut counts, &mut hands);
+    let row = reclaim_all(
         &ring.table.shared,
         &ring.plan,
         seat,

@@ -10,7 +10,7 @@ ghost use Rattle.dr_plain.specs.Inside.Gathering.{AreReceiversOf, receiver_known
 ghost use Rattle.dr_plain.specs.Inside.Bringing.{AreHandsOf};
 ghost use Rattle.dr_plain.specs.Inside.Leaving.{BelongsSender};
 
-use crate::finishing::{receive, take_back};
+use crate::finishing::{bring_receiver, reclaim_all};
 use crate::laws::{RingSeat, Words, settling};
 use crate::left::{HalterLeft, ReceiverLeft, SenderLeft};
 use crate::plan::Plan;
@@ -19,7 +19,7 @@ use dr_places::Gathered;
 use dr_runs::HandlerCounts;
 
 // What a receiver left: its seat comes to the sender's, and its counts and tokens to their places.
-fn gather_left<T>(
+fn gather_receivers_left<T>(
     words: &Words<T>,
     seat: &mut RingSeat<T>,
     mut receivers: Gathered<ReceiverLeft<T>>,
@@ -37,7 +37,7 @@ fn gather_left<T>(
 {
     while let Some(receiver) = receivers.pop() {
         let place = receivers.len();
-        receive(words, seat, receiver, place, counts, hands);
+        bring_receiver(words, seat, receiver, place, counts, hands);
     }
 }
 
@@ -66,8 +66,8 @@ pub(crate) fn end<T>(
         strip,
     } = sender;
     settling::take_in(words, &mut seat, halter.seat);
-    gather_left(words, &mut seat, receivers, &mut counts, &mut hands);
-    let row = take_back(
+    gather_receivers_left(words, &mut seat, receivers, &mut counts, &mut hands);
+    let row = reclaim_all(
         words,
         plan,
         seat,

@@ -81,7 +81,7 @@ fn gather_halter(ring: &Arc<RingBody, Global>, seat: &mut RingSeat, halter: Opti
 }
 
 // A receiver's seat comes to the sender's, and its counts to their place.
-fn gather(
+fn gather_receivers(
     ring: &Arc<RingBody, Global>,
     seat: &mut RingSeat,
     mut receivers: Vec<Receiver>,
@@ -126,7 +126,7 @@ fn bring_together(sender: Sender, receivers: Vec<Receiver>, halter: Option<Halte
     let mut seat = station.seat;
     let mut counts = sender.counts;
     gather_halter(&station.ring, &mut seat, halter);
-    gather(&station.ring, &mut seat, receivers, &mut counts);
+    gather_receivers(&station.ring, &mut seat, receivers, &mut counts);
     settling::compare(&station.ring.table.shared, &mut seat);
     moments();
     Settled {

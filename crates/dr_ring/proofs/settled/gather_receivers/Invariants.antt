@@ -4,7 +4,7 @@ use Rattle.dr_ring.specs.Inside.Seats.{ring_ends}
 use Rattle.dr_ring.specs.Inside.Gathering.{receiver_known}
 use Rattle.dr_ring.specs.Calls.Ends.{ReceiverEnd}
 use Rattle.dr_ring.specs.Calls.Settling.{handler_counts}
-use Rattle.dr_ring.proofs.settled.gather.Given as goal
+use Rattle.dr_ring.proofs.settled.gather_receivers.Given as goal
 
 abbrev pub invariant-loop-receiver : goal.invariant-loop-receiver
 invariant-loop-receiver l = (l.seat.table_id ≡ l.fn.seat.table_id)

@@ -4,7 +4,7 @@ use Rattle.dr_cells.specs.declared.token.Token.{Token}
 use Rattle.dr_plain.specs.declared.record.ReceiverRecord.{ReceiverRecord}
 use Rattle.dr_plain.specs.Inside.Fits.{PartsFit}
 use Rattle.dr_plain.specs.Calls.Ends.{ReceiverEnd}
-use Rattle.dr_plain.proofs.finishing.receive.Goals as goal
+use Rattle.dr_plain.proofs.finishing.bring_receiver.Goals as goal
 
 pub returns-clause-hands : goal.returns-clause-hands
 returns-clause-hands g c =

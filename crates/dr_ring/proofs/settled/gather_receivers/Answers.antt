@@ -5,7 +5,7 @@ use Rattle.dr_ring.specs.Inside.Seats.{Sitting, ring_ends, as_receiver}
 use Rattle.dr_ring.specs.Inside.Gathering.{receiver_known}
 use Rattle.dr_ring.specs.declared.record.ReceiverRecord.{ReceiverRecord}
 use Rattle.dr_ring.specs.Calls.Ends.{ReceiverEnd}
-use Rattle.dr_ring.proofs.settled.gather.Goals as goal
+use Rattle.dr_ring.proofs.settled.gather_receivers.Goals as goal
 
 pub take_in-requires-clause-table : goal.take_in-requires-clause-table
 take_in-requires-clause-table c =
