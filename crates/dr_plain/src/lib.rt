@@ -14,7 +14,7 @@ pub mod laws;
 mod left;
 mod lending;
 mod opening;
-mod outlets;
+mod outlet;
 mod over;
 mod plan;
 mod polling;

@@ -21,7 +21,7 @@ pub mod laws;
 mod left;
 mod lending;
 mod opening;
-mod outlets;
+mod outlet;
 mod over;
 mod owned;
 mod plan;

@@ -5,7 +5,7 @@ use Rattle.dr_lent.proofs.Copying.{copied_all}
 use Rattle.dr_plain_senders.specs.Meaning.Records.{events_of}
 use Rattle.dr_plain_senders.specs.Calls.Ends.{ReceiverEnd}
 use Rattle.dr_plain_senders.proofs.Copying.{takes_batch}
-use Rattle.dr_plain_senders.proofs.outlets.ReceiverOutlet.poll_into.Goals as goal
+use Rattle.dr_plain_senders.proofs.outlet.ReceiverOutlet.poll_into.Goals as goal
 
 pub copy_events-requires-clause-held : goal.copy_events-requires-clause-held
 copy_events-requires-clause-held g c =

@@ -5,7 +5,7 @@ use Rattle.dr_lent.proofs.Copying.{copied_all}
 use Rattle.dr_plain.specs.Meaning.Records.{events_of}
 use Rattle.dr_plain.specs.Calls.Ends.{ReceiverEnd}
 use Rattle.dr_plain.proofs.Copying.{takes_batch}
-use Rattle.dr_plain.proofs.outlets.ReceiverOutlet.poll_into.Goals as goal
+use Rattle.dr_plain.proofs.outlet.ReceiverOutlet.poll_into.Goals as goal
 
 pub copy_events-requires-clause-held : goal.copy_events-requires-clause-held
 copy_events-requires-clause-held g c =
