@@ -9,8 +9,10 @@
 #![tactic(auto)]
 
 mod claiming;
+mod inlet;
 pub mod laws;
 mod opening;
+mod outlet;
 mod plan;
 mod polling;
 mod receiver;

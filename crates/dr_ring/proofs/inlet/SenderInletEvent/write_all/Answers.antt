@@ -1,6 +1,6 @@
 use Rattle.std.proofs.Common.{◌≡◌, arith, inl, length, refl}
 use Rattle.dr_ring.proofs.Writings.{wrote_each, wrote_more, wrote_none, wrote_refused}
-use Rattle.dr_ring.proofs.sender.SenderInletEvent.write_all.Goals as goal
+use Rattle.dr_ring.proofs.inlet.SenderInletEvent.write_all.Goals as goal
 
 pub loop-k-init : goal.loop-k-init
 loop-k-init c = wrote_none _ _ _

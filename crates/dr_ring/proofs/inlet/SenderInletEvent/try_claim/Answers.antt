@@ -1,7 +1,7 @@
 use Rattle.std.proofs.Common.{refl}
 use Rattle.std.proofs.lemmas.Result.{err_from_is_err_and}
 use Rattle.dr_runs.proofs.Answering.{claim_of_end, claim_given}
-use Rattle.dr_ring.proofs.sender.SenderInletEvent.try_claim.Goals as goal
+use Rattle.dr_ring.proofs.inlet.SenderInletEvent.try_claim.Goals as goal
 
 pub returns-in_err-try_claim-clause-answer : goal.returns-in_err-try_claim-clause-answer
 returns-in_err-try_claim-clause-answer c =
