@@ -106,20 +106,6 @@ impl<T> Receiver<T> {
         Some(self.station.read(sequence, &self.parts))
     }
 
-    /// How many events it took.
-    pub fn taken(&self) -> u64
-        ensures { result ≡ length self.now.knows.received }
-    {
-        self.taken
-    }
-
-    /// How many events it completed.
-    pub fn completed(&self) -> u64
-        ensures { result ≡ self.now.knows.completed }
-    {
-        self.completed
-    }
-
     /// How many words the receiver has loaded that other ends store, up to the greatest `u64`.
     pub fn looks(&self) -> u64
         ensures { result ≡ looks_counted self.now.knows.looks }
@@ -129,7 +115,7 @@ impl<T> Receiver<T> {
 
     // All that it has, with its number and the ring.
     pub(crate) fn into_left(self) -> (Arc<RingBody<T>, Global>, usize, ReceiverLeft<T>)
-        ensures ring { BelongsReceiver (arc_value result.0).table.shared.table_id result.1 self }
+        ensures place { BelongsReceiver (arc_value result.0).table.shared.table_id result.1 self }
         ensures number { result.1 < handlers_of (arc_value result.0).plan }
         ensures left { result.2 ≡ self }
     {
