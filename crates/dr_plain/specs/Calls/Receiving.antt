@@ -59,13 +59,13 @@ module _ {T : Type 0} where
   PollSees r room r' (Ok polled) = (seen : PollLooks) × (length seen.counts ≡ length (upstreams_of r.plan.upstreams r.number)) × AnswersAsSeen r room r' seen polled
   PollSees r room r' (Err refusal) = r' ≡ r
 
-  abbrev pub Polls : ReceiverEnd T → ℕ → ReceiverEnd T → Result Polled Refusal → Type 0
-  Polls e room e' result = IsAnswerOf (poll_causes (tests_of_poll e.knows room)) (as_end result) × PollSees e.knows room e'.knows result
+  abbrev pub Polls : ReceiverRecord T → ℕ → ReceiverRecord T → Result Polled Refusal → Type 0
+  Polls r room r' result = IsAnswerOf (poll_causes (tests_of_poll r room)) (as_end result) × PollSees r room r' result
 
-  abbrev pub TriesToComplete : ReceiverEnd T → ℕ → ReceiverEnd T → Result (Unit {0}) Refusal → Type 0
-  TriesToComplete e n e' result =
-      IsAnswerOf (complete_causes (tests_of_completion e.knows n)) (as_end result)
-      × Completes n (as_end result) (received_of e.knows) (received_of e'.knows) × (e'.knows ≡ record e.knows { completed = e'.knows.completed })
+  abbrev pub TriesToComplete : ReceiverRecord T → ℕ → ReceiverRecord T → Result (Unit {0}) Refusal → Type 0
+  TriesToComplete r n r' result =
+      IsAnswerOf (complete_causes (tests_of_completion r n)) (as_end result)
+      × Completes n (as_end result) (received_of r) (received_of r') × (r' ≡ record r { completed = r'.completed })
 
   -- a receiver reads the event of a sequence that it took and did not complete, and of no other
   abbrev pub ReadsInHand : ReceiverRecord T → ℕ → T → Type 0
@@ -76,11 +76,12 @@ module _ {T : Type 0} where
 
   -- a poll stores nothing
   abbrev pub PollCall : ReceiverEnd T → ℕ → ReceiverEnd T → Result Polled Refusal → Type 0
-  PollCall e room e' result = (receiver_place e' ≡ receiver_place e) × Polls e room e' result × (e'.stored ≡ e.stored) × IsBeginning e.past e'.past
+  PollCall e room e' result =
+      (receiver_place e' ≡ receiver_place e) × Polls e.knows room e'.knows result × (e'.stored ≡ e.stored) × IsBeginning e.past e'.past
 
   -- the call whole: the end stays where it is, answers by what it knows,
   -- and stores its count where it is not refused and nothing else, and all that it saw before comes first
   abbrev pub CompleteCall : ReceiverEnd T → ℕ → ReceiverEnd T → Result (Unit {0}) Refusal → Type 0
   CompleteCall e n e' result =
-      (receiver_place e' ≡ receiver_place e) × TriesToComplete e n e' result × StoresWhereOk e.stored (ReceiverCompletes e.knows.number n ∷ []) e'.stored result
-      × IsBeginning e.past e'.past
+      (receiver_place e' ≡ receiver_place e) × TriesToComplete e.knows n e'.knows result
+      × StoresWhereOk e.stored (ReceiverCompletes e.knows.number n ∷ []) e'.stored result × IsBeginning e.past e'.past
