@@ -32,7 +32,8 @@ mod turning;
 mod updating;
 
 pub use dr_cells::Values;
-pub use dr_runs::{HandlerCounts, RingFault};
+pub use dr_meaning::OpenFault;
+pub use dr_runs::HandlerCounts;
 pub use events::Events;
 pub use finishing::finish;
 pub use laws::Halter;

@@ -12,8 +12,7 @@ ghost use Rattle.dr_runs.specs.Seats.{fresh_seat};
 ghost use Rattle.dr_plain.specs.Inside.Seats.{IsAtTable, known_receivers};
 ghost use Rattle.dr_plain.specs.Inside.Making.{AreFreshStands, IsPrepared};
 ghost use Rattle.dr_plain.specs.Calls.Settling.{AreAllEnds, IsHalterOf};
-ghost use Rattle.dr_plain.specs.Calls.Making.{receiver_at_ring, AreFreshEnds};
-ghost use Rattle.dr_runs.specs.Fault.{fault_of};
+ghost use Rattle.dr_plain.specs.Calls.Making.{receiver_at_ring, AreFreshEnds, fault_of};
 
 use crate::body::RingBody;
 use crate::laws::{Halter, ReceiverStation, RingSeat, RingTable, SenderStation};
@@ -25,9 +24,9 @@ use atomic_table::Split;
 use dr_cells::{Cells, Row, Strip, Token};
 use dr_graph::Graph;
 use dr_lent::rows::{blanks, deal, empty_hands};
-use dr_meaning::is_valid_limit;
+use dr_meaning::{OpenFault, is_valid_limit};
 use dr_places::Places;
-use dr_runs::{HandlerCounts, RingFault, Written};
+use dr_runs::{HandlerCounts, Written};
 use dr_seq::{GateCache, Size};
 use std::alloc::{AllocError, Global};
 use std::sync::Arc;
@@ -214,7 +213,7 @@ pub fn ring<T: Drop>(
     size: Size,
     limit: u64,
     events: Vec<T>,
-) -> Result<(Sender<T>, Vec<Receiver<T>>, Halter<T>), RingFault>
+) -> Result<(Sender<T>, Vec<Receiver<T>>, Halter<T>), OpenFault>
     requires events { length events.items ≡ size }
     ensures made { IfOk result (λ made. (strip : Ptr) × AreFreshEnds (record { upstreams = graph.now.upstreams; size = size; limit = limit; strip = strip }) events.items made.0 made.1.items made.2) }
     ensures all { IfOk result (λ made. AreAllEnds made.0 made.1.items) }
@@ -223,14 +222,14 @@ pub fn ring<T: Drop>(
     ensures refused { IfErr result (λ fault. fault ≡ fault_of limit) }
 {
     if !is_valid_limit(limit) {
-        return Err(RingFault::BadLimit);
+        return Err(OpenFault::BadLimit);
     }
     let (strip, row) = Strip::new(alloc, events)?;
     match prepare(alloc, graph, size, limit, strip.cells) {
         Ok(prepared) => Ok(ends(prepared, strip, row)),
         Err(_) => {
             drop(strip.close(row));
-            Err(RingFault::NoMemory)
+            Err(OpenFault::NoMemory)
         }
     }
 }

@@ -39,7 +39,8 @@ mod updating;
 mod writing;
 
 pub use dr_cells::Values;
-pub use dr_meaning::ClaimFault;
+pub use dr_meaning::{ClaimFault, OpenFault};
+pub use dr_runs::HandlerCounts;
 pub use events::Events;
 pub use finishing::finish;
 pub use laws::Halter;

@@ -1,6 +1,9 @@
 -- How the ends of a new ring begin.
-use Rattle.std.specs.Prelude.{◌≡◌, List, [], map, Some}
+use Rattle.std.specs.Prelude.{◌≡◌, ℕ, if◌then◌else◌, List, [], map, Some}
 use Rattle.atomic_table.specs.Seated.{TableId}
+use Rattle.dr_meaning.specs.declared.open_fault.OpenFault.{OpenFault}
+use Rattle.dr_meaning.specs.declared.open_fault.OpenFault.TheVariants.{BadLimit, NoMemory}
+use Rattle.dr_meaning.specs.Calls.OpenFault.{is_bad_limit}
 use Rattle.dr_plain.specs.declared.record.ReceiverRecord.{ReceiverRecord}
 use Rattle.dr_plain.specs.Meaning.Shape.{Shape, handlers_of}
 use Rattle.dr_plain.specs.Meaning.Moments.{fresh_sender, fresh_receivers, fresh_halter}
@@ -20,3 +23,7 @@ pub record AreFreshEnds {T : Type 0} (k : Shape) (events : List T) (s : SenderEn
   pub stored : s.stored ≡ []
   pub receivers : rs ≡ map (λ r. receiver_at_ring s.ring r) (fresh_receivers k 0 (handlers_of k))
   pub halter : t ≡ record { ring = s.ring; knows = fresh_halter k; hand = []; past = []; stored = [] }
+
+-- why a ring is refused: its limit, or that memory ran out
+abbrev pub fault_of : ℕ → OpenFault
+fault_of limit = if is_bad_limit limit then BadLimit else NoMemory
