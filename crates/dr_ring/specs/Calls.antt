@@ -8,5 +8,6 @@ pub mod Receiving
 pub mod Inlets
 pub mod Outlets
 pub mod Making
+pub mod Fault
 pub mod Replies
 pub mod Handing

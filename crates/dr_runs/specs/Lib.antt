@@ -6,7 +6,6 @@ pub mod Looks
 pub mod Entries
 pub mod Polls
 pub mod Words
-pub mod Fault
 pub mod Noted
 pub mod Replies
 pub mod LastLooks

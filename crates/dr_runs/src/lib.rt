@@ -11,7 +11,6 @@
 #![tactic(auto)]
 
 mod counts;
-mod fault;
 mod look;
 mod plan;
 mod polling;
@@ -20,7 +19,6 @@ mod words;
 mod written;
 
 pub use counts::HandlerCounts;
-pub use fault::RingFault;
 pub use look::Look;
 pub use plan::copy_upstreams;
 pub use polling::{lesser, nothing_offered};

@@ -1,8 +1,8 @@
 //! Why a ring is not made.
 
 ghost use Rattle.std.specs.Prelude.{◌≡◌, Some};
-ghost use Rattle.dr_runs.specs.Fault.{number_of, name_of};
-ghost use Rattle.dr_runs.specs.declared.fault.RingFault.TheVariants.{NoMemory};
+ghost use Rattle.dr_ring.specs.Calls.Fault.{number_of, name_of};
+ghost use Rattle.dr_ring.specs.declared.fault.RingFault.TheVariants.{NoMemory};
 
 use std::alloc::{AllocError, AllocFailed};
 use std::fmt;
