@@ -8,7 +8,7 @@ use crate::fault::Fault;
 use crate::telling::Lines;
 use dr_graph::Graph;
 use dr_meaning::MAX_LIMIT;
-use dr_plain_senders::{Halter, Receiver, Sender, finish, senders_ring};
+use dr_plain_senders::{Halter, Receiver, Sender, finish, ring};
 use dr_seq::Size;
 use std::alloc::{AllocError, Global};
 use std::sync::Arc;
@@ -21,7 +21,7 @@ pub fn opened<T: Drop>(alloc: Global, graph: &Graph, events: Vec<T>) -> Result<E
     ensures { IfOk result (λ ends. AreAllEnds ends.0.items ends.1.items ends.2) }
 {
     let size = Size::new(events.len() as u64)?;
-    Ok(senders_ring(alloc, graph, size, MAX_LIMIT, 2, events)?)
+    Ok(ring(alloc, graph, size, MAX_LIMIT, 2, events)?)
 }
 
 /// An event that has a part in a number, in which nobody else has one but who keeps the numbers.

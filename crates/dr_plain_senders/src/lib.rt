@@ -44,7 +44,7 @@ pub use dr_runs::HandlerCounts;
 pub use events::Events;
 pub use finishing::finish;
 pub use laws::Halter;
-pub use opening::senders_ring;
+pub use opening::ring;
 pub use plan::Plan;
 pub use receiver::Receiver;
 pub use sender::Sender;

@@ -226,7 +226,7 @@ fn prepare<T: Drop>(
 /// [`dr_meaning::MAX_PRODUCERS`], with `BadLimit` where the limit is 0 or above
 /// [`dr_meaning::MAX_LIMIT`], and with `NoMemory` where an allocation failed. The events are then
 /// dropped.
-pub fn senders_ring<T: Drop>(
+pub fn ring<T: Drop>(
     alloc: Global,
     graph: &Graph,
     size: Size,

@@ -3,7 +3,7 @@ use Rattle.std.specs.Global.{Vec}
 use Rattle.dr_plain_senders.specs.Meaning.Shape.{Shape}
 use Rattle.dr_plain_senders.proofs.Dealing.{slot_each, are_first}
 use Rattle.dr_plain_senders.proofs.Together.{all_fresh}
-use Rattle.dr_plain_senders.proofs.opening.senders_ring.Goals as goal
+use Rattle.dr_plain_senders.proofs.opening.ring.Goals as goal
 
 pub deal-requires : goal.deal-requires
 deal-requires g c =
