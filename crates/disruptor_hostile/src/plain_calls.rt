@@ -12,7 +12,7 @@ use crate::taking_none::tell_memory;
 use crate::telling::Lines;
 use dr_graph::Graph;
 use dr_meaning::MAX_LIMIT;
-use dr_plain::{Halter, Receiver, Sender, Values, finish, ring};
+use dr_plain::{Halter, Receiver, Sender, Values, ring, settle_all};
 use dr_seq::{Event, Size};
 use std::alloc::Global;
 
@@ -108,7 +108,7 @@ fn tell_finished<R: Print>(out: &Lines<R>, alloc: Global, ends: Ends)
     requires { AreAllEnds ends.0 ends.1.items × IsHalterOf ends.0 ends.2 }
 {
     let (sender, receivers, halter) = ends;
-    let (settled, mut events) = finish(sender, receivers, halter);
+    let (settled, mut events) = settle_all(sender, receivers, halter);
     let (claimed, handlers) = (settled.claimed(), settled.handlers());
     tell_back(out, alloc, claimed, handlers, &mut events);
 }

@@ -8,7 +8,7 @@ use crate::fault::Fault;
 use crate::telling::Lines;
 use dr_graph::Graph;
 use dr_meaning::MAX_LIMIT;
-use dr_plain_senders::{Halter, Receiver, Sender, finish, ring};
+use dr_plain_senders::{Halter, Receiver, Sender, ring, settle_all};
 use dr_seq::Size;
 use std::alloc::{AllocError, Global};
 use std::sync::Arc;
@@ -105,7 +105,7 @@ fn tell_back<R: Print>(out: &Lines<R>, ends: Ends<Counted>, count: usize)
     requires { AreAllEnds ends.0.items ends.1.items ends.2 }
 {
     let (senders, receivers, halter) = ends;
-    let (settled, mut events) = finish(senders, receivers, halter);
+    let (settled, mut events) = settle_all(senders, receivers, halter);
     out.between(settled.claimed(), " ", settled.handlers());
     for _ in 0..count {
         tell_event(out, events.next());

@@ -22,7 +22,7 @@ use crate::workers::{Back, Worker, apart, join, start, wait_for};
 use dr_cells::Values;
 use dr_graph::Graph;
 use dr_meaning::{InPlaceHandler, MAX_LIMIT};
-use dr_plain::{Halter, Receiver, Sender, Settled, finish, ring};
+use dr_plain::{Halter, Receiver, Sender, Settled, ring, settle_all};
 use dr_seq::Size;
 use dr_workers::Bell;
 use std::alloc::{AllocError, Global};
@@ -138,7 +138,7 @@ fn wind_up<R: Threads + Wait + Copy, E: Drop, H: InPlaceHandler<E> + Drop>(
     let sender = closed(live);
     let served = join(&rt, workers)?;
     let Back { outlets, handlers } = apart(alloc, served)?;
-    let (settled, events) = finish(sender, outlets, halter);
+    let (settled, events) = settle_all(sender, outlets, halter);
     Ok((handlers, settled, events))
 }
 

@@ -21,7 +21,7 @@ use crate::workers::{Back, apart};
 use dr_cells::Values;
 use dr_graph::Graph;
 use dr_meaning::InPlaceHandler;
-use dr_plain::{Halter, Settled, finish};
+use dr_plain::{Halter, Settled, settle_all};
 use dr_seq::Size;
 use dr_workers::WaitStrategy;
 use std::alloc::{AllocError, Global};
@@ -45,7 +45,7 @@ fn wind_up_here<R: Wait + Copy, E: Drop, H: InPlaceHandler<E> + Drop>(
     let (here, _bell) = live.into_end();
     let (sender, served) = here.drained(&rt, alloc)?;
     let Back { outlets, handlers } = apart(alloc, served)?;
-    let (settled, events) = finish(sender, outlets, halter);
+    let (settled, events) = settle_all(sender, outlets, halter);
     Ok((handlers, settled, events))
 }
 

@@ -152,7 +152,7 @@ fn bring_together<T: Drop>(
 /// than a round beyond what each final handler completed. There is one run of all ends that came
 /// to what they know, in which each end stored exactly what it did, and its transcript is lawful.
 /// Where the halter never halted the ring, the sender found no halt but its own.
-pub fn finish<T: Drop>(
+pub fn settle_all<T: Drop>(
     sender: Sender<T>,
     receivers: Vec<Receiver<T>>,
     halter: Halter<T>,

@@ -35,7 +35,7 @@ pub use dr_cells::Values;
 pub use dr_meaning::OpenFault;
 pub use dr_runs::HandlerCounts;
 pub use events::Events;
-pub use finishing::finish;
+pub use finishing::settle_all;
 pub use laws::Halter;
 pub use opening::ring;
 pub use plan::Plan;

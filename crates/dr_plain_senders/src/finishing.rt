@@ -206,7 +206,7 @@ pub(crate) fn reclaim_all<T>(
 /// sender of its sequence, and all that is claimed where it was told that the ring drained. No
 /// handler took more than its upstreams completed, and no more is claimed than a round beyond what
 /// each final handler completed.
-pub fn finish<T: Drop>(
+pub fn settle_all<T: Drop>(
     senders: Vec<Sender<T>>,
     receivers: Vec<Receiver<T>>,
     halter: Halter<T>,

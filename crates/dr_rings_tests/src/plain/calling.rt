@@ -11,7 +11,7 @@ use crate::ends::{AllEnds, Sends, Shows};
 use crate::playing::Came;
 use crate::texts::{ShowsTexts, are_texts};
 use dr_meaning::{Claimed, Polled, Refusal, Reply};
-use dr_plain::{Receiver, Sender, Settled, finish};
+use dr_plain::{Receiver, Sender, Settled, settle_all};
 use dr_seq::Event;
 use std::alloc::Global;
 use std::process::Abort;
@@ -106,7 +106,7 @@ impl AllEnds for Ends<Event> {
     }
 
     fn finish(self) -> Came {
-        let (settled, _) = finish(self.sender, self.receivers, self.halter);
+        let (settled, _) = settle_all(self.sender, self.receivers, self.halter);
         came(&settled)
     }
 }
@@ -139,7 +139,7 @@ impl AllEnds for Counting<Ends<Counted>> {
             receivers,
             halter,
         } = self.ends;
-        let (settled, events) = finish(sender, receivers, halter);
+        let (settled, events) = settle_all(sender, receivers, halter);
         let mut told = came(&settled);
         told.events = Some(events);
         told

@@ -11,8 +11,8 @@ use Rattle.dr_disruptor.proofs.Through.{end_back, served_by}
 use Rattle.dr_disruptor.proofs.Ready.{all_moved, are_settled, halter_moved, has_all, is_told, receivers_back, saw_by, went_whole, received_by}
 use Rattle.dr_disruptor.proofs.running.wind_up.Goals as goal
 
-pub finish-settled-requires-clause-ends : goal.finish-settled-requires-clause-ends
-finish-settled-requires-clause-ends g c =
+pub settle_all-settled-requires-clause-ends : goal.settle_all-settled-requires-clause-ends
+settle_all-settled-requires-clause-ends g c =
     let goes = g.H.InPlaceHandler.goes in
     let sender = c.closed-sender.result in
     let workers = c.args.workers.items in
@@ -22,8 +22,8 @@ finish-settled-requires-clause-ends g c =
     subst (λ (l : List (ReceiverEnd g.row.E.Denot)). AreAllEnds sender l) (sym c.in_ok-outlets.ensures.outlets)
     (receivers_back goes c.args.batch sender (map given_end workers) (map given_handler workers) served are moved)
 
-pub finish-settled-requires-clause-halter : goal.finish-settled-requires-clause-halter
-finish-settled-requires-clause-halter g c =
+pub settle_all-settled-requires-clause-halter : goal.settle_all-settled-requires-clause-halter
+settle_all-settled-requires-clause-halter g c =
     halter_moved c.args.live c.closed-sender.result c.args.halter c.closed-sender.ensures.1.0.0 c.requires.halter
 
 pub returns-clause-through : goal.returns-clause-through
@@ -36,7 +36,7 @@ returns-clause-through g c =
     let outlets = map (λ s. s.outlet) served in
     let settles : Settles sender.knows (map (λ (e : ReceiverEnd g.row.E.Denot). e.knows) outlets) =
     subst (λ (l : List (ReceiverEnd g.row.E.Denot)). Settles sender.knows (map (λ (e : ReceiverEnd g.row.E.Denot). e.knows) l)) c.in_ok-outlets.ensures.outlets
-    c.finish-settled.ensures.lists in
+    c.settle_all-settled.ensures.lists in
     subst (λ (l : List g.row.H.Denot). AllWentThrough goes c.args.batch (events_of c.args.live.knows.published) (map given_handler workers) l)
     (sym c.in_ok-outlets.ensures.handlers)
     (went_whole goes c.args.batch c.args.live sender (map given_end workers) (map given_handler workers) served
@@ -49,7 +49,7 @@ returns-clause-served g c =
       served = served;
       are = served_by receiver_place received_by is_told saw_by does_in_place g.H.InPlaceHandler.goes c.args.batch c.args.workers.items served c.requires.batches
           c.in_ok-served.ensures;
-      ends_back = c.finish-settled.ensures.ends.1 ∙ c.in_ok-outlets.ensures.outlets;
+      ends_back = c.settle_all-settled.ensures.ends.1 ∙ c.in_ok-outlets.ensures.outlets;
       handlers_back = c.in_ok-outlets.ensures.handlers;
     }
 
@@ -61,8 +61,8 @@ returns-clause-settled g c =
     let served = c.in_ok-served.served.items in
     let are = served_by receiver_place received_by is_told saw_by does_in_place goes c.args.batch workers served c.requires.batches c.in_ok-served.ensures in
     let back = c.in_ok-outlets.field-0.outlets.items in
-    let done = c.finish-settled.ensures in
-    are_settled c.args.live sender back c.args.halter c.finish-settled.result.0 c.finish-settled.result.1 c.closed-sender.ensures done.ends done.run done.lists
+    let done = c.settle_all-settled.ensures in
+    are_settled c.args.live sender back c.args.halter c.settle_all-settled.result.0 c.settle_all-settled.result.1 c.closed-sender.ensures done.ends done.run done.lists
     (λ h e at.
     let one = end_back receiver_place received_by is_told saw_by does_in_place goes c.args.batch (map given_end workers) (map given_handler workers) served are h e
     (ap (λ (l : List (ReceiverEnd g.row.E.Denot)). get_elem? l h) (sym c.in_ok-outlets.ensures.outlets) ∙ at) in

@@ -8,9 +8,9 @@ use Rattle.dr_plain_senders.specs.Calls.Settling.{HasRun, GivesBack}
 use Rattle.dr_plain_senders.proofs.Plans.{is_shape}
 use Rattle.dr_plain_senders.proofs.Gathering.{Together, has_all, has_run}
 use Rattle.dr_plain_senders.proofs.Departed.{halter_in}
-use Rattle.dr_plain_senders.proofs.finishing.finish.Goals as goal
-use Rattle.dr_plain_senders.proofs.finishing.finish.Given.{Over}
-use Rattle.dr_plain_senders.proofs.finishing.finish.Goals.{After-gather_receivers}
+use Rattle.dr_plain_senders.proofs.finishing.settle_all.Goals as goal
+use Rattle.dr_plain_senders.proofs.finishing.settle_all.Given.{Over}
+use Rattle.dr_plain_senders.proofs.finishing.settle_all.Goals.{After-gather_receivers}
 
 -- the plan that the halter left is the ring's
 plan_is : {T : Type 0} (left given : HalterStand T) (k plan : Shape T) → left ≡ given → given.plan ≡ k → plan ≡ k → left.plan ≡ plan
