@@ -16,7 +16,7 @@ ghost use Rattle.dr_plain.specs.Calls.Settling.{AreAllEnds, IsHalterOf, HasRun, 
 ghost use Rattle.dr_plain.specs.Calls.Ends.{SenderEnd, ReceiverEnd, HalterStand};
 ghost use Rattle.dr_plain.specs.Inside.Fits.{PartsFit};
 ghost use Rattle.dr_plain.specs.Inside.Seats.{IsAtTable, ring_ends, exchange};
-ghost use Rattle.dr_plain.specs.Inside.Gathering.{AreReceiversOf, receiver_known};
+ghost use Rattle.dr_plain.specs.Inside.Gathering.{AreReceiversAt, receiver_known};
 ghost use Rattle.dr_plain.specs.Inside.Finishing.{HasAllEnds};
 ghost use Rattle.dr_plain.specs.Inside.Bringing.{AreHandsOf, EndsKeep};
 
@@ -69,7 +69,7 @@ fn gather_receivers<T: Drop>(
     hands: &mut Vec<Vec<Token<T>>>,
 )
     requires table { IsAtTable seat.old.table_id (arc_value ring.now).table.shared.table_id (arc_value ring.now).plan }
-    requires receivers { AreReceiversOf seat.old.table_id receivers.items }
+    requires receivers { AreReceiversAt seat.old.table_id receivers.items }
     requires places { length counts.old.items ≡ length receivers.items }
     requires rooms { length hands.old.items ≡ length receivers.items }
     ensures seat { (seat.new.table_id ≡ seat.old.table_id) × (seat.new.me.1 ≡ seat.old.me.1) }

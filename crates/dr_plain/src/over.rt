@@ -6,7 +6,7 @@ ghost use lib.ListN.{get_elem?};
 ghost use Rattle.dr_runs.specs.Gathering.{Gathers};
 ghost use Rattle.dr_plain.specs.Calls.Settling.{AreAllEnds, IsHalterOf, handler_counts};
 ghost use Rattle.dr_plain.specs.Inside.Seats.{ring_ends};
-ghost use Rattle.dr_plain.specs.Inside.Gathering.{AreReceiversOf, receiver_known};
+ghost use Rattle.dr_plain.specs.Inside.Gathering.{AreReceiversAt, receiver_known};
 ghost use Rattle.dr_plain.specs.Inside.Bringing.{AreHandsOf};
 ghost use Rattle.dr_plain.specs.Inside.Leaving.{BelongsSender};
 
@@ -27,7 +27,7 @@ fn gather_receivers_left<T>(
     hands: &mut Vec<Vec<Token<T>>>,
 )
     requires table { (seat.old.table_id ≡ words.now.table_id) × (0 < words.now.table_id.words) }
-    requires receivers { AreReceiversOf seat.old.table_id receivers }
+    requires receivers { AreReceiversAt seat.old.table_id receivers }
     requires places { length counts.old.items ≡ length receivers }
     requires rooms { length hands.old.items ≡ length receivers }
     ensures seat { (seat.new.table_id ≡ seat.old.table_id) × (seat.new.me.1 ≡ seat.old.me.1) }

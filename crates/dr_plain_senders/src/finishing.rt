@@ -18,7 +18,7 @@ ghost use Rattle.dr_plain_senders.specs.Calls.Settling.{AreAllEnds, HasRun, Give
 ghost use Rattle.dr_plain_senders.specs.Inside.Fits.{PartsFit};
 ghost use Rattle.dr_plain_senders.specs.Inside.Owned.{is_open};
 ghost use Rattle.dr_plain_senders.specs.Inside.Seats.{exchange, ring_ends};
-ghost use Rattle.dr_plain_senders.specs.Inside.Gathering.{AreSendersOf, AreReceiversOf, sender_known, receiver_known};
+ghost use Rattle.dr_plain_senders.specs.Inside.Gathering.{AreSendersAt, AreReceiversAt, sender_known, receiver_known};
 ghost use Rattle.dr_plain_senders.specs.Inside.Bringing.{AreTaken, AreBrought, AreHandsOf, AreTogether};
 
 use crate::answers::claimed_in;
@@ -131,7 +131,7 @@ fn gather_senders<T: Drop>(
     brought: &mut Vec<bool>,
 )
     requires table { (seat.old.table_id ≡ words.now.table_id) × (0 < words.now.table_id.words) }
-    requires senders { AreSendersOf seat.old.table_id senders.items }
+    requires senders { AreSendersAt seat.old.table_id senders.items }
     requires plans { (p : ℕ) (e : SenderEnd T) → get_elem? senders.items p ≡ some e → e.plan ≡ plan.now }
     requires size { 0 < plan.now.size }
     requires places { (length tokens.old.items ≡ plan.now.size) × (brought.old.items ≡ replicate plan.now.size false) }
@@ -154,7 +154,7 @@ fn gather_receivers<T: Drop>(
     hands: &mut Vec<Vec<Token<T>>>,
 )
     requires table { (seat.old.table_id ≡ words.now.table_id) × (0 < words.now.table_id.words) }
-    requires receivers { AreReceiversOf seat.old.table_id receivers.items }
+    requires receivers { AreReceiversAt seat.old.table_id receivers.items }
     requires places { length counts.old.items ≡ length receivers.items }
     requires rooms { length hands.old.items ≡ length receivers.items }
     ensures seat { (seat.new.table_id ≡ seat.old.table_id) × (seat.new.me.1 ≡ seat.old.me.1) }

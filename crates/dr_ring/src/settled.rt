@@ -6,7 +6,7 @@ ghost use Rattle.std.specs.Arc.{arc_value};
 ghost use Rattle.dr_ring.specs.Inside.Seats.{IsAtTable, ring_ends};
 ghost use Rattle.dr_ring.specs.Meaning.Records.{claimed as claimed_of};
 ghost use Rattle.dr_runs.specs.Gathering.{Gathers, counts_at};
-ghost use Rattle.dr_ring.specs.Inside.Gathering.{AreOfRing, halters_known, receiver_known};
+ghost use Rattle.dr_ring.specs.Inside.Gathering.{AreReceiversAt, halters_known, receiver_known};
 ghost use Rattle.dr_ring.specs.Meaning.Settling.{FoundUnhalted, Settles};
 ghost use Rattle.dr_ring.specs.Calls.Settling.{AreAllEnds, AreOfOneRun, AreReceiversOf, HasRun, handler_counts};
 
@@ -88,7 +88,7 @@ fn gather_receivers(
     counts: &mut Vec<HandlerCounts>,
 )
     requires table { IsAtTable seat.old.table_id (arc_value ring.now).table.shared.table_id (arc_value ring.now).plan }
-    requires receivers { AreOfRing seat.old.table_id receivers.items }
+    requires receivers { AreReceiversAt seat.old.table_id receivers.items }
     requires places { length counts.old.items ≡ length receivers.items }
     ensures seat { seat.new.table_id ≡ seat.old.table_id }
     ensures view { Gathers ring_ends seat.old.me.0 (map receiver_known receivers.items) seat.new.me.0 }

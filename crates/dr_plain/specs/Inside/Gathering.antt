@@ -8,9 +8,9 @@ use Rattle.dr_plain.specs.declared.record.Step.{Step}
 use Rattle.dr_plain.specs.Calls.Ends.{SenderEnd, ReceiverEnd, HalterStand}
 
 module _ {T : Type 0} where
-  -- the receivers are of this ring
-  abbrev pub AreReceiversOf : TableId → List (ReceiverEnd T) → Type 0
-  AreReceiversOf ring es = AreOf (λ (e : ReceiverEnd T). e.ring) ring es
+  -- the receivers are at this ring
+  abbrev pub AreReceiversAt : TableId → List (ReceiverEnd T) → Type 0
+  AreReceiversAt ring es = AreOf (λ (e : ReceiverEnd T). e.ring) ring es
 
   abbrev pub sender_known : SenderEnd T → Known (EndRecord T) (Step T)
   sender_known e = record { knows = Sends e.knows; past = e.past; stored = e.stored }

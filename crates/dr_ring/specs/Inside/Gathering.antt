@@ -5,11 +5,11 @@ use Rattle.dr_runs.specs.Gathering.{AreOf, Known}
 use Rattle.dr_ring.specs.declared.record.EndRecord.{EndRecord}
 use Rattle.dr_ring.specs.declared.record.EndRecord.TheVariants.{Sends, Receives, Halts}
 use Rattle.dr_ring.specs.declared.record.Step.{Step}
-use Rattle.dr_ring.specs.Calls.Ends.{EndOf, SenderEnd, ReceiverEnd, HalterEnd}
+use Rattle.dr_ring.specs.Calls.Ends.{SenderEnd, ReceiverEnd, HalterEnd}
 
--- the ends are of this ring
-abbrev pub AreOfRing : {K : Type 0} → TableId → List (EndOf K) → Type 0
-AreOfRing ring es = AreOf (λ (e : EndOf _). e.ring) ring es
+-- the receivers are at this ring
+abbrev pub AreReceiversAt : TableId → List ReceiverEnd → Type 0
+AreReceiversAt ring es = AreOf (λ (e : ReceiverEnd). e.ring) ring es
 
 abbrev pub sender_known : SenderEnd → Known EndRecord Step
 sender_known e = record { knows = Sends e.knows; past = e.past; stored = e.stored }
