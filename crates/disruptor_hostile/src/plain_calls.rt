@@ -1,7 +1,7 @@
 //! A ring over plain memory: how it is made, and the calls of its ends, none of which takes memory.
 
 ghost use Rattle.std.specs.Prelude.{IfOk};
-ghost use Rattle.dr_plain.specs.Calls.Settling.{AreAllEnds, IsHalterOf};
+ghost use Rattle.dr_plain.specs.Calls.Settling.{AreAllEnds};
 
 use crate::again::again;
 use crate::by_traits::{tell_inlet, tell_outlets};
@@ -21,7 +21,7 @@ type Ends = (Sender<Event>, Vec<Receiver<Event>>, Halter<Event>);
 
 /// The ends of a ring of four slots.
 fn opened(alloc: Global, graph: &Graph) -> Result<Ends, Fault>
-    ensures { IfOk result (λ ends. AreAllEnds ends.0 ends.1.items × IsHalterOf ends.0 ends.2) }
+    ensures { IfOk result (λ ends. AreAllEnds ends.0 ends.1.items ends.2) }
 {
     let size = Size::new(4)?;
     let events = vec![in alloc; Event::NONE; 4]?;
@@ -105,7 +105,7 @@ pub fn tell_back<R: Print>(
 
 // Brings the ends of a ring together, and tells what came back.
 fn tell_finished<R: Print>(out: &Lines<R>, alloc: Global, ends: Ends)
-    requires { AreAllEnds ends.0 ends.1.items × IsHalterOf ends.0 ends.2 }
+    requires { AreAllEnds ends.0 ends.1.items ends.2 }
 {
     let (sender, receivers, halter) = ends;
     let (settled, mut events) = settle_all(sender, receivers, halter);

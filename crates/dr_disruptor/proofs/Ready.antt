@@ -21,7 +21,7 @@ use Rattle.dr_plain.specs.Meaning.Shape.{Shape, handlers_of}
 use Rattle.dr_plain.specs.Calls.Ends.{HalterStand, ReceiverEnd, ReceiverPlace, SenderEnd, SenderPlace, receiver_place, received_of, sender_place}
 use Rattle.dr_plain.specs.Calls.Making.{receiver_at_ring}
 use Rattle.dr_plain.specs.Calls.Sending.{CloseCall}
-use Rattle.dr_plain.specs.Calls.Settling.{AreAllEnds, HasRun, IsHalterOf, handler_counts}
+use Rattle.dr_plain.specs.Calls.Settling.{AreAllEnds, HasRun, handler_counts}
 use Rattle.dr_disruptor.specs.declared.fault.RunFault.TheVariants as fault
 use Rattle.dr_disruptor.specs.declared.served.Served.{Served}
 use Rattle.dr_plain.specs.Calls.InPlace.{SawPublished, does_in_place}
@@ -56,25 +56,28 @@ module _ {E : Type 0} where
   all_idle t k a (suc n) = All-cons (λ (e : ReceiverEnd E). IsIdle (received_by e)) _ _ refl (all_idle t k (suc a) n)
 
   -- a sender that stays at its place has the same ends beside it
-  pub all_moved : (s s' : SenderEnd E) (rs : List (ReceiverEnd E)) → sender_place s' ≡ sender_place s → AreAllEnds s rs → AreAllEnds s' rs
-  all_moved s s' rs same all = record {
-    all = all.all ∙ ap (λ (p : SenderPlace). handlers_of p.1) (sym same);
-    each = λ h e at. let a = all.each h e at in (a.0 ∙ ap (λ (p : SenderPlace). p.0) (sym same), a.1);
+  pub all_moved : (s s' : SenderEnd E) (rs : List (ReceiverEnd E)) (t : HalterStand E) → sender_place s' ≡ sender_place s → AreAllEnds s rs t → AreAllEnds s' rs t
+  all_moved s s' rs t same all = record {
+    receivers = record {
+      all = all.receivers.all ∙ ap (λ (p : SenderPlace). handlers_of p.1) (sym same);
+      each = λ h e at. let a = all.receivers.each h e at in (a.0 ∙ ap (λ (p : SenderPlace). p.0) (sym same), a.1);
+    };
+    halter = all.halter ∙ ap (λ (p : SenderPlace). p.0) (sym same);
   }
 
-  pub halter_moved : (s s' : SenderEnd E) (t : HalterStand E) → sender_place s' ≡ sender_place s → IsHalterOf s t → IsHalterOf s' t
-  halter_moved s s' t same is = is ∙ ap (λ (p : SenderPlace). p.0) (sym same)
-
   -- what was served comes back as all ends of the ring
-  pub receivers_back : {A : Type 0} (goes : Relation E A) (room : ℕ) (s : SenderEnd E) (ends : List (ReceiverEnd E)) (starts : List A)
-      → (served : List (Served (ReceiverEnd E) A)) → AreServed receiver_place received_by is_told saw_by does_in_place goes room ends starts served → AreAllEnds s ends
-      → AreAllEnds s (map (λ (b : Served (ReceiverEnd E) A). b.outlet) served)
-  receivers_back goes room s ends starts served are all = record {
-    all = many_back receiver_place received_by is_told saw_by does_in_place goes room ends starts served are ∙ all.all;
-    each = λ h e at.
-        let (given, there, same, told, idle) = end_back receiver_place received_by is_told saw_by does_in_place goes room ends starts served are h e at in
-        let was = all.each h given there in
-        (ap (λ (q : ReceiverPlace). q.0) same ∙ was.0, ap (λ (q : ReceiverPlace). q.2) same ∙ was.1);
+  pub receivers_back : {A : Type 0} (goes : Relation E A) (room : ℕ) (s : SenderEnd E) (t : HalterStand E) (ends : List (ReceiverEnd E)) (starts : List A)
+      → (served : List (Served (ReceiverEnd E) A)) → AreServed receiver_place received_by is_told saw_by does_in_place goes room ends starts served → AreAllEnds s ends t
+      → AreAllEnds s (map (λ (b : Served (ReceiverEnd E) A). b.outlet) served) t
+  receivers_back goes room s t ends starts served are all = record {
+    receivers = record {
+      all = many_back receiver_place received_by is_told saw_by does_in_place goes room ends starts served are ∙ all.receivers.all;
+      each = λ h e at.
+          let (given, there, same, told, idle) = end_back receiver_place received_by is_told saw_by does_in_place goes room ends starts served are h e at in
+          let was = all.receivers.each h given there in
+          (ap (λ (q : ReceiverPlace). q.0) same ∙ was.0, ap (λ (q : ReceiverPlace). q.2) same ∙ was.1);
+    };
+    halter = all.halter;
   }
 
   -- who was told that the ring drained received what was published

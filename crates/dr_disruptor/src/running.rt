@@ -8,7 +8,7 @@ ghost use lib.ListN.{get_elem?};
 ghost use Rattle.dr_plain.specs.Calls.Ends.{ReceiverEnd, SenderEnd, received_of, sender_place};
 ghost use Rattle.dr_plain.specs.Calls.Making.{AreFreshEnds};
 ghost use Rattle.dr_plain.specs.Calls.Sending.{CloseCall};
-ghost use Rattle.dr_plain.specs.Calls.Settling.{AreAllEnds, IsHalterOf};
+ghost use Rattle.dr_plain.specs.Calls.Settling.{AreAllEnds};
 ghost use Rattle.dr_plain.specs.Meaning.Records.{events_of};
 ghost use Rattle.dr_disruptor.specs.Handlers.{AllWentThrough};
 ghost use Rattle.dr_disruptor.specs.Serving.{AreInBatches, IsIdle, given_end, given_handler};
@@ -55,7 +55,7 @@ pub(crate) fn open<E: Drop>(
 ) -> Result<Opened<E>, RunFault>
     requires { length events.items ≡ size }
     ensures fresh { IfOk result (λ r. (strip : Ptr) × AreFreshEnds (shape_of graph.now.upstreams size strip) events.items r.0 r.1.items r.2) }
-    ensures ends { IfOk result (λ r. AreAllEnds r.0 r.1.items × IsHalterOf r.0 r.2) }
+    ensures ends { IfOk result (λ r. AreAllEnds r.0 r.1.items r.2) }
     ensures many { IfOk result (λ r. (handlers ≡ length graph.now.upstreams) × (length r.1.items ≡ handlers)) }
     ensures refused { IfErr result (λ e. e ≡ refusal_of (length graph.now.upstreams) handlers) }
 {
@@ -126,8 +126,7 @@ fn wind_up<R: Threads + Wait + Copy, E: Drop, H: InPlaceHandler<E> + Drop>(
     halter: Halter<E>,
     batch: u64,
 ) -> Result<(Vec<H>, Settled<E>, Values<E>), AllocError>
-    requires ends { AreAllEnds live (map given_end workers.items) }
-    requires halter { IsHalterOf live halter }
+    requires ends { AreAllEnds live (map given_end workers.items) halter }
     requires unhalted { halter.knows.halted ≡ false }
     requires fresh { (h : _) (e : ReceiverEnd E) → get_elem? (map given_end workers.items) h ≡ some e → (received_of e.knows).events ≡ [] }
     requires batches { AreInBatches batch workers.items }

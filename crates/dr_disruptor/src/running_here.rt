@@ -4,7 +4,7 @@ ghost use Rattle.std.specs.Prelude.{◌≡◌, ◌<◌, [], false, IfErr, IfOk, 
 ghost use mathlib.Core.Option.{some};
 ghost use lib.ListN.{get_elem?};
 ghost use Rattle.dr_plain.specs.Calls.Ends.{ReceiverEnd, received_of};
-ghost use Rattle.dr_plain.specs.Calls.Settling.{AreAllEnds, IsHalterOf};
+ghost use Rattle.dr_plain.specs.Calls.Settling.{AreAllEnds};
 ghost use Rattle.dr_plain.specs.Meaning.Records.{events_of};
 ghost use Rattle.dr_disruptor.specs.Handlers.{AllWentThrough};
 ghost use Rattle.dr_disruptor.specs.Here.{HereEnd, sending_here};
@@ -34,8 +34,7 @@ fn wind_up_here<R: Wait + Copy, E: Drop, H: InPlaceHandler<E> + Drop>(
     live: LiveSender<R, Here<E, H>>,
     halter: Halter<E>,
 ) -> Result<(Vec<H>, Settled<E>, Values<E>), AllocError>
-    requires ends { AreAllEnds live.sender live.ends }
-    requires halter { IsHalterOf live.sender halter }
+    requires ends { AreAllEnds live.sender live.ends halter }
     requires unhalted { halter.knows.halted ≡ false }
     requires fresh { (h : _) (e : ReceiverEnd E) → get_elem? live.ends h ≡ some e → (received_of e.knows).events ≡ [] }
     ensures through { IfOk result (λ r. AllWentThrough H.goes live.batch (events_of live.sender.knows.published) live.starts r.0.items) }

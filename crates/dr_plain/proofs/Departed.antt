@@ -72,7 +72,7 @@ module _ {T : Type 0} where
       come = λ i x here. (let m = at_map receiver_known es i x here in
           subst (λ (y : Known (EndRecord T) (Step T)). IsInView ring_ends v y) m.2 (H.receivers i m.0 m.1));
     };
-    all = H.all;
+    all = H.all.receivers;
   }
 
   -- what a sender keeps, with what came to it of the receivers
@@ -98,5 +98,5 @@ module _ {T : Type 0} where
       let near = A.near in let next = A.next in let front = A.front in
       let first : upto - plan.size ≡ first_lent s.knows = (λ i. next i - (same i).size) in
       subst (λ (x : Shape × (ℕ × ℕ)). AreLanes x.0 counts x.1.0 x.1.1 s.knows.published hand hands tokens) (λ i. (sym same i, (sym first i, sym front i)))
-      (lanes_of k _ _ s es tokens counts hands hand others (all_stand k v v s es (together_of k v s es t H ran)) H.all A.tokens_fit (omega arith)
+      (lanes_of k _ _ s es tokens counts hands hand others (all_stand k v v s es (together_of k v s es t H ran)) H.all.receivers A.tokens_fit (omega arith)
       A.counted A.handed is)

@@ -202,7 +202,7 @@ module _ {T : Type 0} (k : Shape) where
         stay = λ x in_view. in_view;
         come = λ i x here. (let m = at_map receiver_known es i x here in subst (λ (y : Known (EndRecord T) (Step T)). IsInView ring_ends v y) m.2 (H.receivers i m.0 m.1));
       };
-      all = H.all;
+      all = H.all.receivers;
     })
 
     -- no other seat stands for an end
@@ -273,7 +273,7 @@ module _ {T : Type 0} where
     pub mine : IsInView ring_ends own (sender_known s)
     pub halter : Gathers ring_ends own (halter_known t ∷ []) first
     pub receivers : Gathers ring_ends first (map receiver_known es) now
-    pub all : AreAllEnds s es
+    pub all : AreAllEnds s es t
 
   pub has_all : (own first now : View (EndRecord T) (Step T)) (s : SenderEnd T) (es : List (ReceiverEnd T)) (t : HalterStand T)
       → AllTogether own first now s es t → HasAllEnds now s es t
@@ -287,4 +287,4 @@ module _ {T : Type 0} where
   pub together : (k : Shape) (own first now : View (EndRecord T) (Step T)) (s : SenderEnd T) (es : List (ReceiverEnd T)) (t : HalterStand T)
       → AllTogether own first now s es t
       → ViewRan (exchange k) now → Together k first now s es
-  together k own first now s es t A ran = record { ran = ran; first = A.halter.stay (sender_known s) A.mine; gathers = A.receivers; all = A.all }
+  together k own first now s es t A ran = record { ran = ran; first = A.halter.stay (sender_known s) A.mine; gathers = A.receivers; all = A.all.receivers }

@@ -24,7 +24,7 @@ use Rattle.dr_plain.specs.Meaning.Settling.{FoundUnhalted, Settles}
 use Rattle.dr_plain.specs.Inside.Seats.{ring_ends, exchange}
 use Rattle.dr_plain.specs.Inside.Gathering.{sender_known, receiver_known, halter_known}
 use Rattle.dr_plain.specs.Calls.Ends.{SenderEnd, ReceiverEnd, HalterStand}
-use Rattle.dr_plain.specs.Calls.Settling.{AreAllEnds, HasRun}
+use Rattle.dr_plain.specs.Calls.Settling.{AreReceiversOf, HasRun}
 use Rattle.dr_plain.proofs.Beginning.{kept_opening, keeps_runs}
 use Rattle.dr_plain.proofs.Settling.{settles}
 use Rattle.dr_plain.proofs.Unhalted.{unhalted_since}
@@ -41,7 +41,7 @@ module _ {T : Type 0} where
     pub ran : ViewRan (exchange k) now
     pub first : IsInView ring_ends v (sender_known s)
     pub gathers : Gathers ring_ends v (map receiver_known es) now
-    pub all : AreAllEnds s es
+    pub all : AreReceiversOf s es
 
   -- the ends are in the run, and the records of all of them stand in the world that it came to
   pub record AllStand (k : Shape) (w : World T) (steps : List (Step T)) (s : SenderEnd T) (es : List (ReceiverEnd T)) : Type 0 where

@@ -127,13 +127,16 @@ module _ {T : Type 0} where
 
   -- the ends of a new ring are all of its ends
   pub all_fresh : (k : Shape) (events : List T) (s : SenderEnd T) (rs : List (ReceiverEnd T)) (t : HalterStand T) → AreFreshEnds k events s rs t
-      → AreAllEnds s rs
+      → AreAllEnds s rs t
   all_fresh k events s rs t F = record {
-    all = ap length F.receivers ∙ length-map (fresh_receivers k 0 (handlers_of k)) (λ (r : ReceiverRecord T). receiver_at_ring s.ring r) ∙ fresh_count T k 0 (handlers_of k)
-        ∙ sym (ap (λ (q : SenderRecord T). handlers_of q.plan) F.sender);
-    each = λ h e at. (
-        let x : (e.ring ≡ s.ring) × (e.knows.number ≡ 0 + h) = fresh_end k s.ring 0 (handlers_of k) h e (subst (λ (xs : List (ReceiverEnd T)). get_elem? xs h ≡ some e) F.receivers at) in
-        let m = x.1 in (x.0, omega arith));
+    receivers = record {
+      all = ap length F.receivers ∙ length-map (fresh_receivers k 0 (handlers_of k)) (λ (r : ReceiverRecord T). receiver_at_ring s.ring r) ∙ fresh_count T k 0 (handlers_of k)
+          ∙ sym (ap (λ (q : SenderRecord T). handlers_of q.plan) F.sender);
+      each = λ h e at. (
+          let x : (e.ring ≡ s.ring) × (e.knows.number ≡ 0 + h) = fresh_end k s.ring 0 (handlers_of k) h e (subst (λ (xs : List (ReceiverEnd T)). get_elem? xs h ≡ some e) F.receivers at) in
+          let m = x.1 in (x.0, omega arith));
+    };
+    halter = ap (λ (x : HalterStand T). x.ring) F.halter;
   }
 
 pub some_words : (k : Shape) (n : ℕ) (ws : List ℕ) → n ≡ length ws → ws ≡ replicate (words_of k) 0 → 0 < n

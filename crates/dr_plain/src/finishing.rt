@@ -12,7 +12,7 @@ ghost use Rattle.dr_plain.specs.declared.record.EndRecord.{EndRecord};
 ghost use Rattle.dr_plain.specs.declared.record.Step.{Step};
 ghost use Rattle.dr_plain.specs.Meaning.Records.{claimed as claimed_of};
 ghost use Rattle.dr_plain.specs.Meaning.Settling.{FoundUnhalted, Settles};
-ghost use Rattle.dr_plain.specs.Calls.Settling.{AreAllEnds, IsHalterOf, HasRun, handler_counts};
+ghost use Rattle.dr_plain.specs.Calls.Settling.{AreAllEnds, HasRun, handler_counts};
 ghost use Rattle.dr_plain.specs.Calls.Ends.{SenderEnd, ReceiverEnd, HalterStand};
 ghost use Rattle.dr_plain.specs.Inside.Fits.{PartsFit};
 ghost use Rattle.dr_plain.specs.Inside.Seats.{IsAtTable, ring_ends, exchange};
@@ -115,8 +115,7 @@ fn bring_together<T: Drop>(
     receivers: Vec<Receiver<T>>,
     halter: Halter<T>,
 ) -> (Vec<HandlerCounts>, Values<T>)
-    requires ends { AreAllEnds sender receivers.items }
-    requires halter { IsHalterOf sender halter }
+    requires { AreAllEnds sender receivers.items halter }
     ensures handlers { result.0.items ≡ map (λ e. handler_counts e.knows) receivers.items }
     ensures lists { Settles sender.knows (map (λ e. e.knows) receivers.items) }
     ensures unhalted { halter.knows.halted ≡ false → FoundUnhalted sender.knows }
@@ -157,8 +156,7 @@ pub fn settle_all<T: Drop>(
     receivers: Vec<Receiver<T>>,
     halter: Halter<T>,
 ) -> (Settled<T>, Values<T>)
-    requires ends { AreAllEnds sender receivers.items }
-    requires halter { IsHalterOf sender halter }
+    requires { AreAllEnds sender receivers.items halter }
     ensures ends { (result.0.sender.value ≡ sender) × (result.0.receivers.value.items ≡ receivers.items) × (result.0.halter.value ≡ halter) }
     ensures claimed { result.0.claimed ≡ claimed_of sender.knows }
     ensures published { result.0.published ≡ length sender.knows.published }

@@ -11,7 +11,7 @@ ghost use Rattle.dr_plain.specs.Meaning.Moments.{fresh_receivers};
 ghost use Rattle.dr_runs.specs.Seats.{fresh_seat};
 ghost use Rattle.dr_plain.specs.Inside.Seats.{IsAtTable, known_receivers};
 ghost use Rattle.dr_plain.specs.Inside.Making.{AreFreshStands, IsPrepared};
-ghost use Rattle.dr_plain.specs.Calls.Settling.{AreAllEnds, IsHalterOf};
+ghost use Rattle.dr_plain.specs.Calls.Settling.{AreAllEnds};
 ghost use Rattle.dr_plain.specs.Calls.Making.{receiver_at_ring, AreFreshEnds, fault_of};
 
 use crate::body::RingBody;
@@ -216,8 +216,7 @@ pub fn ring<T: Drop>(
 ) -> Result<(Sender<T>, Vec<Receiver<T>>, Halter<T>), OpenFault>
     requires events { length events.items ≡ size }
     ensures made { IfOk result (λ made. (strip : Ptr) × AreFreshEnds (record { upstreams = graph.now.upstreams; size = size; limit = limit; strip = strip }) events.items made.0 made.1.items made.2) }
-    ensures all { IfOk result (λ made. AreAllEnds made.0 made.1.items) }
-    ensures halter { IfOk result (λ made. IsHalterOf made.0 made.2) }
+    ensures all { IfOk result (λ made. AreAllEnds made.0 made.1.items made.2) }
     ensures fits { IsOk result → is_bad_limit limit ≡ false }
     ensures refused { IfErr result (λ fault. fault ≡ fault_of limit) }
 {

@@ -4,7 +4,7 @@ ghost use Rattle.std.specs.Prelude.{◌≡◌, ◌<◌, length, map, Some};
 ghost use mathlib.Core.Option.{some};
 ghost use lib.ListN.{get_elem?};
 ghost use Rattle.dr_runs.specs.Gathering.{Gathers};
-ghost use Rattle.dr_plain.specs.Calls.Settling.{AreAllEnds, IsHalterOf, handler_counts};
+ghost use Rattle.dr_plain.specs.Calls.Settling.{AreAllEnds, handler_counts};
 ghost use Rattle.dr_plain.specs.Inside.Seats.{ring_ends};
 ghost use Rattle.dr_plain.specs.Inside.Gathering.{AreReceiversAt, receiver_known};
 ghost use Rattle.dr_plain.specs.Inside.Bringing.{AreHandsOf};
@@ -50,8 +50,7 @@ pub(crate) fn end<T>(
     halter: HalterLeft<T>,
 ) -> Values<T>
     requires sender { BelongsSender words.now.table_id plan.now sender }
-    requires receivers { AreAllEnds sender receivers }
-    requires halter { IsHalterOf sender halter }
+    requires ends { AreAllEnds sender receivers halter }
     ensures { map (λ event. Some event) result ≡ sender.cells }
 {
     let SenderLeft {

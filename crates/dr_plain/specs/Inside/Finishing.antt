@@ -48,7 +48,7 @@ module _ {T : Type 0} where
     pub sender : IsInView ring_ends v (sender_known s)
     pub halter : IsInView ring_ends v (halter_known t)
     pub receivers : (h : ℕ) (e : ReceiverEnd T) → get_elem? es h ≡ some e → IsInView ring_ends v (receiver_known e)
-    pub all : AreAllEnds s es
+    pub all : AreAllEnds s es t
 
   -- a load by the seat that has them: it stands for none any more, and has in hand what lay in the slots
   pub record TookAll (k : Shape) (s : TableStep (Token T)) (me : Sitting T) (n : ℕ) (me' : Sitting T) : Type 0 where

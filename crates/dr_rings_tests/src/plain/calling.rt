@@ -1,7 +1,7 @@
 //! The ends of this ring, as tests of any ring call them.
 
 ghost use Rattle.dr_plain.specs.Calls.Ends.{sender_place, receiver_place};
-ghost use Rattle.dr_plain.specs.Calls.Settling.{AreAllEnds, IsHalterOf};
+ghost use Rattle.dr_plain.specs.Calls.Settling.{AreAllEnds};
 
 use super::Ends;
 use crate::answering::{answer_of_inlet, answer_of_outlet, answer_of_receiver, answer_of_sender};
@@ -88,7 +88,7 @@ fn came<T>(settled: &Settled<T>) -> Came {
 
 /// By the calls that copy events.
 impl AllEnds for Ends<Event> {
-    ghost are_all = { λ e. AreAllEnds e.sender e.receivers.items × IsHalterOf e.sender e.halter };
+    ghost are_all = { λ e. AreAllEnds e.sender e.receivers.items e.halter };
 
     fn answer<R: Abort>(&mut self, rt: &R, who: usize, call: Call, out: &mut [Event; 8]) -> Reply {
         match call {
@@ -113,7 +113,7 @@ impl AllEnds for Ends<Event> {
 
 /// By the calls that move and show them.
 impl AllEnds for Counting<Ends<Counted>> {
-    ghost are_all = { λ c. AreAllEnds c.ends.sender c.ends.receivers.items × IsHalterOf c.ends.sender c.ends.halter };
+    ghost are_all = { λ c. AreAllEnds c.ends.sender c.ends.receivers.items c.ends.halter };
 
     fn answer<R: Abort>(&mut self, rt: &R, who: usize, call: Call, out: &mut [Event; 8]) -> Reply {
         match call {

@@ -12,7 +12,7 @@ use Rattle.dr_disruptor.specs.Handlers.{AllWentThrough}
 use Rattle.dr_disruptor.specs.Serving.{IsIdle, given_end, given_handler}
 use Rattle.dr_plain.specs.Calls.InPlace.{does_in_place, sending_of}
 use Rattle.dr_disruptor.specs.Running.{new_receivers, shape_of}
-use Rattle.dr_disruptor.proofs.Ready.{all_idle, all_moved, halter_moved, is_told, memory_is, none_received, saw_by, received_by}
+use Rattle.dr_disruptor.proofs.Ready.{all_idle, all_moved, is_told, memory_is, none_received, saw_by, received_by}
 use Rattle.dr_disruptor.proofs.Through.{served_as}
 use Rattle.dr_disruptor.proofs.running.run.Goals as goal
 
@@ -37,18 +37,8 @@ wind_up-requires-clause-ends g c =
     let gave : FnOnceReturnsAtMut g.F.FnOnce c.args.send c.new-live.result sent.result sent.new.arg2 =
     record { shown = _; shows = refl; left = _; met = sent.ensures; leaves = refl } in
     let same = c.requires.place c.new-live.result sent.result sent.new.arg2 gave ∙ ap sender_place (c.new-live.ensures ∙ begun.ensures.sender) in
-    all_moved made.fresh sent.new.arg2 _ same
-    (subst (λ (l : List (ReceiverEnd g.row.E.Denot)). AreAllEnds made.fresh l) (sym begun.ensures.ends) made.ensures.ends.0)
-
-pub wind_up-requires-clause-halter : goal.wind_up-requires-clause-halter
-wind_up-requires-clause-halter g c =
-    let made = c.in_ok-fresh in
-    let begun = c.in_ok-sender in
-    let sent = c.send-sent in
-    let gave : FnOnceReturnsAtMut g.F.FnOnce c.args.send c.new-live.result sent.result sent.new.arg2 =
-    record { shown = _; shows = refl; left = _; met = sent.ensures; leaves = refl } in
-    let same = c.requires.place c.new-live.result sent.result sent.new.arg2 gave ∙ ap sender_place (c.new-live.ensures ∙ begun.ensures.sender) in
-    halter_moved made.fresh sent.new.arg2 made.halter same made.ensures.ends.1
+    all_moved made.fresh sent.new.arg2 _ made.halter same
+    (subst (λ (l : List (ReceiverEnd g.row.E.Denot)). AreAllEnds made.fresh l made.halter) (sym begun.ensures.ends) made.ensures.ends)
 
 pub wind_up-requires-clause-unhalted : goal.wind_up-requires-clause-unhalted
 wind_up-requires-clause-unhalted g c = ap (λ (t : HalterStand g.row.E.Denot). t.knows.halted) c.in_ok-fresh.ensures.fresh.1.halter

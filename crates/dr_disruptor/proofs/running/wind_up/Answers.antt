@@ -8,23 +8,19 @@ use Rattle.dr_plain.specs.Meaning.Settling.{Settles}
 use Rattle.dr_disruptor.specs.Handlers.{AllWentThrough}
 use Rattle.dr_disruptor.specs.Serving.{given_end, given_handler}
 use Rattle.dr_disruptor.proofs.Through.{end_back, served_by}
-use Rattle.dr_disruptor.proofs.Ready.{all_moved, are_settled, halter_moved, has_all, is_told, receivers_back, saw_by, went_whole, received_by}
+use Rattle.dr_disruptor.proofs.Ready.{all_moved, are_settled, has_all, is_told, receivers_back, saw_by, went_whole, received_by}
 use Rattle.dr_disruptor.proofs.running.wind_up.Goals as goal
 
-pub settle_all-settled-requires-clause-ends : goal.settle_all-settled-requires-clause-ends
-settle_all-settled-requires-clause-ends g c =
+pub settle_all-settled-requires : goal.settle_all-settled-requires
+settle_all-settled-requires g c =
     let goes = g.H.InPlaceHandler.goes in
     let sender = c.closed-sender.result in
     let workers = c.args.workers.items in
     let served = c.in_ok-served.served.items in
     let are = served_by receiver_place received_by is_told saw_by does_in_place goes c.args.batch workers served c.requires.batches c.in_ok-served.ensures in
-    let moved = all_moved c.args.live sender (map given_end workers) c.closed-sender.ensures.1.0.0 c.requires.ends in
-    subst (λ (l : List (ReceiverEnd g.row.E.Denot)). AreAllEnds sender l) (sym c.in_ok-outlets.ensures.outlets)
-    (receivers_back goes c.args.batch sender (map given_end workers) (map given_handler workers) served are moved)
-
-pub settle_all-settled-requires-clause-halter : goal.settle_all-settled-requires-clause-halter
-settle_all-settled-requires-clause-halter g c =
-    halter_moved c.args.live c.closed-sender.result c.args.halter c.closed-sender.ensures.1.0.0 c.requires.halter
+    let moved = all_moved c.args.live sender (map given_end workers) c.args.halter c.closed-sender.ensures.1.0.0 c.requires.ends in
+    subst (λ (l : List (ReceiverEnd g.row.E.Denot)). AreAllEnds sender l c.args.halter) (sym c.in_ok-outlets.ensures.outlets)
+    (receivers_back goes c.args.batch sender c.args.halter (map given_end workers) (map given_handler workers) served are moved)
 
 pub returns-clause-through : goal.returns-clause-through
 returns-clause-through g c =

@@ -12,7 +12,7 @@ use Rattle.dr_disruptor.specs.Handlers.{AllWentThrough}
 use Rattle.dr_disruptor.specs.Here.{HereEnd, HerePlace, here_place, sending_here}
 use Rattle.dr_disruptor.specs.Serving.{IsIdle}
 use Rattle.dr_disruptor.specs.Running.{AreServedBack, new_receivers, shape_of}
-use Rattle.dr_disruptor.proofs.Ready.{all_idle, all_moved, halter_moved, is_told, memory_is, none_received, saw_by, received_by}
+use Rattle.dr_disruptor.proofs.Ready.{all_idle, all_moved, is_told, memory_is, none_received, saw_by, received_by}
 use Rattle.dr_disruptor.proofs.Through.{served_as}
 use Rattle.dr_disruptor.proofs.running_here.run_here.Goals as goal
 
@@ -43,15 +43,8 @@ wind_up_here-requires-clause-ends g c =
     let same = sent.ensures.kept ∙ ap here_place (c.new-live.ensures ∙ c.new-here.ensures) in
     let place = ap (λ (p : HerePlace g.row.E.Denot g.row.H.Denot). p.0) same in
     let ends = ap (λ (p : HerePlace g.row.E.Denot g.row.H.Denot). p.1) same in
-    subst (λ (l : List (ReceiverEnd g.row.E.Denot)). AreAllEnds sent.new.sender.sender l) (sym ends)
-    (all_moved made.sender sent.new.sender.sender made.receivers.items place made.ensures.ends.0)
-
-pub wind_up_here-requires-clause-halter : goal.wind_up_here-requires-clause-halter
-wind_up_here-requires-clause-halter g c =
-    let made = c.in_ok-sender in
-    let sent = c.feed-sent in
-    let same = sent.ensures.kept ∙ ap here_place (c.new-live.ensures ∙ c.new-here.ensures) in
-    halter_moved made.sender sent.new.sender.sender made.halter (ap (λ (p : HerePlace g.row.E.Denot g.row.H.Denot). p.0) same) made.ensures.ends.1
+    subst (λ (l : List (ReceiverEnd g.row.E.Denot)). AreAllEnds sent.new.sender.sender l made.halter) (sym ends)
+    (all_moved made.sender sent.new.sender.sender made.receivers.items made.halter place made.ensures.ends)
 
 pub wind_up_here-requires-clause-unhalted : goal.wind_up_here-requires-clause-unhalted
 wind_up_here-requires-clause-unhalted g c = ap (λ (t : HalterStand g.row.E.Denot). t.knows.halted) c.in_ok-sender.ensures.fresh.1.halter

@@ -2,7 +2,7 @@ use Rattle.std.proofs.Common.{List, map, sym, subst, ap, ◌∙◌}
 use lib.ListN.{get_elem?}
 use Rattle.dr_plain.specs.Calls.Ends.{ReceiverEnd, receiver_place}
 use Rattle.dr_plain.specs.Calls.InPlace.{does_in_place}
-use Rattle.dr_plain.specs.Calls.Settling.{AreAllEnds, IsHalterOf}
+use Rattle.dr_plain.specs.Calls.Settling.{AreAllEnds}
 use Rattle.dr_plain.specs.Meaning.Records.{events_of}
 use Rattle.dr_plain.specs.Meaning.Settling.{Settles}
 use Rattle.dr_disruptor.specs.Handlers.{AllWentThrough}
@@ -10,23 +10,17 @@ use Rattle.dr_disruptor.specs.Here.{HereEnd}
 use Rattle.dr_disruptor.specs.Running.{AreSettled}
 use Rattle.dr_disruptor.specs.Serving.{AreServed}
 use Rattle.dr_disruptor.proofs.Through.{end_back}
-use Rattle.dr_disruptor.proofs.Ready.{all_moved, are_settled, halter_moved, has_all, is_told, receivers_back, saw_by, went_whole, received_by}
+use Rattle.dr_disruptor.proofs.Ready.{all_moved, are_settled, has_all, is_told, receivers_back, saw_by, went_whole, received_by}
 use Rattle.dr_disruptor.proofs.running_here.wind_up_here.Goals as goal
 
-pub settle_all-settled-requires-clause-ends : goal.settle_all-settled-requires-clause-ends
-settle_all-settled-requires-clause-ends g c =
+pub settle_all-settled-requires : goal.settle_all-settled-requires
+settle_all-settled-requires g c =
     let here = c.into_end-here.result.0 in
     let done = c.in_ok-sender.ensures in
-    let ends = subst (λ (x : HereEnd g.row.E.Denot g.row.H.Denot). AreAllEnds x.sender x.ends) (sym c.into_end-here.ensures.is) c.requires.ends in
-    let moved = all_moved here.sender c.in_ok-sender.sender here.ends done.closes.1.0.0 ends in
-    subst (λ (l : List (ReceiverEnd g.row.E.Denot)). AreAllEnds c.in_ok-sender.sender l) (sym c.in_ok-outlets.ensures.outlets)
-    (receivers_back g.H.InPlaceHandler.goes here.batch c.in_ok-sender.sender here.ends here.starts c.in_ok-sender.served.items done.served moved)
-
-pub settle_all-settled-requires-clause-halter : goal.settle_all-settled-requires-clause-halter
-settle_all-settled-requires-clause-halter g c =
-    let here = c.into_end-here.result.0 in
-    let is = subst (λ (x : HereEnd g.row.E.Denot g.row.H.Denot). IsHalterOf x.sender c.args.halter) (sym c.into_end-here.ensures.is) c.requires.halter in
-    halter_moved here.sender c.in_ok-sender.sender c.args.halter c.in_ok-sender.ensures.closes.1.0.0 is
+    let ends = subst (λ (x : HereEnd g.row.E.Denot g.row.H.Denot). AreAllEnds x.sender x.ends c.args.halter) (sym c.into_end-here.ensures.is) c.requires.ends in
+    let moved = all_moved here.sender c.in_ok-sender.sender here.ends c.args.halter done.closes.1.0.0 ends in
+    subst (λ (l : List (ReceiverEnd g.row.E.Denot)). AreAllEnds c.in_ok-sender.sender l c.args.halter) (sym c.in_ok-outlets.ensures.outlets)
+    (receivers_back g.H.InPlaceHandler.goes here.batch c.in_ok-sender.sender c.args.halter here.ends here.starts c.in_ok-sender.served.items done.served moved)
 
 pub returns-clause-through : goal.returns-clause-through
 returns-clause-through g c =

@@ -21,7 +21,7 @@ come g c = record {
       (halter_in _ c.halts.inside.seat.me c.args.halter c.halts.invariant (c.halts.view_is ∙ c.into_left-halts.ensures.left))
       (ap (λ (m : Sitting g.row.T.Denot). m.0) c.take_in.ensures.view);
   receivers = c.gather_receivers.ensures.view;
-  all = c.requires.ends;
+  all = c.requires;
 }
 
 pub take_in-requires : goal.take_in-requires
@@ -42,17 +42,17 @@ gather_receivers-requires-clause-table g c =
 pub gather_receivers-requires-clause-receivers : goal.gather_receivers-requires-clause-receivers
 gather_receivers-requires-clause-receivers g c h e at =
     let ring = ap (λ (s : SenderEnd g.row.T.Denot). s.ring) (c.sends.view_is ∙ c.into_left-ring.ensures.left) in
-    (c.requires.ends.each h e at).0 ∙ sym ring ∙ sym c.take_in.ensures.seat.0
+    (c.requires.receivers.each h e at).0 ∙ sym ring ∙ sym c.take_in.ensures.seat.0
 
 pub gather_receivers-requires-clause-places : goal.gather_receivers-requires-clause-places
 gather_receivers-requires-clause-places g c =
     let all = ap (λ (s : SenderEnd g.row.T.Denot). handlers_of s.knows.plan) (c.sends.view_is ∙ c.into_left-ring.ensures.left) in
-    c.sends.invariant.1.places.0 ∙ all ∙ sym c.requires.ends.all
+    c.sends.invariant.1.places.0 ∙ all ∙ sym c.requires.receivers.all
 
 pub gather_receivers-requires-clause-rooms : goal.gather_receivers-requires-clause-rooms
 gather_receivers-requires-clause-rooms g c =
     let all = ap (λ (s : SenderEnd g.row.T.Denot). handlers_of s.knows.plan) (c.sends.view_is ∙ c.into_left-ring.ensures.left) in
-    c.sends.invariant.1.places.1 ∙ all ∙ sym c.requires.ends.all
+    c.sends.invariant.1.places.1 ∙ all ∙ sym c.requires.receivers.all
 
 pub reclaim_all-row-requires-clause-together : goal.reclaim_all-row-requires-clause-together
 reclaim_all-row-requires-clause-together g c =

@@ -19,7 +19,7 @@ come g c = record {
   halter = takes_in _ _ _ (halter_known c.args.halter) (halter_in _ c.halter.inside.seat.me c.args.halter c.halter.invariant c.halter.view_is)
       (ap (λ (m : Sitting g.row.T.Denot). m.0) c.take_in.ensures.view);
   receivers = c.gather_receivers_left.ensures.view;
-  all = c.requires.receivers;
+  all = c.requires.ends;
 }
 
 pub take_in-requires : goal.take_in-requires
@@ -27,7 +27,7 @@ take_in-requires g c =
     let B = c.requires.sender in let words = B.0.1 in record {
       table = (
         ap (λ (e : SenderEnd g.row.T.Denot). e.ring) c.sender.view_is ∙ B.0.0,
-        ap (λ (e : HalterStand g.row.T.Denot). e.ring) c.halter.view_is ∙ c.requires.halter ∙ B.0.0,
+        ap (λ (e : HalterStand g.row.T.Denot). e.ring) c.halter.view_is ∙ c.requires.ends.halter ∙ B.0.0,
         omega arith,
       );
     }
@@ -39,15 +39,15 @@ gather_receivers_left-requires-clause-table g c =
 
 pub gather_receivers_left-requires-clause-receivers : goal.gather_receivers_left-requires-clause-receivers
 gather_receivers_left-requires-clause-receivers g c h e at =
-    (c.requires.receivers.each h e at).0 ∙ sym (ap (λ (s : SenderEnd g.row.T.Denot). s.ring) c.sender.view_is) ∙ sym c.take_in.ensures.seat.0
+    (c.requires.ends.receivers.each h e at).0 ∙ sym (ap (λ (s : SenderEnd g.row.T.Denot). s.ring) c.sender.view_is) ∙ sym c.take_in.ensures.seat.0
 
 pub gather_receivers_left-requires-clause-places : goal.gather_receivers_left-requires-clause-places
 gather_receivers_left-requires-clause-places g c =
-    c.sender.invariant.1.places.0 ∙ ap (λ (s : SenderEnd g.row.T.Denot). handlers_of s.knows.plan) c.sender.view_is ∙ sym c.requires.receivers.all
+    c.sender.invariant.1.places.0 ∙ ap (λ (s : SenderEnd g.row.T.Denot). handlers_of s.knows.plan) c.sender.view_is ∙ sym c.requires.ends.receivers.all
 
 pub gather_receivers_left-requires-clause-rooms : goal.gather_receivers_left-requires-clause-rooms
 gather_receivers_left-requires-clause-rooms g c =
-    c.sender.invariant.1.places.1 ∙ ap (λ (s : SenderEnd g.row.T.Denot). handlers_of s.knows.plan) c.sender.view_is ∙ sym c.requires.receivers.all
+    c.sender.invariant.1.places.1 ∙ ap (λ (s : SenderEnd g.row.T.Denot). handlers_of s.knows.plan) c.sender.view_is ∙ sym c.requires.ends.receivers.all
 
 pub reclaim_all-row-requires-clause-table : goal.reclaim_all-row-requires-clause-table
 reclaim_all-row-requires-clause-table g c =
