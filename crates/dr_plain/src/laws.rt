@@ -11,7 +11,7 @@ mod receiver;
 mod sender;
 pub mod settling;
 
-ghost use Rattle.std.specs.Prelude.{List, Option, ℕ, ◌≡◌, ◌<◌, ◌≤◌, ◌++◌, length, slice_index};
+ghost use Rattle.std.specs.Prelude.{List, Option, ℕ, ◌≡◌, ◌<◌, ◌++◌, length, slice_index};
 ghost use Rattle.dr_graph.specs.Meaning.Graph.{IsGraph};
 ghost use Rattle.dr_meaning.specs.Meaning.Transcript.{Transcript, LeadsTo};
 ghost use Rattle.dr_meaning.specs.Meaning.Laws.{Laws};
@@ -22,7 +22,7 @@ ghost use Rattle.dr_runs.specs.Words.{halt_word};
 ghost use Rattle.dr_plain.specs.Meaning.Records.{claimed};
 ghost use Rattle.dr_plain.specs.Meaning.Rule.{World, KeepsRule};
 ghost use Rattle.dr_plain.specs.declared.record.Step.{Step};
-ghost use Rattle.dr_plain.specs.Meaning.Moments.{Runs, new_world, picture_of, WereTold};
+ghost use Rattle.dr_plain.specs.Meaning.Moments.{Runs, new_world, picture_of, NothingFalls, WereTold};
 ghost use Rattle.dr_plain.specs.Calls.Replies.{RepliesAsAnswered, picture_with, open_writes};
 ghost use Rattle.dr_plain.specs.Calls.Handing.{HandsWhatWasThere, OffersWhatWasThere};
 
@@ -102,7 +102,7 @@ pub fn moments<T>()
     ensures replies { (k : Shape) (steps : List (Step T)) (entries : Transcript T) (w : World T) → IsGraph k.upstreams → 0 < k.size → Runs k steps entries (new_world k) w → RepliesAsAnswered k w }
     ensures offers { (k : Shape) (steps more : List (Step T)) (entries rest : Transcript T) (w u : World T) → IsGraph k.upstreams → 0 < k.size → Runs k steps entries (new_world k) w → Runs k more rest w u → OffersWhatWasThere k w u }
     ensures hands { (k : Shape) (steps more : List (Step T)) (entries rest : Transcript T) (w u : World T) → IsGraph k.upstreams → 0 < k.size → Runs k steps entries (new_world k) w → Runs k more rest w u → HandsWhatWasThere k w u }
-    ensures rises { (k : Shape) (steps more : List (Step T)) (entries rest : Transcript T) (w u : World T) → IsGraph k.upstreams → 0 < k.size → Runs k steps entries (new_world k) w → Runs k more rest w u → (word : ℕ) → slice_index w.words word ≤ slice_index u.words word }
+    ensures rises { (k : Shape) (steps more : List (Step T)) (entries rest : Transcript T) (w u : World T) → IsGraph k.upstreams → 0 < k.size → Runs k steps entries (new_world k) w → Runs k more rest w u → NothingFalls w u }
     ensures halted { (k : Shape) (steps more : List (Step T)) (entries rest : Transcript T) (w u : World T) → IsGraph k.upstreams → 0 < k.size → Runs k steps entries (new_world k) w → Runs k more rest w u → slice_index w.words halt_word ≡ 1 → claimed u.sender ≡ claimed w.sender }
 {
     every_transcript_is_lawful::<T>();

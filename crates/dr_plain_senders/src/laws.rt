@@ -106,13 +106,13 @@ pub fn moments<T>()
     ensures writes { (k : Shape T) (steps : List (Step T)) (entries : Transcript T) (w : World T) → IsShape k → Runs k steps entries (new_world k) w → (wrote : List (ℕ × T)) → AreOpen w wrote → LeadsTo (ring_setup k) (entries ++ open_writes w wrote) (picture_with k w wrote) }
     ensures laws { (k : Shape T) (steps : List (Step T)) (entries : Transcript T) (w : World T) → IsShape k → Runs k steps entries (new_world k) w → Laws (ring_setup k) entries }
     ensures progress { (k : Shape T) (steps : List (Step T)) (entries : Transcript T) (w : World T) → IsShape k → Runs k steps entries (new_world k) w → NobodyIsStuck (ring_setup k) (picture_of k w) }
+    ensures told { (k : Shape T) (steps : List (Step T)) (entries : Transcript T) (w : World T) → IsShape k → Runs k steps entries (new_world k) w → WereTold w entries }
     ensures marks { (k : Shape T) (steps : List (Step T)) (entries : Transcript T) (w : World T) → IsShape k → Runs k steps entries (new_world k) w → (s : ℕ) → (picture_of k w).published s ≡ is_out_now k w s }
     ensures refused { (k : Shape T) (steps : List (Step T)) (entries : Transcript T) (w : World T) → IsShape k → Runs k steps entries (new_world k) w → (p s : ℕ) (event : T) → p < k.senders → IsShut w p s → RefusesByWords k w p s event }
     ensures sees { (k : Shape T) (steps more later : List (Step T)) (entries rest last : Transcript T) (w u v : World T) → IsShape k → Runs k steps entries (new_world k) w → Runs k more rest w u → Runs k later last u v → ToldByLooks k w u v }
     ensures replies { (k : Shape T) (steps : List (Step T)) (entries : Transcript T) (w : World T) → IsShape k → Runs k steps entries (new_world k) w → RepliesAsAnswered k w }
     ensures hands { (k : Shape T) (steps more : List (Step T)) (entries rest : Transcript T) (w u : World T) → IsShape k → Runs k steps entries (new_world k) w → Runs k more rest w u → HandsWhatWasThere k w u }
     ensures rises { (k : Shape T) (steps more : List (Step T)) (entries rest : Transcript T) (w u : World T) → IsShape k → Runs k steps entries (new_world k) w → Runs k more rest w u → NothingFalls k w u }
-    ensures told { (k : Shape T) (steps : List (Step T)) (entries : Transcript T) (w : World T) → IsShape k → Runs k steps entries (new_world k) w → WereTold w entries }
     ensures halted { (k : Shape T) (steps more : List (Step T)) (entries rest : Transcript T) (w u : World T) → IsShape k → Runs k steps entries (new_world k) w → Runs k more rest w u → is_halted (slice_index w.words claim_word) ≡ true → length u.stages ≡ length w.stages }
 {
     every_transcript_is_lawful::<T>();

@@ -12,17 +12,17 @@ mod sender;
 pub mod settling;
 
 ghost use Rattle.dr_seq.specs.declared.event.Event.{Event};
-ghost use Rattle.std.specs.Prelude.{List, ℕ, ◌≡◌, ◌<◌, ◌≤◌, slice_index};
+ghost use Rattle.std.specs.Prelude.{List, ℕ, ◌≡◌, ◌<◌, slice_index};
 ghost use Rattle.dr_graph.specs.Meaning.Graph.{IsGraph};
 ghost use Rattle.dr_meaning.specs.Meaning.Transcript.{Transcript, LeadsTo};
 ghost use Rattle.dr_meaning.specs.Meaning.Laws.{Laws};
 ghost use Rattle.dr_meaning.specs.Meaning.Progress.{NobodyIsStuck};
-ghost use Rattle.dr_ring.specs.Meaning.Shape.{Shape, ring_setup, handlers_of};
-ghost use Rattle.dr_runs.specs.Words.{halt_word, count_word};
+ghost use Rattle.dr_ring.specs.Meaning.Shape.{Shape, ring_setup};
+ghost use Rattle.dr_runs.specs.Words.{halt_word};
 ghost use Rattle.dr_ring.specs.Meaning.Records.{claimed};
 ghost use Rattle.dr_ring.specs.Meaning.Rule.{World, KeepsRule};
 ghost use Rattle.dr_ring.specs.declared.record.Step.{Step};
-ghost use Rattle.dr_ring.specs.Meaning.Moments.{Runs, new_world, picture_of, WereTold};
+ghost use Rattle.dr_ring.specs.Meaning.Moments.{Runs, new_world, picture_of, NothingFalls, WereTold};
 ghost use Rattle.dr_ring.specs.Calls.Replies.{RepliesAsAnswered};
 ghost use Rattle.dr_ring.specs.Calls.Handing.{HandsWhatWasThere};
 
@@ -91,7 +91,7 @@ pub fn moments()
     ensures told { (k : Shape) (steps : List Step) (entries : Transcript Event) (w : World) → IsGraph k.upstreams → 0 < k.size → Runs k steps entries (new_world k) w → WereTold w entries }
     ensures replies { (k : Shape) (steps : List Step) (entries : Transcript Event) (w : World) → IsGraph k.upstreams → 0 < k.size → Runs k steps entries (new_world k) w → RepliesAsAnswered k w }
     ensures hands { (k : Shape) (steps more : List Step) (entries rest : Transcript Event) (w u : World) → IsGraph k.upstreams → 0 < k.size → Runs k steps entries (new_world k) w → Runs k more rest w u → HandsWhatWasThere k w u }
-    ensures rises { (k : Shape) (steps more : List Step) (entries rest : Transcript Event) (w u : World) → IsGraph k.upstreams → 0 < k.size → Runs k steps entries (new_world k) w → Runs k more rest w u → (f : ℕ) → f < handlers_of k → slice_index w.words (count_word f) ≤ slice_index u.words (count_word f) }
+    ensures rises { (k : Shape) (steps more : List Step) (entries rest : Transcript Event) (w u : World) → IsGraph k.upstreams → 0 < k.size → Runs k steps entries (new_world k) w → Runs k more rest w u → NothingFalls k w u }
     ensures halted { (k : Shape) (steps more : List Step) (entries rest : Transcript Event) (w u : World) → IsGraph k.upstreams → 0 < k.size → Runs k steps entries (new_world k) w → Runs k more rest w u → slice_index w.words halt_word ≡ 1 → claimed u.sender ≡ claimed w.sender }
 {
     every_transcript_is_lawful::<Event>();

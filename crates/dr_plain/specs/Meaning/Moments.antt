@@ -1,5 +1,5 @@
 -- What each list of steps comes to, from a ring's opening.
-use Rattle.std.specs.Prelude.{◌≡◌, ℕ, zero, suc, ◌+◌, ◌-◌, ◌==◌, ◌&&◌, not, nat_lt, if◌then◌else◌, false, List, [], ◌∷◌, ◌++◌, map, length, replicate}
+use Rattle.std.specs.Prelude.{◌≡◌, ℕ, zero, suc, ◌+◌, ◌-◌, ◌≤◌, ◌==◌, ◌&&◌, not, nat_lt, if◌then◌else◌, false, List, [], ◌∷◌, ◌++◌, map, length, replicate}
 use Rattle.std.specs.Prelude.{slice_index, slice_index_or, Some, None, true, Contains}
 use mathlib.Core.Option.{some}
 use lib.ListN.{get_elem?}
@@ -105,3 +105,7 @@ module _ {T : Type 0} where
   -- who was told that the ring drained, was told so by a poll of the run
   abbrev pub WereTold : World T → Transcript T → Type 0
   WereTold w entries = (h : ℕ) (r : ReceiverRecord T) → get_elem? w.receivers h ≡ some r → r.told ≡ true → Contains entries (told_drained h)
+
+  -- No word falls: so what the last look of a claim without room finds was so already at its first.
+  abbrev pub NothingFalls : World T → World T → Type 0
+  NothingFalls w u = (word : ℕ) → slice_index w.words word ≤ slice_index u.words word

@@ -1,5 +1,5 @@
 -- What each list of steps comes to, from a ring's opening.
-use Rattle.std.specs.Prelude.{◌≡◌, ℕ, zero, suc, ◌+◌, ◌-◌, ◌==◌, ◌&&◌, not, nat_lt, if◌then◌else◌, false, List, [], ◌∷◌, ◌++◌, map, length, replicate}
+use Rattle.std.specs.Prelude.{◌≡◌, ℕ, zero, suc, ◌+◌, ◌-◌, ◌<◌, ◌≤◌, ◌==◌, ◌&&◌, not, nat_lt, if◌then◌else◌, false, List, [], ◌∷◌, ◌++◌, map, length, replicate}
 use Rattle.std.specs.Prelude.{slice_index, slice_index_or, Option, Some, None, true, Contains}
 use mathlib.Core.Option.{some}
 use lib.ListN.{get_elem?}
@@ -97,3 +97,7 @@ Runs k steps entries w w' = runs.Runs (Happens k) (entries_of k) steps entries w
 -- who was told that the ring drained, was told so by a poll of the run
 abbrev pub WereTold : World → Transcript Event → Type 0
 WereTold w entries = (h : ℕ) (r : ReceiverRecord) → get_elem? w.receivers h ≡ some r → r.told ≡ true → Contains entries (told_drained h)
+
+-- No handler's count falls: so what the last look of a claim without room finds was so already at its first.
+abbrev pub NothingFalls : Shape → World → World → Type 0
+NothingFalls k w u = (f : ℕ) → f < handlers_of k → slice_index w.words (count_word f) ≤ slice_index u.words (count_word f)
