@@ -24,7 +24,7 @@ use Rattle.dr_plain.specs.Calls.Sending.{CloseCall}
 use Rattle.dr_plain.specs.Calls.Settling.{AreAllEnds, HasRun, handler_counts}
 use Rattle.dr_disruptor.specs.declared.fault.RunFault.TheVariants as fault
 use Rattle.dr_disruptor.specs.declared.served.Served.{Served}
-use Rattle.dr_plain.specs.Calls.InPlace.{SawPublished, does_in_place}
+use Rattle.dr_plain.specs.Calls.InPlace.{SawPublished, SawSome, does_in_place}
 use Rattle.dr_disruptor.specs.Serving.{AreServed, IsIdle}
 use Rattle.dr_disruptor.specs.Handlers.{AllWentThrough}
 use Rattle.dr_disruptor.proofs.Through.{all_went, end_back, many_back}
@@ -40,9 +40,6 @@ module _ {E : Type 0} where
 
   abbrev pub is_told : ReceiverEnd E → Bool
   is_told e = e.knows.told
-
-  abbrev pub saw_by : ReceiverEnd E → ℕ → Type 0
-  saw_by e n = SawPublished e.knows n
 
   -- the receivers of a new ring received nothing
   pub none_received : (t : TableId) (k : Shape) (a n h : ℕ) (e : ReceiverEnd E) → get_elem? (map (receiver_at_ring t) (fresh_receivers k a n)) h ≡ some e
@@ -67,13 +64,13 @@ module _ {E : Type 0} where
 
   -- what was served comes back as all ends of the ring
   pub receivers_back : {A : Type 0} (goes : Relation E A) (room : ℕ) (s : SenderEnd E) (t : HalterStand E) (ends : List (ReceiverEnd E)) (starts : List A)
-      → (served : List (Served (ReceiverEnd E) A)) → AreServed receiver_place received_by is_told saw_by does_in_place goes room ends starts served → AreAllEnds s ends t
+      → (served : List (Served (ReceiverEnd E) A)) → AreServed receiver_place received_by is_told SawSome does_in_place goes room ends starts served → AreAllEnds s ends t
       → AreAllEnds s (map (λ (b : Served (ReceiverEnd E) A). b.outlet) served) t
   receivers_back goes room s t ends starts served are all = record {
     receivers = record {
-      all = many_back receiver_place received_by is_told saw_by does_in_place goes room ends starts served are ∙ all.receivers.all;
+      all = many_back receiver_place received_by is_told SawSome does_in_place goes room ends starts served are ∙ all.receivers.all;
       each = λ h e at.
-          let (given, there, same, told, idle) = end_back receiver_place received_by is_told saw_by does_in_place goes room ends starts served are h e at in
+          let (given, there, same, told, idle) = end_back receiver_place received_by is_told SawSome does_in_place goes room ends starts served are h e at in
           let was = all.receivers.each h given there in
           (ap (λ (q : ReceiverPlace). q.0) same ∙ was.0, ap (λ (q : ReceiverPlace). q.2) same ∙ was.1);
     };
@@ -112,7 +109,7 @@ module _ {E : Type 0} where
   -- all handlers went through what the sender had published before it closed the ring
   pub went_whole : {A : Type 0} (goes : Relation E A) (room : ℕ) (live s : SenderEnd E) (ends : List (ReceiverEnd E)) (starts : List A)
       → (served : List (Served (ReceiverEnd E) A)) (answer : Result (Unit {0}) Refusal) → CloseCall live s answer
-      → AreServed receiver_place received_by is_told saw_by does_in_place goes room ends starts served
+      → AreServed receiver_place received_by is_told SawSome does_in_place goes room ends starts served
       → Settles s.knows (map (λ (e : ReceiverEnd E). e.knows) (map (λ (b : Served (ReceiverEnd E) A). b.outlet) served))
       → ((h : ℕ) (e : ReceiverEnd E) → get_elem? ends h ≡ some e → (received_by e).events ≡ [])
       → AllWentThrough goes room (events_of live.knows.published) starts (map (λ (b : Served (ReceiverEnd E) A). b.handler) served)
@@ -121,9 +118,9 @@ module _ {E : Type 0} where
       let events = events_of live.knows.published in
       let published = closes live s answer close in
       let many : length s.knows.published ≡ length events = ap length published ∙ sym (length-map live.knows.published (λ l. l.event)) in
-      all_went receiver_place received_by is_told saw_by does_in_place goes room ends starts served are events fresh
+      all_went receiver_place received_by is_told SawSome does_in_place goes room ends starts served are events fresh
       (λ h e at. (
-        came_to s.knows outlets settles h e at (end_back receiver_place received_by is_told saw_by does_in_place goes room ends starts served are h e at).3
+        came_to s.knows outlets settles h e at (end_back receiver_place received_by is_told SawSome does_in_place goes room ends starts served are h e at).3
             ∙ ap events_of published,
         λ n saw. (let most = saw_at_most s.knows outlets settles h e at n saw in omega arith),
       ))

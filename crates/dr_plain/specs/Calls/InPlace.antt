@@ -51,3 +51,6 @@ pub record SawPublished {T : Type 0} (r : ReceiverRecord T) (n : ℕ) : Type 0 w
   pub there : get_elem? r.looks place ≡ some saw
   pub word : (saw.word ≡ cursor_word) ⊎ ((u : ℕ) × (saw.word ≡ count_word u))
   pub enough : n ≤ saw.value
+
+abbrev pub SawSome : {T : Type 0} → ReceiverEnd T → ℕ → Type 0
+SawSome e n = SawPublished e.knows n

@@ -10,9 +10,9 @@ use Rattle.dr_plain.specs.Calls.Settling.{AreAllEnds}
 use Rattle.dr_plain.specs.Meaning.Shape.{handlers_of}
 use Rattle.dr_disruptor.specs.Handlers.{AllWentThrough}
 use Rattle.dr_disruptor.specs.Serving.{IsIdle, given_end, given_handler}
-use Rattle.dr_plain.specs.Calls.InPlace.{does_in_place, sending_of}
+use Rattle.dr_plain.specs.Calls.InPlace.{SawSome, does_in_place, sending_of}
 use Rattle.dr_disruptor.specs.Running.{new_receivers, shape_of}
-use Rattle.dr_disruptor.proofs.Ready.{all_idle, all_moved, is_told, memory_is, none_received, saw_by, received_by}
+use Rattle.dr_disruptor.proofs.Ready.{all_idle, all_moved, is_told, memory_is, none_received, received_by}
 use Rattle.dr_disruptor.proofs.Through.{served_as}
 use Rattle.dr_disruptor.proofs.running.run.Goals as goal
 
@@ -98,7 +98,7 @@ returns-clause-ran g c =
       cells = ap (λ (s : SenderEnd g.row.E.Denot). s.cells) same ∙ made.ensures.fresh.1.cells;
       sending = gave;
       place = c.requires.place c.new-live.result sent.result sent.new.arg2 gave;
-      serving = served_as receiver_place received_by is_told saw_by does_in_place g.H.InPlaceHandler.goes c.args.way.batch (map given_end workers) new (map given_handler workers)
+      serving = served_as receiver_place received_by is_told SawSome does_in_place g.H.InPlaceHandler.goes c.args.way.batch (map given_end workers) new (map given_handler workers)
           (g.T.Team.listed c.args.handlers) outlets outlets wound.list.items (g.T.Team.listed c.from_list.result) (c.in_ok-sender.ensures.ends ∙ receivers) starts refl
           (sym c.from_list.ensures) wound.ensures.served;
       through = g.met.T.Team.go c.args.way.batch events c.args.handlers c.from_list.result

@@ -3,7 +3,7 @@ use Rattle.std.specs.Prelude.{IfErr}
 use lib.ListN.{get_elem?}
 use Rattle.dr_plain.specs.declared.record.SenderRecord.{SenderRecord}
 use Rattle.dr_plain.specs.Calls.Ends.{HalterStand, ReceiverEnd, receiver_place}
-use Rattle.dr_plain.specs.Calls.InPlace.{does_in_place}
+use Rattle.dr_plain.specs.Calls.InPlace.{SawSome, does_in_place}
 use Rattle.dr_plain.specs.Calls.Settling.{AreAllEnds}
 use Rattle.dr_plain.specs.Meaning.Records.{events_of}
 use Rattle.dr_plain.specs.Meaning.Shape.{handlers_of}
@@ -12,7 +12,7 @@ use Rattle.dr_disruptor.specs.Handlers.{AllWentThrough}
 use Rattle.dr_disruptor.specs.Here.{HereEnd, HerePlace, here_place, sending_here}
 use Rattle.dr_disruptor.specs.Serving.{IsIdle}
 use Rattle.dr_disruptor.specs.Running.{AreServedBack, new_receivers, shape_of}
-use Rattle.dr_disruptor.proofs.Ready.{all_idle, all_moved, is_told, memory_is, none_received, saw_by, received_by}
+use Rattle.dr_disruptor.proofs.Ready.{all_idle, all_moved, is_told, memory_is, none_received, received_by}
 use Rattle.dr_disruptor.proofs.Through.{served_as}
 use Rattle.dr_disruptor.proofs.running_here.run_here.Goals as goal
 
@@ -108,7 +108,7 @@ returns-clause-ran g c =
       cells = ap (λ (x : HereEnd g.row.E.Denot g.row.H.Denot). x.sender.cells) new ∙ made.ensures.fresh.1.cells;
       sending = sent.ensures.gives;
       place = ap (λ (p : HerePlace g.row.E.Denot g.row.H.Denot). p.0) sent.ensures.kept;
-      serving = served_as receiver_place received_by is_told saw_by does_in_place g.H.InPlaceHandler.goes c.args.way.batch back.ends fresh back.starts
+      serving = served_as receiver_place received_by is_told SawSome does_in_place g.H.InPlaceHandler.goes c.args.way.batch back.ends fresh back.starts
           (g.T.Team.listed c.args.handlers) outlets outlets wound.list.items (g.T.Team.listed c.from_list.result) (ends ∙ receivers) starts refl
           (sym c.from_list.ensures) served;
       through = g.met.T.Team.go c.args.way.batch events c.args.handlers c.from_list.result

@@ -1,7 +1,7 @@
 use Rattle.std.proofs.Common.{List, map, sym, subst, ap, ◌∙◌}
 use lib.ListN.{get_elem?}
 use Rattle.dr_plain.specs.Calls.Ends.{ReceiverEnd, receiver_place}
-use Rattle.dr_plain.specs.Calls.InPlace.{does_in_place}
+use Rattle.dr_plain.specs.Calls.InPlace.{SawSome, does_in_place}
 use Rattle.dr_plain.specs.Calls.Settling.{AreAllEnds}
 use Rattle.dr_plain.specs.Meaning.Records.{events_of}
 use Rattle.dr_plain.specs.Meaning.Settling.{Settles}
@@ -10,7 +10,7 @@ use Rattle.dr_disruptor.specs.Here.{HereEnd}
 use Rattle.dr_disruptor.specs.Running.{AreSettled}
 use Rattle.dr_disruptor.specs.Serving.{AreServed}
 use Rattle.dr_disruptor.proofs.Through.{end_back}
-use Rattle.dr_disruptor.proofs.Ready.{all_moved, are_settled, has_all, is_told, receivers_back, saw_by, went_whole, received_by}
+use Rattle.dr_disruptor.proofs.Ready.{all_moved, are_settled, has_all, is_told, receivers_back, went_whole, received_by}
 use Rattle.dr_disruptor.proofs.running_here.wind_up_here.Goals as goal
 
 pub settle_all-settled-requires : goal.settle_all-settled-requires
@@ -46,10 +46,10 @@ returns-clause-served g c =
     let goes = g.H.InPlaceHandler.goes in
     let served = c.in_ok-sender.served.items in
     let here = c.into_end-here.result.0 in
-    let done : AreServed receiver_place received_by is_told saw_by does_in_place goes here.batch here.ends here.starts served = c.in_ok-sender.ensures.served in
+    let done : AreServed receiver_place received_by is_told SawSome does_in_place goes here.batch here.ends here.starts served = c.in_ok-sender.ensures.served in
     record {
       served = served;
-      are = subst (λ (x : HereEnd g.row.E.Denot g.row.H.Denot). AreServed receiver_place received_by is_told saw_by does_in_place goes x.batch x.ends x.starts served)
+      are = subst (λ (x : HereEnd g.row.E.Denot g.row.H.Denot). AreServed receiver_place received_by is_told SawSome does_in_place goes x.batch x.ends x.starts served)
           c.into_end-here.ensures.is done;
       ends_back = c.settle_all-settled.ensures.ends.1 ∙ c.in_ok-outlets.ensures.outlets;
       handlers_back = c.in_ok-outlets.ensures.handlers;
@@ -66,7 +66,7 @@ returns-clause-settled g c =
     subst (λ (x : HereEnd g.row.E.Denot g.row.H.Denot). AreSettled x.sender c.settle_all-settled.result.0 c.settle_all-settled.result.1) c.into_end-here.ensures.is
     (are_settled here.sender sender back c.args.halter c.settle_all-settled.result.0 c.settle_all-settled.result.1 closes done.ends done.run done.lists
     (λ h e at.
-    let one = end_back receiver_place received_by is_told saw_by does_in_place goes here.batch here.ends here.starts c.in_ok-sender.served.items
+    let one = end_back receiver_place received_by is_told SawSome does_in_place goes here.batch here.ends here.starts c.in_ok-sender.served.items
     c.in_ok-sender.ensures.served h e (ap (λ (l : List (ReceiverEnd g.row.E.Denot)). get_elem? l h) (sym c.in_ok-outlets.ensures.outlets) ∙ at) in
     has_all sender back done.lists h e at one.3 one.4)
     (c.requires.unhalted, done.unhalted c.requires.unhalted) (done.claimed, done.published, done.handlers, done.events))

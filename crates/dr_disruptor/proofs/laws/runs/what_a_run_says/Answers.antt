@@ -1,13 +1,13 @@
 use Rattle.std.proofs.Common.{◌≡◌, length, refl, ap, ◌∙◌, arith}
 use Rattle.std.proofs.lemmas.List.{length-map}
 use Rattle.dr_plain.specs.declared.record.SenderRecord.{SenderRecord}
-use Rattle.dr_plain.specs.Calls.Ends.{ReceiverEnd, SenderPlace, receiver_place}
-use Rattle.dr_plain.specs.Calls.InPlace.{does_in_place}
+use Rattle.dr_plain.specs.Calls.Ends.{SenderPlace, receiver_place}
+use Rattle.dr_plain.specs.Calls.InPlace.{SawSome, does_in_place}
 use Rattle.dr_plain.specs.Calls.Making.{receiver_at_ring}
 use Rattle.dr_plain.specs.Meaning.Moments.{fresh_receiver}
 use Rattle.dr_disruptor.specs.Running.{new_receivers}
 use Rattle.dr_disruptor.proofs.NewEnds.{new_at}
-use Rattle.dr_disruptor.proofs.Ready.{is_told, saw_at_most, saw_by, received_by}
+use Rattle.dr_disruptor.proofs.Ready.{is_told, saw_at_most, received_by}
 use Rattle.dr_disruptor.proofs.Through.{shown_from_none}
 use Rattle.dr_disruptor.proofs.laws.runs.what_a_run_says.Goals as goal
 
@@ -21,7 +21,7 @@ returns-clause-serves g c send most shape events handlers ran is =
     let settled = is.settled in
     let sender = ran.settled.sender.value.knows in
     let outlets = ran.settled.receivers.value.items in
-    shown_from_none receiver_place received_by is_told saw_by does_in_place g.H.InPlaceHandler.goes most (new_receivers is.given.ring k) (g.T.Team.listed handlers) outlets
+    shown_from_none receiver_place received_by is_told SawSome does_in_place g.H.InPlaceHandler.goes most (new_receivers is.given.ring k) (g.T.Team.listed handlers) outlets
     (g.T.Team.listed ran.handlers) (λ h. receiver_at_ring is.given.ring (fresh_receiver k h))
     (new_at is.given.ring k) (λ h. refl)
     (λ h e at n saw.
