@@ -35,10 +35,10 @@ impl<T: Drop> Drop for RingBody<T> {
         let Some(mut senders) = senders.close() else {
             return;
         };
-        let Some(mut halters) = halters.close() else {
+        let Some(receivers) = receivers.close() else {
             return;
         };
-        let Some(receivers) = receivers.close() else {
+        let Some(mut halters) = halters.close() else {
             return;
         };
         let Some(sender) = senders.pop() else { return };

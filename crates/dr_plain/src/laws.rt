@@ -9,7 +9,7 @@ mod halter;
 mod plays;
 mod receiver;
 mod sender;
-pub mod settling;
+pub(crate) mod settling;
 
 ghost use Rattle.std.specs.Prelude.{List, Option, ℕ, ◌≡◌, ◌<◌, ◌++◌, length, slice_index};
 ghost use Rattle.dr_graph.specs.Meaning.Graph.{IsGraph};

@@ -1,4 +1,4 @@
-//! An event is written where it lies.
+//! An event is changed where it lies.
 
 ghost use Rattle.std.specs.Fn.{FnOnceReturnsAtMut};
 ghost use Rattle.dr_plain.specs.Calls.Sending.{UpdateCall};

@@ -9,7 +9,7 @@
 mod halter;
 mod receiver;
 mod sender;
-pub mod settling;
+pub(crate) mod settling;
 
 ghost use Rattle.dr_seq.specs.declared.event.Event.{Event};
 ghost use Rattle.std.specs.Prelude.{List, ℕ, ◌≡◌, ◌<◌, slice_index};
