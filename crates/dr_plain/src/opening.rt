@@ -18,29 +18,16 @@ use crate::body::RingBody;
 use crate::laws::{Halter, ReceiverStation, RingSeat, RingTable, SenderStation};
 use crate::plan::Plan;
 use crate::receiver::Receiver;
-use crate::record::View;
 use crate::sender::Sender;
-use atomic_table::Split;
 use dr_cells::{Cells, Row, Strip, Token};
 use dr_graph::Graph;
 use dr_lent::rows::{blanks, deal, empty_hands};
 use dr_meaning::{OpenFault, is_valid_limit};
 use dr_places::Places;
-use dr_runs::{HandlerCounts, Written};
+use dr_runs::{Cut, HandlerCounts, Written};
 use dr_seq::{GateCache, Size};
 use std::alloc::{AllocError, Global};
 use std::sync::Arc;
-
-// The first record of a view stays with its seat, and the others go to another.
-struct Cut;
-
-impl<T> Split<View<T>> for Cut {
-    ghost use Rattle.dr_runs.specs.Seats.{first_view, rest_view};
-
-    ghost left = { first_view };
-
-    ghost right = { rest_view };
-}
 
 // The receivers, each with its seat. `rest` stands for them all.
 fn receivers<T: Drop>(

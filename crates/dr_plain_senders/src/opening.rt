@@ -24,29 +24,17 @@ use crate::laws::{Halter, ReceiverStation, RingSeat, RingTable, SenderStation};
 use crate::owned::Owned;
 use crate::plan::Plan;
 use crate::receiver::Receiver;
-use crate::record::View;
 use crate::rooms::Rooms;
 use crate::sender::Sender;
-use atomic_table::Split;
 use dr_cells::{Cells, Strip, Token};
 use dr_graph::Graph;
 use dr_lent::rows::{blanks, deal, take_last};
 use dr_meaning::{Mode, OpenFault, is_valid_limit};
+use dr_runs::Cut;
 use dr_seq::Size;
 use std::alloc::{AllocError, Global};
 use std::snapshot::Snapshot;
 use std::sync::Arc;
-
-// The first record of a view stays with its seat, and the others go to another.
-struct Cut;
-
-impl<T> Split<View<T>> for Cut {
-    ghost use Rattle.dr_runs.specs.Seats.{first_view, rest_view};
-
-    ghost left = { first_view };
-
-    ghost right = { rest_view };
-}
 
 // The senders, each with its seat, its marks and its row of tokens, and the seat of the receivers.
 // `rest` stands for them all.

@@ -16,26 +16,13 @@ use crate::fault::RingFault;
 use crate::laws::{Halter, ReceiverStation, RingBody, RingSeat, RingTable, SenderStation};
 use crate::plan::Plan;
 use crate::receiver::Receiver;
-use crate::record::View;
 use crate::sender::Sender;
-use atomic_table::Split;
 use dr_graph::Graph;
 use dr_meaning::is_valid_limit;
-use dr_runs::{HandlerCounts, Written};
+use dr_runs::{Cut, HandlerCounts, Written};
 use dr_seq::{GateCache, Size};
 use std::alloc::{AllocError, Global};
 use std::sync::Arc;
-
-// The first record of a view stays with its seat, and the others go to another.
-struct Cut;
-
-impl Split<View> for Cut {
-    ghost use Rattle.dr_runs.specs.Seats.{first_view, rest_view};
-
-    ghost left = { first_view };
-
-    ghost right = { rest_view };
-}
 
 // The receivers, each with its seat. `rest` stands for them all.
 fn receivers(

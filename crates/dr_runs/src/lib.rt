@@ -12,6 +12,7 @@
 
 mod counts;
 mod look;
+mod parting;
 mod plan;
 mod polling;
 mod view;
@@ -20,6 +21,7 @@ mod written;
 
 pub use counts::HandlerCounts;
 pub use look::Look;
+pub use parting::{Cut, Leave, Together};
 pub use plan::copy_upstreams;
 pub use polling::{lesser, nothing_offered};
 pub use view::View;

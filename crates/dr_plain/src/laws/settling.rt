@@ -11,31 +11,10 @@ ghost use Rattle.dr_plain.specs.Inside.Finishing.{HasAllEnds, TookAll, left_of};
 
 use super::{RingSeat, Words};
 use crate::record::View;
-use atomic_table::{Join, Play, Split};
+use atomic_table::Play;
 use dr_cells::Token;
-use dr_runs::CURSOR_WORD;
+use dr_runs::{CURSOR_WORD, Leave, Together};
 use std::marker::{Brand, PhantomData};
-
-// A view leaves its seat, which keeps the slots that it has in hand.
-struct Leave;
-
-impl<T> Split<View<T>> for Leave {
-    ghost use Rattle.dr_runs.specs.Seats.{no_view};
-
-    ghost left = { λ _. no_view };
-
-    ghost right = { λ v. v };
-}
-
-struct Together;
-
-impl<T> Join<View<T>> for Together {
-    ghost use Rattle.dr_runs.specs.Seats.{both_views, no_view};
-
-    ghost both = { both_views };
-
-    ghost spent = { no_view };
-}
 
 /// What the ring of a seat is made for, for a proof alone.
 pub trait Plans {

@@ -9,30 +9,10 @@ ghost use Rattle.dr_plain_senders.specs.Inside.Finishing.{HasAllEnds, TookAll};
 use super::{Names, RingSeat, Words};
 use crate::plan::CLAIM_WORD;
 use crate::record::View;
-use atomic_table::{Join, Play, Split};
+use atomic_table::Play;
 use dr_cells::Token;
+use dr_runs::{Leave, Together};
 use std::marker::PhantomData;
-
-// A view leaves its seat, which keeps the slots that it has in hand.
-struct Leave;
-
-impl<T> Split<View<T>> for Leave {
-    ghost use Rattle.dr_runs.specs.Seats.{no_view};
-
-    ghost left = { λ _. no_view };
-
-    ghost right = { λ v. v };
-}
-
-struct Together;
-
-impl<T> Join<View<T>> for Together {
-    ghost use Rattle.dr_runs.specs.Seats.{both_views, no_view};
-
-    ghost both = { both_views };
-
-    ghost spent = { no_view };
-}
 
 /// A load of the claim word by which its seat takes what lies in the slots of each cell that no
 /// sender has, and stands for no end any more. It tells which run came to what the ends knew.

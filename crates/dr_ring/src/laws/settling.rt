@@ -6,20 +6,8 @@ ghost use Rattle.dr_runs.specs.Gathering.{ViewRan};
 ghost use Rattle.dr_ring.specs.Inside.Seats.{exchange};
 
 use super::{RingSeat, Words};
-use crate::record::View;
-use atomic_table::Join;
-use dr_runs::CURSOR_WORD;
+use dr_runs::{CURSOR_WORD, Together};
 use std::marker::Brand;
-
-struct Together;
-
-impl Join<View> for Together {
-    ghost use Rattle.dr_runs.specs.Seats.{both_views, no_view};
-
-    ghost both = { both_views };
-
-    ghost spent = { no_view };
-}
 
 /// A seat takes in what another stands for.
 pub fn take_in(words: &Words, seat: &mut RingSeat, other: RingSeat)
