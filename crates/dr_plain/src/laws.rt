@@ -16,7 +16,6 @@ ghost use Rattle.dr_graph.specs.Meaning.Graph.{IsGraph};
 ghost use Rattle.dr_meaning.specs.Meaning.Transcript.{Transcript, LeadsTo};
 ghost use Rattle.dr_meaning.specs.Meaning.Laws.{Laws};
 ghost use Rattle.dr_meaning.specs.Meaning.Progress.{NobodyIsStuck};
-ghost use Rattle.dr_lent.specs.declared.lent.Lent.{Lent};
 ghost use Rattle.dr_plain.specs.Meaning.Shape.{Shape, ring_setup};
 ghost use Rattle.dr_runs.specs.Words.{halt_word};
 ghost use Rattle.dr_plain.specs.Meaning.Records.{claimed};
@@ -35,7 +34,6 @@ pub use halter::Halter;
 pub use receiver::ReceiverStation;
 pub use sender::SenderStation;
 use std::alloc::Global;
-use std::marker::Brand;
 
 /// The rule that every step keeps.
 pub struct RingRule;
@@ -56,31 +54,6 @@ pub type RingTable<T> = Table<Token<T>, View<T>, Plan<T>, RingRule, Global>;
 
 /// What an end steps with.
 pub type RingSeat<T> = Seat<Token<T>, View<T>>;
-
-/// A number that a step names, for its proof alone.
-pub trait Names {
-    ghost number: { ℕ };
-
-    ghost use Rattle.std.specs.Prelude.{ℕ};
-}
-
-impl Names for Brand {
-    ghost number = { 0 };
-}
-
-/// The lendings of what a publication publishes, for its proof alone.
-pub trait Lends<T> {
-    ghost lents: { List (Lent T) };
-
-    ghost use Rattle.std.specs.Prelude.{List};
-    ghost use Rattle.dr_lent.specs.declared.lent.Lent.{Lent};
-}
-
-impl<T> Lends<T> for Brand {
-    ghost use Rattle.std.specs.Prelude.{[]};
-
-    ghost lents = { [] };
-}
 
 /// Whatever steps fall in whatever order: between any two of them the rule holds, the entries of
 /// their events lead the machine to the ring's picture, in which nobody is stuck, and the

@@ -12,8 +12,9 @@ ghost use Rattle.dr_plain.specs.Inside.Seats.{Hand, lent_all, given_by_publicati
 ghost use Rattle.dr_plain.specs.Meaning.Records.{claimed};
 ghost use Rattle.dr_plain.specs.Inside.Lending.{lanes, laid_between, lents_of, TokenFits, TokensFitBetween, IsLending, AreLent, AreWhole, SameBut, HasPublished};
 
-use crate::laws::{Lends, SenderStation};
+use crate::laws::SenderStation;
 use dr_cells::Token;
+use dr_lent::Lends;
 use dr_lent::rows::put_at;
 use dr_lent::slots::turn_by;
 

@@ -73,20 +73,6 @@ impl<T> Names<T> for Brand {
     ghost number = { 0 };
 }
 
-/// What a publication names besides, for its proof alone: what it lent.
-pub trait Lends<T> {
-    ghost lents: { List (Lent T) };
-
-    ghost use Rattle.std.specs.Prelude.{List};
-    ghost use Rattle.dr_lent.specs.declared.lent.Lent.{Lent};
-}
-
-impl<T> Lends<T> for Brand {
-    ghost use Rattle.std.specs.Prelude.{[]};
-
-    ghost lents = { [] };
-}
-
 /// Whatever steps fall in whatever order: between any two of them the rule holds, the entries of
 /// their events lead the machine to the ring's picture, in which nobody is stuck, and the
 /// transcript has the five laws. Whatever senders wrote besides and did not publish, those writes

@@ -35,7 +35,6 @@ pub use halter::Halter;
 pub use receiver::ReceiverStation;
 pub use sender::SenderStation;
 use std::alloc::Global;
-use std::marker::Brand;
 
 /// The rule that every step keeps.
 pub struct RingRule;
@@ -62,17 +61,6 @@ pub type RingSeat = Seat<u64, View>;
 pub(crate) struct RingBody {
     pub(crate) table: RingTable,
     pub(crate) plan: Plan,
-}
-
-/// A number that a step names, for its proof alone.
-pub trait Names {
-    ghost number: { ℕ };
-
-    ghost use Rattle.std.specs.Prelude.{ℕ};
-}
-
-impl Names for Brand {
-    ghost number = { 0 };
 }
 
 /// Whatever steps fall in whatever order: between any two of them the rule holds, the entries of

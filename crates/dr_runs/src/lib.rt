@@ -12,6 +12,7 @@
 
 mod counts;
 mod look;
+mod names;
 mod parting;
 mod plan;
 mod polling;
@@ -21,6 +22,7 @@ mod written;
 
 pub use counts::HandlerCounts;
 pub use look::Look;
+pub use names::Names;
 pub use parting::{Cut, Leave, Together};
 pub use plan::copy_upstreams;
 pub use polling::{lesser, nothing_offered};

@@ -11,10 +11,10 @@ ghost use Rattle.dr_plain.specs.Calls.Finds.{FindsClosed, FindsEvents};
 ghost use Rattle.dr_plain.specs.Calls.Ends.{HasLoaded, HasStored};
 ghost use Rattle.dr_plain.specs.Inside.Seats.{taken_by_poll, given_by_completion};
 
+use super::RingSeat;
 use super::plays::{Complete, LookAtClosed, LookAtCursor, LookAtUpstream};
-use super::{Names, RingSeat};
 use crate::body::RingBody;
-use dr_runs::{CLOSED_WORD, CURSOR_WORD, count_word};
+use dr_runs::{CLOSED_WORD, CURSOR_WORD, Names, count_word};
 use std::alloc::Global;
 use std::marker::Model;
 use std::sync::Arc;

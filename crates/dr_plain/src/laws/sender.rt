@@ -11,11 +11,12 @@ ghost use Rattle.dr_plain.specs.Calls.Finds.{FindsCompleted, FindsHalt};
 ghost use Rattle.dr_plain.specs.Calls.Ends.{HasLoaded, HasStored};
 ghost use Rattle.dr_plain.specs.Inside.Seats.{taken_by_claim, given_by_publication};
 
+use super::RingSeat;
 use super::plays::{Close, LookAtFinal, LookAtHalt, Publish, SenderHalt};
-use super::{Lends, Names, RingSeat};
 use crate::body::RingBody;
 use crate::plan::Plan;
-use dr_runs::{CLOSED_WORD, CURSOR_WORD, HALT_WORD, count_word};
+use dr_lent::Lends;
+use dr_runs::{CLOSED_WORD, CURSOR_WORD, HALT_WORD, Names, count_word};
 use std::alloc::Global;
 use std::marker::Model;
 use std::sync::Arc;

@@ -5,10 +5,11 @@ ghost use Rattle.dr_plain_senders.specs.Inside.Seats.{Loads, Stores, SenderLooke
 ghost use Rattle.dr_plain_senders.specs.Meaning.Records.{events_of};
 ghost use Rattle.dr_plain_senders.specs.declared.record.Step.TheVariants.{SenderClaims, SenderPublishes, SenderHalts, ReceiverCompletes, HalterHalts};
 
-use super::{Lends, Names};
+use super::Names;
 use crate::record::View;
 use atomic_table::Play;
 use dr_cells::Token;
+use dr_lent::Lends;
 use std::marker::PhantomData;
 
 pub struct Look;

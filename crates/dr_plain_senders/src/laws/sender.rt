@@ -15,9 +15,10 @@ ghost use Rattle.dr_plain_senders.specs.Calls.Ends.{HasLoaded, HasStored};
 ghost use Rattle.dr_plain_senders.specs.Inside.Seats.{LayIn, LayAsLent, taken_by_claim, given_by_publication};
 
 use super::plays::{Claim, Look, LookAtMark, Publish, SeeClaims, SenderHalt};
-use super::{Lends, Names, RingSeat};
+use super::{Names, RingSeat};
 use crate::body::RingBody;
 use crate::plan::{CLAIM_WORD, HALT_BIT, Plan, count_word};
+use dr_lent::Lends;
 use std::alloc::Global;
 use std::marker::Model;
 use std::sync::Arc;

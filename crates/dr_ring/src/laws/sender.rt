@@ -10,9 +10,9 @@ ghost use Rattle.dr_ring.specs.declared.record.Step.TheVariants.{SenderStoresFir
 ghost use Rattle.dr_ring.specs.Calls.Finds.{FindsCompleted, FindsHalt};
 ghost use Rattle.dr_ring.specs.Calls.Ends.{HasLoaded, HasStored};
 
-use super::{Names, RingBody, RingSeat};
+use super::{RingBody, RingSeat};
 use crate::plan::Plan;
-use dr_runs::{CLOSED_WORD, CURSOR_WORD, HALT_WORD, count_word};
+use dr_runs::{CLOSED_WORD, CURSOR_WORD, HALT_WORD, Names, count_word};
 use dr_seq::Event;
 use std::alloc::Global;
 use std::marker::{Brand, Model};
