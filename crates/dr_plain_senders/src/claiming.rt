@@ -2,8 +2,8 @@
 
 ghost use Rattle.std.specs.Prelude.{◌≡◌, ◌+◌, ◌^◌, ◌≤◌, IfOk};
 ghost use Rattle.dr_plain_senders.specs.Calls.Ends.{HasLoaded};
-ghost use Rattle.dr_plain_senders.specs.Calls.Sending.{ClaimCall, ClaimTakes, IsCount};
-ghost use Rattle.dr_plain_senders.specs.Inside.Scans.{Scans, ClaimsApart};
+ghost use Rattle.dr_plain_senders.specs.Calls.Sending.{ClaimCall, IsCount};
+ghost use Rattle.dr_plain_senders.specs.Inside.Scans.{Scans, ClaimsApart, ClaimTakes};
 
 use crate::laws::SenderStation;
 use crate::plan::HALT_BIT;
