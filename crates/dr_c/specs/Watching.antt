@@ -2,7 +2,7 @@
 use Rattle.std.specs.Prelude.{◌≡◌, ◌<◌, ◌≤◌, ◌⊎◌, ℕ, List}
 use Rattle.dr_seq.specs.declared.event.Event.{Event}
 use Rattle.dr_runs.specs.Looks.{last_look}
-use Rattle.dr_runs.specs.Words.{cursor_word, count_word}
+use Rattle.dr_runs.specs.OneSender.Words.{cursor_word, count_word}
 use Rattle.dr_plain_senders.specs.Meaning.Shape as shape_of_several
 use Rattle.dr_plain_senders.specs.Meaning.Words as words_of_several
 use Rattle.dr_plain_senders.specs.Meaning.Records as records_of_several

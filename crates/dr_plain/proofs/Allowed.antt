@@ -17,7 +17,7 @@ use Rattle.dr_runs.proofs.Seats.{adds_nothing, adds_one}
 use Rattle.dr_lent.specs.declared.lent.Lent.{Lent}
 use Rattle.dr_plain.specs.Meaning.Shape.{Shape, handlers_of}
 use Rattle.dr_plain.specs.Meaning.Words.{words_of}
-use Rattle.dr_runs.specs.Words.{cursor_word, closed_word, halt_word, count_word}
+use Rattle.dr_runs.specs.OneSender.Words.{cursor_word, closed_word, halt_word, count_word}
 use Rattle.dr_plain.specs.declared.record.SenderRecord.{SenderRecord}
 use Rattle.dr_plain.specs.declared.record.ReceiverRecord.{ReceiverRecord}
 use Rattle.dr_plain.specs.declared.record.HalterRecord.{HalterRecord}

@@ -17,13 +17,14 @@ use Rattle.dr_runs.specs.Runs.{IsBeginning}
 use Rattle.dr_lent.specs.declared.lent.Lent.{Lent}
 use Rattle.dr_plain.specs.Meaning.Shape.{Shape, handlers_of}
 use Rattle.dr_plain.specs.Meaning.Words.{cell_of}
-use Rattle.dr_runs.specs.Words.{halt_word, count_word}
+use Rattle.dr_runs.specs.OneSender.Words.{halt_word, count_word}
 use Rattle.dr_runs.specs.declared.look.Look.{Look}
 use Rattle.dr_plain.specs.declared.record.SenderRecord.{SenderRecord}
 use Rattle.dr_runs.specs.declared.written.Written.{Written}
 use Rattle.dr_plain.specs.Meaning.Lying.{placed}
 use Rattle.dr_plain.specs.Meaning.Records.{events_of, claimed, laid, halt_looked}
-use Rattle.dr_runs.specs.Looks.{look, last_look, count_looks}
+use Rattle.dr_runs.specs.Looks.{look, last_look}
+use Rattle.dr_runs.specs.OneSender.Looks.{count_looks}
 use Rattle.dr_plain.specs.Calls.Ends.{SenderStand, SenderEnd, sent_of}
 use Rattle.dr_plain.specs.Calls.Plans.{IsPlan}
 use Rattle.dr_plain.specs.Calls.Sending.{gate_looks, FoundRoom, LooksToClaim, TriesToClaim, ClaimCall, tests_of_claim}

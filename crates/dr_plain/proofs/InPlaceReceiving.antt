@@ -10,10 +10,11 @@ use Rattle.dr_meaning.specs.declared.command.Polled.{Polled}
 use Rattle.dr_meaning.specs.declared.command.Polled.TheVariants.{Batch, Drained, Gating, Idle}
 use Rattle.dr_lent.specs.declared.lent.Lent.{Lent}
 use Rattle.dr_runs.specs.declared.look.Look.{Look}
-use Rattle.dr_runs.specs.Looks.{count_looks, look, offered_by}
+use Rattle.dr_runs.specs.Looks.{look, offered_by}
+use Rattle.dr_runs.specs.OneSender.Looks.{count_looks}
 use Rattle.dr_runs.specs.LastLooks.{found_last}
-use Rattle.dr_runs.specs.Polls.{PollLooks, offer}
-use Rattle.dr_runs.specs.Words.{closed_word, count_word, cursor_word}
+use Rattle.dr_runs.specs.OneSender.Polls.{PollLooks, offer}
+use Rattle.dr_runs.specs.OneSender.Words.{closed_word, count_word, cursor_word}
 use Rattle.dr_runs.proofs.LastLooks.{found_behind, found_counts}
 use Rattle.dr_runs.proofs.Lists.{at_behind}
 use Rattle.dr_plain.specs.declared.record.ReceiverRecord.{ReceiverRecord}

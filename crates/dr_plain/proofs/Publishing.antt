@@ -31,7 +31,7 @@ use Rattle.dr_plain.specs.Inside.Fits.{Keeps, SenderFields, SenderFits, TokensFi
 use Rattle.dr_plain.specs.Inside.Lending.{lanes, lents_of, AreLent, SameBut}
 use Rattle.dr_plain.specs.Inside.Hands.{with_hand}
 use Rattle.dr_plain.specs.Inside.Noted.{Noted, writes_from}
-use Rattle.dr_runs.specs.Noted.{AreNoted, HasUnnoted, is_noted}
+use Rattle.dr_runs.specs.OneSender.Noted.{AreNoted, HasUnnoted, is_noted}
 use Rattle.dr_plain.specs.Inside.Seats.{Hand, lent_all, given_by_publication}
 use Rattle.dr_plain.specs.Inside.Views.{sender_end}
 use Rattle.dr_runs.proofs.Answering.{open_at, AllWritten, accepted, unwritten, out_of_order, published_before}

@@ -7,7 +7,7 @@ use Rattle.dr_graph.specs.Meaning.Graph.{IsGraph}
 use Rattle.dr_meaning.specs.Meaning.Transcript.{Transcript}
 use Rattle.dr_runs.specs.declared.look.Look.{Look}
 use Rattle.dr_runs.specs.Looks.{look}
-use Rattle.dr_runs.specs.Words.{halt_word, count_word}
+use Rattle.dr_runs.specs.OneSender.Words.{halt_word, count_word}
 use Rattle.dr_plain.specs.Meaning.Shape.{Shape}
 use Rattle.dr_plain.specs.declared.record.Step.{Step}
 use Rattle.dr_plain.specs.declared.record.Step.TheVariants.{SenderLooksAtCount, SenderLooksAtHalt, SenderPublishes, SenderHalts, SenderCloses}

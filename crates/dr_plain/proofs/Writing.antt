@@ -28,7 +28,7 @@ use Rattle.dr_plain.specs.Calls.Ends.{SenderStand, SenderEnd, sent_of}
 use Rattle.dr_plain.specs.Calls.Sending.{TriesToWrite}
 use Rattle.dr_plain.specs.Inside.Fits.{SenderFields, SenderFits, TokensFit}
 use Rattle.dr_plain.specs.Inside.Noted.{writes_from}
-use Rattle.dr_runs.specs.Noted.{Notes}
+use Rattle.dr_runs.specs.OneSender.Noted.{Notes}
 use Rattle.dr_plain.specs.Inside.Views.{sender_end}
 use Rattle.dr_plain.proofs.Collecting.{laid_count}
 use Rattle.dr_runs.proofs.Elements.{at_below}

@@ -9,7 +9,7 @@ use Rattle.dr_meaning.specs.declared.command.Reply.TheVariants.{Written}
 use Rattle.dr_meaning.specs.Meaning.Machine.{State, refusals, accepted, step}
 use Rattle.dr_meaning.proofs.Steps.{unless-none}
 use Rattle.dr_plain.specs.Meaning.Shape.{Shape, ring_setup}
-use Rattle.dr_runs.specs.Words.{cursor_word}
+use Rattle.dr_runs.specs.OneSender.Words.{cursor_word}
 use Rattle.dr_plain.specs.Meaning.Records.{claimed}
 use Rattle.dr_plain.specs.Meaning.Rule.{World, KeepsRule}
 use Rattle.dr_plain.specs.Meaning.Moments.{picture_of}

@@ -17,7 +17,7 @@ ghost use Rattle.dr_meaning.specs.Meaning.Transcript.{Transcript, LeadsTo};
 ghost use Rattle.dr_meaning.specs.Meaning.Laws.{Laws};
 ghost use Rattle.dr_meaning.specs.Meaning.Progress.{NobodyIsStuck};
 ghost use Rattle.dr_plain.specs.Meaning.Shape.{Shape, ring_setup};
-ghost use Rattle.dr_runs.specs.Words.{halt_word};
+ghost use Rattle.dr_runs.specs.OneSender.Words.{halt_word};
 ghost use Rattle.dr_plain.specs.Meaning.Records.{claimed};
 ghost use Rattle.dr_plain.specs.Meaning.Rule.{World, KeepsRule};
 ghost use Rattle.dr_plain.specs.declared.record.Step.{Step};

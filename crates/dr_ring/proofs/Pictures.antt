@@ -21,7 +21,7 @@ use Rattle.dr_meaning.specs.Meaning.Transcript.{Transcript, LeadsFrom}
 use Rattle.dr_meaning.specs.Calls.Ends.{written_of}
 use Rattle.dr_ring.specs.Meaning.Shape.{Shape, ring_setup}
 use Rattle.dr_ring.specs.Meaning.Words.{payload_start, payload_word}
-use Rattle.dr_runs.specs.Words.{cursor_word, closed_word, halt_word, count_word}
+use Rattle.dr_runs.specs.OneSender.Words.{cursor_word, closed_word, halt_word, count_word}
 use Rattle.dr_ring.specs.declared.record.HalfWrite.{HalfWrite}
 use Rattle.dr_ring.specs.declared.record.ReceiverRecord.{ReceiverRecord}
 use Rattle.dr_ring.specs.Meaning.Records.{claimed, halt_looked, half_written, written, published_to, receiver_looked, tells_drained}

@@ -6,12 +6,13 @@ use Rattle.std.proofs.lemmas.Bool.{cases_lt}
 use Rattle.std.proofs.lemmas.List.{length-append, append-nil}
 use Rattle.dr_graph.specs.Meaning.Graph.{finals}
 use Rattle.dr_ring.specs.Calls.Plans.{IsPlan}
-use Rattle.dr_runs.specs.Words.{count_word}
+use Rattle.dr_runs.specs.OneSender.Words.{count_word}
 use Rattle.dr_runs.specs.declared.look.Look.{Look}
 use Rattle.dr_ring.specs.declared.record.SenderRecord.{SenderRecord}
 use Rattle.dr_ring.specs.declared.record.ReceiverRecord.{ReceiverRecord}
 use Rattle.dr_ring.specs.Meaning.Records.{sender_looked, receiver_looked}
-use Rattle.dr_runs.specs.Looks.{look, last_look, offered_by, lesser_of, count_looks}
+use Rattle.dr_runs.specs.Looks.{look, last_look, offered_by, lesser_of}
+use Rattle.dr_runs.specs.OneSender.Looks.{count_looks}
 use Rattle.dr_ring.specs.Inside.Fits.{IsSeenLeast}
 use Rattle.dr_ring.specs.Calls.Receiving.{ups_of}
 use Rattle.dr_ring.specs.Inside.Polling.{receiver_saw, LooksAtUpstreams}

@@ -13,7 +13,7 @@ use Rattle.dr_graph.specs.Meaning.Graph.{upstreams_of}
 use Rattle.dr_meaning.specs.Calls.Ends.{written_of}
 use Rattle.dr_ring.specs.Meaning.Shape.{Shape, handlers_of}
 use Rattle.dr_ring.specs.Meaning.Words.{payload_start, payload_word}
-use Rattle.dr_runs.specs.Words.{cursor_word, closed_word, halt_word, count_word, HaltAndClose}
+use Rattle.dr_runs.specs.OneSender.Words.{cursor_word, closed_word, halt_word, count_word, HaltAndClose}
 use Rattle.dr_runs.specs.declared.look.Look.{Look}
 use Rattle.dr_ring.specs.declared.record.SenderRecord.{SenderRecord}
 use Rattle.dr_ring.specs.declared.record.ReceiverRecord.{ReceiverRecord}

@@ -16,7 +16,7 @@ use Rattle.dr_meaning.specs.Calls.Calling.{CallsLead, InletCall, TriesClaim, Wri
 use Rattle.dr_meaning.specs.Calls.Ends.{Claims, GivesStretch, Sent, MayFail, MayHold, Publishes, Writes, WritesAll}
 use Rattle.dr_runs.specs.declared.look.Look.{Look}
 use Rattle.dr_runs.specs.Looks.{look, last_look}
-use Rattle.dr_runs.specs.Words.{halt_word}
+use Rattle.dr_runs.specs.OneSender.Words.{halt_word}
 use Rattle.dr_runs.proofs.Looks.{last_look_more}
 use Rattle.dr_ring.specs.declared.record.SenderRecord.{SenderRecord}
 use Rattle.dr_ring.specs.Meaning.Moments.{fresh_sender}

@@ -8,7 +8,7 @@ use Rattle.std.proofs.lemmas.List.{get_or_past}
 use Rattle.std.proofs.lemmas.List.FromFn.{get_or-map-range_with_len}
 use Rattle.dr_graph.specs.Meaning.Graph.{nobody, upstreams_of, finals, IsOrderly, IsGated, IsGraph}
 use Rattle.dr_meaning.specs.Meaning.Machine.{State, least_completed}
-use Rattle.dr_runs.specs.Words.{count_word}
+use Rattle.dr_runs.specs.OneSender.Words.{count_word}
 use Rattle.dr_runs.specs.declared.look.Look.{Look}
 use Rattle.dr_runs.specs.Looks.{last_look, ArePast}
 use Rattle.dr_runs.proofs.Elements.{contains_none}

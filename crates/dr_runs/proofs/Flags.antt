@@ -2,7 +2,7 @@
 use Rattle.std.proofs.Common.{◌≡◌, ◌≢◌, ℕ, ◌<◌, ◌≤◌, ◌⊎◌, inl, Bool, true, ◌==◌, ◌&&◌, List, length, get_or, set}
 use Rattle.std.proofs.Common.{sym, refl, ◌∙◌, arith, get_or-set_same, get_or-set_other}
 use Rattle.std.proofs.lemmas.Bool.{and_parts, eqb-true}
-use Rattle.dr_runs.specs.Words.{cursor_word, closed_word, halt_word, HaltAndClose}
+use Rattle.dr_runs.specs.OneSender.Words.{cursor_word, closed_word, halt_word, HaltAndClose}
 use Rattle.dr_runs.specs.declared.look.Look.{Look}
 use Rattle.dr_runs.specs.Looks.{last_look, ArePast}
 use Rattle.dr_runs.proofs.Looks.{last_look_le}

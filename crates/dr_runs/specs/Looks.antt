@@ -4,7 +4,6 @@ use mathlib.Core.Option.{some}
 use lib.ListN.{get_elem?}
 use Rattle.dr_graph.specs.Meaning.Graph.{least_of}
 use Rattle.dr_runs.specs.declared.look.Look.{Look}
-use Rattle.dr_runs.specs.Words.{count_word}
 
 abbrev pub look : ℕ → ℕ → Look
 look word value = record { word = word; value = value }
@@ -23,10 +22,6 @@ abbrev pub looks_at : (ℕ → ℕ) → List ℕ → List ℕ → List Look
 looks_at word_of [] values = []
 looks_at word_of (h ∷ hs) [] = []
 looks_at word_of (h ∷ hs) (n ∷ values) = look (word_of h) n ∷ looks_at word_of hs values
-
--- looks at the counts of some handlers of a ring with one sender
-abbrev pub count_looks : List ℕ → List ℕ → List Look
-count_looks hs counts = looks_at count_word hs counts
 
 -- the least of some counts or, where there is none, the cursor
 abbrev pub offered_by : ℕ → List ℕ → ℕ

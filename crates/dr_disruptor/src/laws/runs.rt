@@ -7,7 +7,7 @@ ghost use mathlib.Core.Option.{some};
 ghost use lib.ListN.{get_elem?};
 ghost use Rattle.dr_meaning.specs.Calls.Handling.{GoesThrough};
 ghost use Rattle.dr_meaning.specs.Meaning.Laws.{Laws};
-ghost use Rattle.dr_runs.specs.Words.{halt_word};
+ghost use Rattle.dr_runs.specs.OneSender.Words.{halt_word};
 ghost use Rattle.dr_workers.specs.Meaning.Work.{FollowFrom, dealt_events, shown_of};
 ghost use Rattle.dr_plain.specs.Calls.Ends.{ReceiverEnd, receiver_place, received_of, sender_place};
 ghost use Rattle.dr_plain.specs.Calls.InPlace.{does_in_place};

@@ -5,7 +5,7 @@ use lib.ListN.{get_elem?}
 use Rattle.dr_meaning.specs.declared.command.Polled.{Polled}
 use Rattle.dr_meaning.specs.Meaning.Machine.{available}
 use Rattle.dr_graph.specs.Meaning.Graph.{upstreams_of}
-use Rattle.dr_runs.specs.Words.{cursor_word, count_word}
+use Rattle.dr_runs.specs.OneSender.Words.{cursor_word, count_word}
 use Rattle.dr_runs.specs.declared.look.Look.{Look}
 use Rattle.dr_plain.specs.Meaning.Shape.{Shape, ring_setup}
 use Rattle.dr_plain.specs.Meaning.Records.{barrier_seen}

@@ -7,7 +7,7 @@ use Rattle.dr_meaning.specs.Calls.Calling.{CompletesUpTo, InPlaceCall, Polls}
 use Rattle.dr_meaning.specs.Calls.Ends.{Sent}
 use Rattle.dr_runs.specs.declared.look.Look.{Look}
 use Rattle.dr_runs.specs.LastLooks.{found_last}
-use Rattle.dr_runs.specs.Words.{count_word, cursor_word}
+use Rattle.dr_runs.specs.OneSender.Words.{count_word, cursor_word}
 use Rattle.dr_plain.specs.declared.record.ReceiverRecord.{ReceiverRecord}
 use Rattle.dr_plain.specs.Calls.Ends.{ReceiverEnd, SenderEnd, sent_of}
 use Rattle.dr_plain.specs.Calls.Receiving.{CompleteCall, PollCall}

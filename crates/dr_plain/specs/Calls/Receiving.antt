@@ -10,14 +10,15 @@ use Rattle.dr_meaning.specs.Meaning.Refusals.{PollTests, CompleteTests, poll_cau
 use Rattle.dr_meaning.specs.Calls.Ends.{Verdict, Exactly, IsAnswerOf, poll_tests, complete_tests, Completes, as_end}
 use Rattle.dr_graph.specs.Meaning.Graph.{upstreams_of}
 use Rattle.dr_runs.specs.Runs.{IsBeginning, StoresWhereOk}
-use Rattle.dr_runs.specs.Words.{cursor_word, closed_word}
+use Rattle.dr_runs.specs.OneSender.Words.{cursor_word, closed_word}
 use Rattle.dr_lent.specs.declared.lent.Lent.{Lent}
 use Rattle.dr_plain.specs.declared.record.ReceiverRecord.{ReceiverRecord}
 use Rattle.dr_plain.specs.declared.record.Step.TheVariants.{ReceiverCompletes}
 use Rattle.dr_plain.specs.Meaning.Records.{events_of}
-use Rattle.dr_runs.specs.Looks.{look, count_looks}
+use Rattle.dr_runs.specs.Looks.{look}
+use Rattle.dr_runs.specs.OneSender.Looks.{count_looks}
 use Rattle.dr_plain.specs.Calls.Ends.{ReceiverEnd, received_of, receiver_place}
-use Rattle.dr_runs.specs.Polls.{PollLooks, offer}
+use Rattle.dr_runs.specs.OneSender.Polls.{PollLooks, offer}
 
 module _ {T : Type 0} where
   abbrev pub ups_of : ReceiverRecord T → List ℕ

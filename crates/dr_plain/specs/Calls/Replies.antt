@@ -17,7 +17,7 @@ use Rattle.dr_meaning.specs.Meaning.Transcript.{Transcript}
 use Rattle.dr_meaning.specs.Calls.Replies.{claim_reply, unit_reply, poll_reply}
 use Rattle.dr_meaning.specs.Calls.Ends.{Sent, IsAnswerOf, WriteAnswers, PublishAnswers, as_end}
 use Rattle.dr_plain.specs.Meaning.Shape.{Shape, ring_setup}
-use Rattle.dr_runs.specs.Words.{halt_word}
+use Rattle.dr_runs.specs.OneSender.Words.{halt_word}
 use Rattle.dr_runs.specs.declared.look.Look.{Look}
 use Rattle.dr_runs.specs.Looks.{last_look}
 use Rattle.dr_plain.specs.declared.record.SenderRecord.{SenderRecord}
@@ -28,7 +28,7 @@ use Rattle.dr_plain.specs.Meaning.Moments.{picture_of}
 use Rattle.dr_plain.specs.Calls.Sending.{LooksToClaim, tests_of_claim}
 use Rattle.dr_plain.specs.Calls.Receiving.{tests_of_poll, tests_of_completion}
 use Rattle.dr_runs.specs.Entries.{entry}
-use Rattle.dr_runs.specs.Replies.{DecidesPollOf}
+use Rattle.dr_runs.specs.OneSender.Replies.{DecidesPollOf}
 
 module _ {T : Type 0} where
   -- No word tells what the sender wrote to a sequence that it claimed and did not publish. Where these are its writes, one place for each, the picture is so:

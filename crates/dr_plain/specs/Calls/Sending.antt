@@ -9,15 +9,16 @@ use Rattle.dr_meaning.specs.declared.command.Claimed.{Claimed}
 use Rattle.dr_meaning.specs.Meaning.Refusals.{ClaimTests, claim_causes}
 use Rattle.dr_meaning.specs.Calls.Ends.{Sent, Verdict, IsAnswerOf, GivesStretch, WriteAnswers, PublishAnswers, Claims, Writes, Publishes, as_end, claimed_in, open_event}
 use Rattle.dr_graph.specs.Meaning.Graph.{finals}
-use Rattle.dr_runs.specs.Words.{halt_word}
+use Rattle.dr_runs.specs.OneSender.Words.{halt_word}
 use Rattle.dr_runs.specs.declared.look.Look.{Look}
 use Rattle.dr_plain.specs.declared.record.SenderRecord.{SenderRecord}
 use Rattle.dr_plain.specs.declared.record.Step.TheVariants.{SenderPublishes, SenderHalts, SenderCloses}
 use Rattle.dr_runs.specs.Runs.{IsBeginning, StoresWhereOk}
-use Rattle.dr_runs.specs.Replies.{claim_tests_of}
+use Rattle.dr_runs.specs.OneSender.Replies.{claim_tests_of}
 use Rattle.dr_plain.specs.Calls.Ends.{SenderEnd, sender_place, sent_of}
 use Rattle.dr_plain.specs.Meaning.Records.{claimed, events_of, sender_halted, sender_closed, SeesRoom}
-use Rattle.dr_runs.specs.Looks.{look, count_looks}
+use Rattle.dr_runs.specs.Looks.{look}
+use Rattle.dr_runs.specs.OneSender.Looks.{count_looks}
 
 module _ {T : Type 0} where
   -- a claim looks at the finals' counts in rising order

@@ -1,11 +1,12 @@
 -- What the looks of a poll come to.
 use Rattle.std.specs.Prelude.{◌≡◌, ℕ, ◌+◌, ◌-◌, ◌<◌, ◌≤◌, ◌||◌, true, min, List, [], ◌∷◌, ◌++◌, length, take, Contains}
-use Rattle.dr_runs.specs.Words.{cursor_word}
+use Rattle.dr_runs.specs.OneSender.Words.{cursor_word}
 use Rattle.dr_runs.specs.declared.look.Look.{Look}
 use Rattle.dr_lent.specs.declared.lent.Lent.{Lent}
 use Rattle.dr_plain.specs.declared.record.ReceiverRecord.{ReceiverRecord}
 use Rattle.dr_plain.specs.Meaning.Records.{tells_drained}
-use Rattle.dr_runs.specs.Looks.{look, offered_by, count_looks}
+use Rattle.dr_runs.specs.Looks.{look, offered_by}
+use Rattle.dr_runs.specs.OneSender.Looks.{count_looks}
 use Rattle.dr_plain.specs.Calls.Receiving.{received_all, ups_of}
 use Rattle.dr_plain.specs.Inside.Seats.{Hand, taken_by_poll}
 

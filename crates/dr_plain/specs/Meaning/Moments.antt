@@ -12,7 +12,7 @@ use Rattle.dr_meaning.specs.Meaning.Transcript.{Transcript}
 use Rattle.dr_runs.specs.Runs as runs
 use Rattle.dr_plain.specs.Meaning.Shape.{Shape, handlers_of, ring_setup}
 use Rattle.dr_plain.specs.Meaning.Words.{words_of}
-use Rattle.dr_runs.specs.Words.{cursor_word, halt_word, count_word}
+use Rattle.dr_runs.specs.OneSender.Words.{cursor_word, halt_word, count_word}
 use Rattle.dr_plain.specs.declared.record.SenderRecord.{SenderRecord}
 use Rattle.dr_plain.specs.declared.record.ReceiverRecord.{ReceiverRecord}
 use Rattle.dr_plain.specs.declared.record.HalterRecord.{HalterRecord}

@@ -5,7 +5,7 @@ ghost use Rattle.dr_cells.specs.declared.token.Token.{Token};
 ghost use Rattle.dr_graph.specs.Meaning.Graph.{upstreams_of};
 ghost use Rattle.dr_lent.specs.declared.lent.Lent.{Lent};
 ghost use Rattle.dr_plain.specs.declared.record.Step.TheVariants.{ReceiverCompletes};
-ghost use Rattle.dr_runs.specs.Words.{cursor_word, closed_word, count_word as count_word_of};
+ghost use Rattle.dr_runs.specs.OneSender.Words.{cursor_word, closed_word, count_word as count_word_of};
 ghost use Rattle.dr_plain.specs.Meaning.Records.{closed_looked, cursor_looked, receiver_looked, taken_at, completed_to};
 ghost use Rattle.dr_plain.specs.Calls.Finds.{FindsClosed, FindsEvents};
 ghost use Rattle.dr_plain.specs.Calls.Ends.{HasLoaded, HasStored};

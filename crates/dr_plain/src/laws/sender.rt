@@ -4,7 +4,7 @@ ghost use Rattle.std.specs.Prelude.{◌≡◌, ◌+◌, ◌<◌, ◌≤◌, ◌+
 ghost use Rattle.dr_graph.specs.Meaning.Graph.{finals};
 ghost use Rattle.dr_cells.specs.declared.token.Token.{Token};
 ghost use Rattle.dr_plain.specs.Calls.Plans.{IsPlan};
-ghost use Rattle.dr_runs.specs.Words.{count_word as count_word_of};
+ghost use Rattle.dr_runs.specs.OneSender.Words.{count_word as count_word_of};
 ghost use Rattle.dr_plain.specs.Meaning.Records.{events_of, sender_looked, halt_looked, published_more, sender_halted, sender_closed, SeesRoom};
 ghost use Rattle.dr_plain.specs.declared.record.Step.TheVariants.{SenderPublishes, SenderHalts, SenderCloses};
 ghost use Rattle.dr_plain.specs.Calls.Finds.{FindsCompleted, FindsHalt};

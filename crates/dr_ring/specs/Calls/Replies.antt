@@ -23,10 +23,10 @@ use Rattle.dr_ring.specs.Meaning.Rule.{World}
 use Rattle.dr_ring.specs.Meaning.Moments.{picture_of}
 use Rattle.dr_ring.specs.Calls.Sending.{LooksToClaim, tests_of_claim}
 use Rattle.dr_ring.specs.Calls.Receiving.{tests_of_poll, tests_of_completion}
-use Rattle.dr_runs.specs.Words.{halt_word}
+use Rattle.dr_runs.specs.OneSender.Words.{halt_word}
 use Rattle.dr_runs.specs.declared.look.Look.{Look}
 use Rattle.dr_runs.specs.Looks.{last_look}
-use Rattle.dr_runs.specs.Replies.{DecidesPollOf}
+use Rattle.dr_runs.specs.OneSender.Replies.{DecidesPollOf}
 
 -- on the ring's picture the machine replies so
 abbrev pub Replies : Shape → World → Command Event → Reply → Type 0

@@ -9,15 +9,16 @@ use Rattle.dr_meaning.specs.Meaning.Refusals.{ClaimTests, claim_causes}
 use Rattle.dr_meaning.specs.Calls.Ends.{Verdict, IsAnswerOf, GivesStretch, WriteAnswers, PublishAnswers, Claims, Writes}
 use Rattle.dr_meaning.specs.Calls.Ends.{Publishes, as_end}
 use Rattle.dr_graph.specs.Meaning.Graph.{finals}
-use Rattle.dr_runs.specs.Words.{halt_word}
+use Rattle.dr_runs.specs.OneSender.Words.{halt_word}
 use Rattle.dr_runs.specs.declared.look.Look.{Look}
 use Rattle.dr_ring.specs.declared.record.SenderRecord.{SenderRecord}
 use Rattle.dr_ring.specs.declared.record.Step.TheVariants.{SenderStoresFirst, SenderStoresSecond, SenderPublishes, SenderHalts, SenderCloses}
 use Rattle.dr_runs.specs.Runs.{IsBeginning, StoresWhereOk}
 use Rattle.dr_ring.specs.Calls.Ends.{SenderEnd, sender_place}
 use Rattle.dr_ring.specs.Meaning.Records.{claimed, seen_before, sender_halted, sender_closed, SeesRoom}
-use Rattle.dr_runs.specs.Looks.{look, count_looks}
-use Rattle.dr_runs.specs.Replies.{claim_tests_of}
+use Rattle.dr_runs.specs.Looks.{look}
+use Rattle.dr_runs.specs.OneSender.Looks.{count_looks}
+use Rattle.dr_runs.specs.OneSender.Replies.{claim_tests_of}
 
 -- a claim looks at the finals' counts in rising order
 abbrev pub gate_looks : SenderRecord → List ℕ → List Look

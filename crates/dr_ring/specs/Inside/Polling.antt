@@ -1,9 +1,10 @@
 -- What a receiver's looks come to, as a poll goes on.
 use Rattle.std.specs.Prelude.{◌≡◌, ◌≢◌, ℕ, ◌≤◌, true, List, [], ◌++◌, length, Contains}
-use Rattle.dr_runs.specs.Words.{cursor_word, count_word}
+use Rattle.dr_runs.specs.OneSender.Words.{cursor_word, count_word}
 use Rattle.dr_runs.specs.declared.look.Look.{Look}
 use Rattle.dr_ring.specs.declared.record.ReceiverRecord.{ReceiverRecord}
-use Rattle.dr_runs.specs.Looks.{last_look, offered_by, count_looks}
+use Rattle.dr_runs.specs.Looks.{last_look, offered_by}
+use Rattle.dr_runs.specs.OneSender.Looks.{count_looks}
 use Rattle.dr_ring.specs.Calls.Receiving.{ups_of}
 
 -- a receiver has made these looks more

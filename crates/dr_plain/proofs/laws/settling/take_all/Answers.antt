@@ -2,7 +2,7 @@ use Rattle.std.proofs.Common.{subst}
 use mathlib.Core.Option.{none}
 use Rattle.atomic_table.specs.Table.{step, Allows}
 use Rattle.dr_plain.specs.Meaning.Shape.{Shape}
-use Rattle.dr_runs.specs.Words.{cursor_word}
+use Rattle.dr_runs.specs.OneSender.Words.{cursor_word}
 use Rattle.dr_plain.specs.Inside.Seats.{Ruled}
 use Rattle.dr_plain.specs.Inside.Finishing.{TookAll}
 use Rattle.dr_plain.proofs.Ending.{takes_all}

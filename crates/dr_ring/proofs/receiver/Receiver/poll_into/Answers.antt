@@ -2,7 +2,7 @@ use Rattle.std.proofs.Common.{List, length, rules, arith, refl, ap, sym, subst, 
 use Rattle.std.proofs.lemmas.List.{take_at, drop_at}
 use Rattle.dr_seq.specs.declared.event.Event.{Event}
 use Rattle.dr_ring.specs.declared.record.ReceiverRecord.{ReceiverRecord}
-use Rattle.dr_runs.specs.Words.{closed_word}
+use Rattle.dr_runs.specs.OneSender.Words.{closed_word}
 use Rattle.dr_ring.specs.Meaning.Records.{receiver_looked}
 use Rattle.dr_ring.specs.Calls.Ends.{ReceiverEnd}
 use Rattle.dr_ring.specs.Calls.Receiving.{AnswersAsSeen, received_all}

@@ -8,7 +8,7 @@ use Rattle.dr_meaning.specs.declared.command.Polled.TheVariants.{Batch, Drained,
 use Rattle.dr_meaning.specs.Meaning.Refusals.{ClaimTests}
 use Rattle.dr_meaning.specs.Calls.Ends.{Verdict, Exactly, unknown}
 use Rattle.dr_graph.specs.Meaning.Graph.{upstreams_of, finals}
-use Rattle.dr_runs.specs.Words.{cursor_word, closed_word, halt_word, count_word}
+use Rattle.dr_runs.specs.OneSender.Words.{cursor_word, closed_word, halt_word, count_word}
 
 -- the tests of a claim of n more, as far as the sender knows them: there is one producer, and only what a claim finds at its looks is not known before
 abbrev pub claim_tests_of : ℕ → ℕ → ℕ → ℕ → ClaimTests Verdict
