@@ -25,7 +25,7 @@ use Rattle.dr_plain_senders.specs.Meaning.Records.{is_published}
 use Rattle.dr_plain_senders.specs.Meaning.Rule.{IsOutWith, KeepsRule, World}
 use Rattle.dr_plain_senders.specs.Meaning.Settling.{Settles, published_events}
 use Rattle.dr_plain_senders.specs.Meaning.Shape.{IsShape, Shape, handlers_of}
-use Rattle.dr_plain_senders.specs.Calls.Ends.{EndPlace, HalterStand, ReceiverEnd, SenderEnd, receiver_place, received_of}
+use Rattle.dr_plain_senders.specs.Calls.Ends.{EndPlace, HalterEnd, ReceiverEnd, SenderEnd, receiver_place, received_of}
 use Rattle.dr_plain_senders.specs.Calls.Settling.{GivesBack}
 use Rattle.dr_plain_senders.specs.Calls.Making.{AreFreshEnds, at_ring, receiver_at_ring, sender_at_ring}
 use Rattle.dr_plain_senders.proofs.Beginning.{kept_new_world, receiver_fresh, receivers_count, sender_fresh, senders_count}
@@ -61,7 +61,7 @@ module _ {E : Type 0} where
   published_is e = elim (cases_Bool (has_one_stretch e.plan e.knows.own e.writes)) [ inl one ↦ rw one refl | inr more ↦ rw more refl ]
 
 module _ {E A B F : Type 0} (goes : Relation E A) (room : ℕ) (k : Shape E) (blank : E) (gives : F → SenderEnd E → B → SenderEnd E → Type 0) (feeds : List F)
-    (starts : List A) (ss : List (SenderEnd E)) (rs : List (ReceiverEnd E)) (t : HalterStand E) (ws : List (Worker (ReceiverEnd E) A)) (sent : List (Sent E B))
+    (starts : List A) (ss : List (SenderEnd E)) (rs : List (ReceiverEnd E)) (t : HalterEnd E) (ws : List (Worker (ReceiverEnd E) A)) (sent : List (Sent E B))
     (handlers : List A) (settled : Settled E) (values : List E) (answers : List B)
     (shape : IsShape k) (fresh : AreFreshEnds k ss rs t) (ends : map given_end ws ≡ rs) (begun : map given_handler ws ≡ starts)
     (are : AreSent gives feeds ss sent) (wound : IsWoundUp goes room ws sent t handlers settled values answers) where
@@ -87,7 +87,7 @@ module _ {E A B F : Type 0} (goes : Relation E A) (room : ℕ) (k : Shape E) (bl
   same_ring = sym wound.halts.1.0.0
 
   pub plan : wound.after.plan ≡ k
-  plan = wound.halts.1.0.1 ∙ ap (λ (e : HalterStand E). e.plan) fresh.halter
+  plan = wound.halts.1.0.1 ∙ ap (λ (e : HalterEnd E). e.plan) fresh.halter
 
   runs : Runs k wound.ends.run.steps wound.ends.run.entries (new_world k) w
   runs = subst (λ (q : Shape E). Runs q wound.ends.run.steps wound.ends.run.entries (new_world q) w) plan wound.ends.run.runs
@@ -245,7 +245,7 @@ module _ {E A B F : Type 0} (goes : Relation E A) (room : ℕ) (k : Shape E) (bl
   claimed_all = wound.ends.run.came.claims ∙ sym (length-map w.stages (shown blank))
 
   pub halts_new : HaltsOnly (at_ring ring k record { looks = [] }) wound.after
-  halts_new = subst (λ (e : HalterStand E). HaltsOnly e wound.after) (fresh.halter ∙ ap (λ (r : TableId). at_ring r k record { looks = [] }) same_ring) wound.halts
+  halts_new = subst (λ (e : HalterEnd E). HaltsOnly e wound.after) (fresh.halter ∙ ap (λ (r : TableId). at_ring r k record { looks = [] }) same_ring) wound.halts
 
   -- so the run is over a new ring of this shape
   pub ran_over : {T : Type 0} (listed : T → List A) (went : ℕ → List E → T → T → Type 0) (team after : T) (list : Vec B) → list.items ≡ answers → length feeds ≡ k.senders

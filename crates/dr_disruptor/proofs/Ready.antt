@@ -18,7 +18,7 @@ use Rattle.dr_plain.specs.Meaning.Moments.{fresh_receivers}
 use Rattle.dr_plain.specs.Meaning.Records.{claimed, events_of}
 use Rattle.dr_plain.specs.Meaning.Settling.{FoundUnhalted, Settles}
 use Rattle.dr_plain.specs.Meaning.Shape.{Shape, handlers_of}
-use Rattle.dr_plain.specs.Calls.Ends.{HalterStand, ReceiverEnd, ReceiverPlace, SenderEnd, SenderPlace, receiver_place, received_of, sender_place}
+use Rattle.dr_plain.specs.Calls.Ends.{HalterEnd, ReceiverEnd, ReceiverPlace, SenderEnd, SenderPlace, receiver_place, received_of, sender_place}
 use Rattle.dr_plain.specs.Calls.Making.{receiver_at_ring}
 use Rattle.dr_plain.specs.Calls.Sending.{CloseCall}
 use Rattle.dr_plain.specs.Calls.Settling.{AreAllEnds, HasRun, handler_counts}
@@ -53,7 +53,7 @@ module _ {E : Type 0} where
   all_idle t k a (suc n) = All-cons (λ (e : ReceiverEnd E). IsIdle (received_by e)) _ _ refl (all_idle t k (suc a) n)
 
   -- a sender that stays at its place has the same ends beside it
-  pub all_moved : (s s' : SenderEnd E) (rs : List (ReceiverEnd E)) (t : HalterStand E) → sender_place s' ≡ sender_place s → AreAllEnds s rs t → AreAllEnds s' rs t
+  pub all_moved : (s s' : SenderEnd E) (rs : List (ReceiverEnd E)) (t : HalterEnd E) → sender_place s' ≡ sender_place s → AreAllEnds s rs t → AreAllEnds s' rs t
   all_moved s s' rs t same all = record {
     receivers = record {
       all = all.receivers.all ∙ ap (λ (p : SenderPlace). handlers_of p.1) (sym same);
@@ -63,7 +63,7 @@ module _ {E : Type 0} where
   }
 
   -- what was served comes back as all ends of the ring
-  pub receivers_back : {A : Type 0} (goes : Relation E A) (room : ℕ) (s : SenderEnd E) (t : HalterStand E) (ends : List (ReceiverEnd E)) (starts : List A)
+  pub receivers_back : {A : Type 0} (goes : Relation E A) (room : ℕ) (s : SenderEnd E) (t : HalterEnd E) (ends : List (ReceiverEnd E)) (starts : List A)
       → (served : List (Served (ReceiverEnd E) A)) → AreServed receiver_place received_by is_told SawSome does_in_place goes room ends starts served → AreAllEnds s ends t
       → AreAllEnds s (map (λ (b : Served (ReceiverEnd E) A). b.outlet) served) t
   receivers_back goes room s t ends starts served are all = record {
@@ -126,7 +126,7 @@ module _ {E : Type 0} where
       ))
 
   -- the ends that came together are those that the answer remembers
-  pub are_settled : (back s : SenderEnd E) (outlets : List (ReceiverEnd E)) (t : HalterStand E) (settled : Settled E) (values : List E)
+  pub are_settled : (back s : SenderEnd E) (outlets : List (ReceiverEnd E)) (t : HalterEnd E) (settled : Settled E) (values : List E)
       → (answer : Result (Unit {0}) Refusal) × CloseCall back s answer
       → (settled.sender.value ≡ s) × (settled.receivers.value.items ≡ outlets) × (settled.halter.value ≡ t)
       → HasRun s outlets t → Settles s.knows (map (λ (e : ReceiverEnd E). e.knows) outlets)
@@ -140,12 +140,12 @@ module _ {E : Type 0} where
       record {
         closes = subst (λ (x : SenderEnd E). (answer : Result (Unit {0}) Refusal) × CloseCall back x answer) sent close;
         sent = ap (λ (x : SenderEnd E). x.knows.published) ends.0 ∙ closes back s close.0 close.1;
-        run = subst (λ (x : HalterStand E). HasRun settled.sender.value settled.receivers.value.items x) (sym ends.2)
+        run = subst (λ (x : HalterEnd E). HasRun settled.sender.value settled.receivers.value.items x) (sym ends.2)
             (subst (λ (l : List (ReceiverEnd E)). HasRun settled.sender.value l t) received (subst (λ (x : SenderEnd E). HasRun x outlets t) sent run));
         lists = subst (λ (l : List (ReceiverEnd E)). Settles settled.sender.value.knows (map (λ (e : ReceiverEnd E). e.knows) l)) received
             (subst (λ (x : SenderEnd E). Settles x.knows (map (λ (e : ReceiverEnd E). e.knows) outlets)) sent lists);
         whole = λ h e at. subst (λ (x : SenderEnd E). HasAll x e) sent (whole h e (ap (λ (l : List (ReceiverEnd E)). get_elem? l h) received ∙ at));
-        halter = ap (λ (x : HalterStand E). x.knows.halted) ends.2 ∙ unhalted.0;
+        halter = ap (λ (x : HalterEnd E). x.knows.halted) ends.2 ∙ unhalted.0;
         unhalted = subst (λ (x : SenderEnd E). FoundUnhalted x.knows) sent unhalted.1;
         claims = counts.0 ∙ ap (λ (x : SenderEnd E). claimed x.knows) sent;
         published = counts.1 ∙ ap (λ (x : SenderEnd E). length x.knows.published) sent;

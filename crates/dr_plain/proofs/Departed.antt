@@ -17,10 +17,10 @@ use Rattle.dr_plain.specs.Meaning.Records.{claimed}
 use Rattle.dr_plain.specs.declared.record.EndRecord.{EndRecord}
 use Rattle.dr_plain.specs.declared.record.SenderRecord.{SenderRecord}
 use Rattle.dr_plain.specs.declared.record.Step.{Step}
-use Rattle.dr_plain.specs.Calls.Ends.{SenderEnd, ReceiverEnd, SenderStand, HalterStand}
+use Rattle.dr_plain.specs.Calls.Ends.{SenderEnd, ReceiverEnd, SenderStand, HalterEnd}
 use Rattle.dr_plain.specs.Calls.Settling.{handler_counts}
 use Rattle.dr_plain.specs.Inside.Seats.{End, Hand, Sitting, ring_ends, exchange, as_receiver, IsSender, IsReceiver, IsHalter}
-use Rattle.dr_plain.specs.Inside.Stations.{sender_stand, receiver_stand, halter_stand}
+use Rattle.dr_plain.specs.Inside.Stations.{sender_stand, receiver_stand, halter_end}
 use Rattle.dr_plain.specs.Inside.Views.{sender_end, receiver_end}
 use Rattle.dr_plain.specs.Inside.Fits.{SenderFields, SenderFits, TokensFit}
 use Rattle.dr_plain.specs.Inside.Gathering.{sender_known, receiver_known, halter_known}
@@ -50,10 +50,10 @@ module _ {T : Type 0} where
   sender_in ring me w cells s is same =
       own_sender me s is (ap (λ (e : SenderEnd T). e.knows) same) (ap (λ (e : SenderEnd T). e.past) same) (ap (λ (e : SenderEnd T). e.stored) same)
 
-  pub halter_in : (ring : TableId) (me : Sitting T) (t : HalterStand T) → IsHalter (end_of me) → halter_stand ring me ≡ t
+  pub halter_in : (ring : TableId) (me : Sitting T) (t : HalterEnd T) → IsHalter (end_of me) → halter_end ring me ≡ t
       → IsInView ring_ends me.0 (halter_known t)
   halter_in ring me t is same =
-      own_halter me t is (ap (λ (e : HalterStand T). e.knows) same) (ap (λ (e : HalterStand T). e.past) same) (ap (λ (e : HalterStand T). e.stored) same)
+      own_halter me t is (ap (λ (e : HalterEnd T). e.knows) same) (ap (λ (e : HalterEnd T). e.past) same) (ap (λ (e : HalterEnd T). e.stored) same)
 
   pub receiver_in : (ring : TableId) (me : Sitting T) (e : ReceiverEnd T) → IsReceiver (end_of me) → receiver_end (receiver_stand ring me) ≡ e
       → IsInView ring_ends me.0 (receiver_known e)
@@ -62,7 +62,7 @@ module _ {T : Type 0} where
       (ap (λ (x : ReceiverEnd T). x.past) same) (ap (λ (x : ReceiverEnd T). x.stored) same)
 
   -- the ends of a view that has all of them
-  pub together_of : (k : Shape) (v : View (EndRecord T) (Step T)) (s : SenderEnd T) (es : List (ReceiverEnd T)) (t : HalterStand T) → HasAllEnds v s es t
+  pub together_of : (k : Shape) (v : View (EndRecord T) (Step T)) (s : SenderEnd T) (es : List (ReceiverEnd T)) (t : HalterEnd T) → HasAllEnds v s es t
       → ViewRan (exchange k) v → Together k v v s es
   together_of k v s es t H ran = record {
     ran = ran;
@@ -90,7 +90,7 @@ module _ {T : Type 0} where
   }
 
   -- where all parts are then
-  pub lanes_kept : (k plan : Shape) (v : View (EndRecord T) (Step T)) (s : SenderEnd T) (es : List (ReceiverEnd T)) (t : HalterStand T) (upto published : ℕ)
+  pub lanes_kept : (k plan : Shape) (v : View (EndRecord T) (Step T)) (s : SenderEnd T) (es : List (ReceiverEnd T)) (t : HalterEnd T) (upto published : ℕ)
       (tokens : List (Token T)) (counts : List HandlerCounts) (hands : List (List (Token T))) (hand others : Hand T)
       → HasAllEnds v s es t → EndsKeep s es upto published tokens counts hands → ViewRan (exchange k) v → plan ≡ s.knows.plan → hand ≡ left_of s es ++ others
       → AreLanes plan counts (upto - plan.size) published s.knows.published hand hands tokens

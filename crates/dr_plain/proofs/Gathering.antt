@@ -23,7 +23,7 @@ use Rattle.dr_plain.specs.Meaning.Stores.{stores_of_sender, stores_of_receiver}
 use Rattle.dr_plain.specs.Meaning.Settling.{FoundUnhalted, Settles}
 use Rattle.dr_plain.specs.Inside.Seats.{ring_ends, exchange}
 use Rattle.dr_plain.specs.Inside.Gathering.{sender_known, receiver_known, halter_known}
-use Rattle.dr_plain.specs.Calls.Ends.{SenderEnd, ReceiverEnd, HalterStand}
+use Rattle.dr_plain.specs.Calls.Ends.{SenderEnd, ReceiverEnd, HalterEnd}
 use Rattle.dr_plain.specs.Calls.Settling.{AreReceiversOf, HasRun}
 use Rattle.dr_plain.proofs.Beginning.{kept_opening, keeps_runs}
 use Rattle.dr_plain.proofs.Settling.{settles}
@@ -80,7 +80,7 @@ module _ {T : Type 0} where
       ap (λ (n : ℕ). get_elem? w.receivers n) (A.rule.received h r here).number ∙ here)) A.rule
 
   -- where a halter never halted, the sender found no halt but its own
-  pub all_unhalted : (k : Shape) (v now : View (EndRecord T) (Step T)) (s : SenderEnd T) (es : List (ReceiverEnd T)) (t : HalterStand T)
+  pub all_unhalted : (k : Shape) (v now : View (EndRecord T) (Step T)) (s : SenderEnd T) (es : List (ReceiverEnd T)) (t : HalterEnd T)
       → IsInView ring_ends now (halter_known t) → Together k v now s es → t.knows.halted ≡ false → FoundUnhalted s.knows
   all_unhalted k v now s es t I G off =
       let H : InRun (exchange k) G.ran.world G.ran.reached.steps (halter_known t) = in_run (exchange k) now G.ran (halter_known t) I in
@@ -93,7 +93,7 @@ module _ {T : Type 0} where
       → Runs k steps entries (new_world k) w → P k steps entries w
 
   -- the run of the ends that came together
-  pub has_run : (k : Shape) (v now : View (EndRecord T) (Step T)) (s : SenderEnd T) (es : List (ReceiverEnd T)) (t : HalterStand T)
+  pub has_run : (k : Shape) (v now : View (EndRecord T) (Step T)) (s : SenderEnd T) (es : List (ReceiverEnd T)) (t : HalterEnd T)
       → IsInView ring_ends now (halter_known t)
       → Together k v now s es
       → Moments (λ k steps entries w. LeadsTo (ring_setup k) entries (picture_of k w)) → Moments (λ k steps entries w. Laws (ring_setup k) entries)

@@ -5,7 +5,7 @@ use lib.Seq.{map-set_same}
 use mathlib.Core.Option.{some}
 use lib.ListN.{get_elem?}
 use Rattle.dr_plain.specs.Meaning.Shape.{handlers_of}
-use Rattle.dr_plain.specs.Calls.Ends.{SenderEnd, ReceiverEnd, HalterStand, SenderPlace, ReceiverPlace, sender_place, receiver_place}
+use Rattle.dr_plain.specs.Calls.Ends.{SenderEnd, ReceiverEnd, HalterEnd, SenderPlace, ReceiverPlace, sender_place, receiver_place}
 use Rattle.dr_plain.specs.Calls.Settling.{AreAllEnds, AreReceiversOf}
 use Rattle.dr_runs.proofs.Elements.{there, at_below, value_at}
 
@@ -27,7 +27,7 @@ module _ {T : Type 0} where
             (ap (λ (x : ReceiverPlace). x.0) same ∙ was.0 ∙ ap (λ (x : SenderPlace). x.0) (sym sends), ap (λ (x : ReceiverPlace). x.2) same ∙ was.1));
       }
 
-  pub still_all : (s s' : SenderEnd T) (rs rs' : List (ReceiverEnd T)) (t : HalterStand T) → sender_place s' ≡ sender_place s → map receiver_place rs' ≡ map receiver_place rs
+  pub still_all : (s s' : SenderEnd T) (rs rs' : List (ReceiverEnd T)) (t : HalterEnd T) → sender_place s' ≡ sender_place s → map receiver_place rs' ≡ map receiver_place rs
       → AreAllEnds s rs t → AreAllEnds s' rs' t
   still_all s s' rs rs' t sends places A = record {
     receivers = still_receivers s s' rs rs' sends places A.receivers;
@@ -35,6 +35,6 @@ module _ {T : Type 0} where
   }
 
   -- one receiver is called, and keeps its place
-  pub all_receiver_at : (s : SenderEnd T) (rs : List (ReceiverEnd T)) (t : HalterStand T) (h : ℕ) (e e' : ReceiverEnd T) → AreAllEnds s rs t → e ≡ get_or rs h e
+  pub all_receiver_at : (s : SenderEnd T) (rs : List (ReceiverEnd T)) (t : HalterEnd T) (h : ℕ) (e e' : ReceiverEnd T) → AreAllEnds s rs t → e ≡ get_or rs h e
       → receiver_place e' ≡ receiver_place e → AreAllEnds s (set rs h e') t
   all_receiver_at s rs t h e e' A at same = still_all s s rs (set rs h e') t refl (map-set_same receiver_place rs h e' e (same ∙ ap receiver_place at)) A

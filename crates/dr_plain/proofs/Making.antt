@@ -28,7 +28,7 @@ use Rattle.dr_plain.specs.Inside.Seats.{End, Sitting, end_number, Stands, exchan
 use Rattle.dr_plain.specs.Inside.Stations.{receiver_stand, ReceiverSits}
 use Rattle.dr_plain.specs.Inside.Fits.{ReceiverFits}
 use Rattle.dr_plain.specs.Inside.Views.{receiver_end}
-use Rattle.dr_plain.specs.Calls.Ends.{SenderEnd, ReceiverEnd, HalterStand}
+use Rattle.dr_plain.specs.Calls.Ends.{SenderEnd, ReceiverEnd, HalterEnd}
 use Rattle.dr_plain.specs.Calls.Settling.{AreAllEnds}
 use Rattle.dr_plain.specs.Calls.Making.{receiver_at_ring, AreFreshEnds}
 use Rattle.dr_runs.proofs.Elements.{at_below}
@@ -126,7 +126,7 @@ module _ {T : Type 0} where
   fresh_end k t h (suc n) (suc i) e at = let r = fresh_end k t (suc h) n i e at in let m = r.1 in (r.0, omega arith)
 
   -- the ends of a new ring are all of its ends
-  pub all_fresh : (k : Shape) (events : List T) (s : SenderEnd T) (rs : List (ReceiverEnd T)) (t : HalterStand T) → AreFreshEnds k events s rs t
+  pub all_fresh : (k : Shape) (events : List T) (s : SenderEnd T) (rs : List (ReceiverEnd T)) (t : HalterEnd T) → AreFreshEnds k events s rs t
       → AreAllEnds s rs t
   all_fresh k events s rs t F = record {
     receivers = record {
@@ -136,7 +136,7 @@ module _ {T : Type 0} where
           let x : (e.ring ≡ s.ring) × (e.knows.number ≡ 0 + h) = fresh_end k s.ring 0 (handlers_of k) h e (subst (λ (xs : List (ReceiverEnd T)). get_elem? xs h ≡ some e) F.receivers at) in
           let m = x.1 in (x.0, omega arith));
     };
-    halter = ap (λ (x : HalterStand T). x.ring) F.halter;
+    halter = ap (λ (x : HalterEnd T). x.ring) F.halter;
   }
 
 pub some_words : (k : Shape) (n : ℕ) (ws : List ℕ) → n ≡ length ws → ws ≡ replicate (words_of k) 0 → 0 < n

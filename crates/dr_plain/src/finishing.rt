@@ -13,7 +13,7 @@ ghost use Rattle.dr_plain.specs.declared.record.Step.{Step};
 ghost use Rattle.dr_plain.specs.Meaning.Records.{claimed as claimed_of};
 ghost use Rattle.dr_plain.specs.Meaning.Settling.{FoundUnhalted, Settles};
 ghost use Rattle.dr_plain.specs.Calls.Settling.{AreAllEnds, HasRun, handler_counts};
-ghost use Rattle.dr_plain.specs.Calls.Ends.{SenderEnd, ReceiverEnd, HalterStand};
+ghost use Rattle.dr_plain.specs.Calls.Ends.{SenderEnd, ReceiverEnd, HalterEnd};
 ghost use Rattle.dr_plain.specs.Inside.Fits.{PartsFit};
 ghost use Rattle.dr_plain.specs.Inside.Seats.{IsAtTable, ring_ends, exchange};
 ghost use Rattle.dr_plain.specs.Inside.Gathering.{AreReceiversAt, receiver_known};
@@ -99,7 +99,7 @@ pub(crate) fn reclaim_all<T>(
 ) -> Row<T>
     requires table { (seat.table_id ≡ words.now.table_id) × (0 < words.now.table_id.words) }
     requires cells { cells.ptr ≡ plan.now.strip }
-    requires together { (s : SenderEnd T) × (es : List (ReceiverEnd T)) × (t : HalterStand T) × (plan.now ≡ s.knows.plan) × HasAllEnds seat.me.0 s es t × EndsKeep s es claimed published tokens.items counts.now.items (map (λ hand. hand.items) hands.items) }
+    requires together { (s : SenderEnd T) × (es : List (ReceiverEnd T)) × (t : HalterEnd T) × (plan.now ≡ s.knows.plan) × HasAllEnds seat.me.0 s es t × EndsKeep s es claimed published tokens.items counts.now.items (map (λ hand. hand.items) hands.items) }
     ensures ran { ViewRan (exchange words.now.key) seat.me.0 }
     ensures all { IsAll cells.ptr (length tokens.items) result }
     ensures events { map (λ event. Some event) result.items ≡ cells_of tokens.items }

@@ -13,7 +13,7 @@ ghost use Rattle.dr_plain_senders.specs.declared.record.EndRecord.{EndRecord};
 ghost use Rattle.dr_plain_senders.specs.declared.record.Step.{Step};
 ghost use Rattle.dr_plain_senders.specs.Meaning.Words.{claim_word, claimed_in as claimed_in_word};
 ghost use Rattle.dr_plain_senders.specs.Calls.Plans.{IsPlan};
-ghost use Rattle.dr_plain_senders.specs.Calls.Ends.{SenderEnd, ReceiverEnd, HalterStand};
+ghost use Rattle.dr_plain_senders.specs.Calls.Ends.{SenderEnd, ReceiverEnd, HalterEnd};
 ghost use Rattle.dr_plain_senders.specs.Calls.Settling.{AreAllEnds, HasRun, GivesBack, handler_counts};
 ghost use Rattle.dr_plain_senders.specs.Inside.Fits.{PartsFit};
 ghost use Rattle.dr_plain_senders.specs.Inside.Owned.{is_open};
@@ -184,10 +184,10 @@ pub(crate) fn reclaim_all<T>(
     requires table { (seat.table_id ≡ words.now.table_id) × (0 < words.now.table_id.words) }
     requires made { (words.now.key ≡ plan.now) × IsPlan plan.now }
     requires cells { plan.now.strip ≡ cells.ptr }
-    requires together { (ss : List (SenderEnd T)) × (rs : List (ReceiverEnd T)) × (t : HalterStand T) × AreTogether plan.now seat.me.0 ss rs t counts.now.items (map (λ hand. hand.items) hands.items) tokens.items brought.now.items }
+    requires together { (ss : List (SenderEnd T)) × (rs : List (ReceiverEnd T)) × (t : HalterEnd T) × AreTogether plan.now seat.me.0 ss rs t counts.now.items (map (λ hand. hand.items) hands.items) tokens.items brought.now.items }
     ensures ran { (ran : ViewRan (exchange plan.now) seat.me.0) × (slice_index ran.world.words claim_word ≡ result.0) }
     ensures all { IsAll cells.ptr plan.now.size result.1 }
-    ensures events { (ss : List (SenderEnd T)) (rs : List (ReceiverEnd T)) (t : HalterStand T) → AreTogether plan.now seat.me.0 ss rs t counts.now.items (map (λ hand. hand.items) hands.items) tokens.items brought.now.items → GivesBack plan.now (claimed_in_word result.0) ss result.1.items }
+    ensures events { (ss : List (SenderEnd T)) (rs : List (ReceiverEnd T)) (t : HalterEnd T) → AreTogether plan.now seat.me.0 ss rs t counts.now.items (map (λ hand. hand.items) hands.items) tokens.items brought.now.items → GivesBack plan.now (claimed_in_word result.0) ss result.1.items }
 {
     let found = settling::take_all::<T, Brand>(words, &mut seat);
     let claimed = claimed_in(found);

@@ -26,8 +26,9 @@ SenderStand T = EndOf T (SenderRecord T)
 abbrev pub ReceiverStand : Type 0 → Type 0
 ReceiverStand T = EndOf T (ReceiverRecord T)
 
-abbrev pub HalterStand : Type 0 → Type 0
-HalterStand T = EndOf T (HalterRecord T)
+-- the halter is to its caller what it is at its station
+abbrev pub HalterEnd : Type 0 → Type 0
+HalterEnd T = EndOf T (HalterRecord T)
 
 -- the sender as its caller sees it: with what was written of each sequence that is claimed and not published, and what lies in each cell
 pub record SenderEnd (T : Type 0) : Type 0 where

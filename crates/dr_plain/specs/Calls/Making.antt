@@ -7,7 +7,7 @@ use Rattle.dr_meaning.specs.Calls.OpenFault.{is_bad_limit}
 use Rattle.dr_plain.specs.declared.record.ReceiverRecord.{ReceiverRecord}
 use Rattle.dr_plain.specs.Meaning.Shape.{Shape, handlers_of}
 use Rattle.dr_plain.specs.Meaning.Moments.{fresh_sender, fresh_receivers, fresh_halter}
-use Rattle.dr_plain.specs.Calls.Ends.{SenderEnd, ReceiverEnd, HalterStand}
+use Rattle.dr_plain.specs.Calls.Ends.{SenderEnd, ReceiverEnd, HalterEnd}
 
 -- a receiver of a new ring
 abbrev pub receiver_at_ring : {T : Type 0} → TableId → ReceiverRecord T → ReceiverEnd T
@@ -15,7 +15,7 @@ receiver_at_ring ring r = record { ring = ring; knows = r; past = []; stored = [
 
 -- the ends of a new ring: nothing is claimed, received or halted, and no end has stored anything,
 -- the events lie in the cells, and the receivers stand in the graph's order
-pub record AreFreshEnds {T : Type 0} (k : Shape) (events : List T) (s : SenderEnd T) (rs : List (ReceiverEnd T)) (t : HalterStand T) : Type 0 where
+pub record AreFreshEnds {T : Type 0} (k : Shape) (events : List T) (s : SenderEnd T) (rs : List (ReceiverEnd T)) (t : HalterEnd T) : Type 0 where
   pub sender : s.knows ≡ fresh_sender k
   pub writes : s.writes ≡ []
   pub cells : s.cells ≡ map (λ event. Some event) events

@@ -19,7 +19,7 @@ use Rattle.dr_plain.specs.Meaning.Records.{claimed}
 use Rattle.dr_plain.specs.declared.record.SenderRecord.{SenderRecord}
 use Rattle.dr_plain.specs.declared.record.EndRecord.{EndRecord}
 use Rattle.dr_plain.specs.declared.record.Step.{Step}
-use Rattle.dr_plain.specs.Calls.Ends.{SenderEnd, ReceiverEnd, HalterStand}
+use Rattle.dr_plain.specs.Calls.Ends.{SenderEnd, ReceiverEnd, HalterEnd}
 use Rattle.dr_plain.specs.Calls.Settling.{AreAllEnds, handler_counts}
 use Rattle.dr_plain.specs.Inside.Seats.{Hand, Sitting, ring_ends, exchange}
 use Rattle.dr_plain.specs.Inside.Gathering.{sender_known, receiver_known, halter_known}
@@ -44,7 +44,7 @@ module _ {T : Type 0} where
       all_left s.knows.plan 0 (map (λ (e : ReceiverEnd T). handler_counts e.knows) es) (first_lent s.knows) (drop (first_lent s.knows) s.knows.published)
 
   -- a view has all ends of a ring
-  pub record HasAllEnds (v : View (EndRecord T) (Step T)) (s : SenderEnd T) (es : List (ReceiverEnd T)) (t : HalterStand T) : Type 0 where
+  pub record HasAllEnds (v : View (EndRecord T) (Step T)) (s : SenderEnd T) (es : List (ReceiverEnd T)) (t : HalterEnd T) : Type 0 where
     pub sender : IsInView ring_ends v (sender_known s)
     pub halter : IsInView ring_ends v (halter_known t)
     pub receivers : (h : ℕ) (e : ReceiverEnd T) → get_elem? es h ≡ some e → IsInView ring_ends v (receiver_known e)
@@ -53,7 +53,7 @@ module _ {T : Type 0} where
   -- a load by the seat that has them: it stands for none any more, and has in hand what lay in the slots
   pub record TookAll (k : Shape) (s : TableStep (Token T)) (me : Sitting T) (n : ℕ) (me' : Sitting T) : Type 0 where
     pub ran : ViewRan (exchange k) me.0
-    pub hand : (s : SenderEnd T) (es : List (ReceiverEnd T)) (t : HalterStand T) → HasAllEnds me.0 s es t → me'.1 ≡ left_of s es ++ me.1
+    pub hand : (s : SenderEnd T) (es : List (ReceiverEnd T)) (t : HalterEnd T) → HasAllEnds me.0 s es t → me'.1 ≡ left_of s es ++ me.1
 
   -- one handler's parts of the events from `first` on are in its slots, which are first in hand, or with it, and m parts of each are out
   pub record IsLane (k : Shape) (h : ℕ) (c : HandlerCounts) (first upto m : ℕ) (lents : List (Lent T)) (hand : Hand T) (parts tokens : List (Token T)) : Type 0 where

@@ -5,7 +5,7 @@ ghost use Rattle.std.specs.Prelude.{◌≡◌, ◌<◌, ◌++◌, List};
 ghost use Rattle.dr_runs.specs.Seats.{both_views};
 ghost use Rattle.dr_runs.specs.Gathering.{ViewRan};
 ghost use Rattle.dr_plain.specs.Meaning.Shape.{Shape};
-ghost use Rattle.dr_plain.specs.Calls.Ends.{SenderEnd, ReceiverEnd, HalterStand};
+ghost use Rattle.dr_plain.specs.Calls.Ends.{SenderEnd, ReceiverEnd, HalterEnd};
 ghost use Rattle.dr_plain.specs.Inside.Seats.{exchange};
 ghost use Rattle.dr_plain.specs.Inside.Finishing.{HasAllEnds, TookAll, left_of};
 
@@ -55,10 +55,10 @@ pub fn take_in<T>(words: &Words<T>, seat: &mut RingSeat<T>, mut other: RingSeat<
 pub fn take_all<T, J: Plans>(words: &Words<T>, seat: &mut RingSeat<T>)
     requires table { (seat.old.table_id ≡ words.now.table_id) × (0 < words.now.table_id.words) }
     requires plan { words.now.key ≡ J.plan }
-    requires ends { (s : SenderEnd T) × (es : List (ReceiverEnd T)) × (t : HalterStand T) × HasAllEnds seat.old.me.0 s es t }
+    requires ends { (s : SenderEnd T) × (es : List (ReceiverEnd T)) × (t : HalterEnd T) × HasAllEnds seat.old.me.0 s es t }
     ensures seat { seat.new.table_id ≡ seat.old.table_id }
     ensures ran { ViewRan (exchange J.plan) seat.old.me.0 }
-    ensures hand { (s : SenderEnd T) (es : List (ReceiverEnd T)) (t : HalterStand T) → HasAllEnds seat.old.me.0 s es t → seat.new.me.1 ≡ left_of s es ++ seat.old.me.1 }
+    ensures hand { (s : SenderEnd T) (es : List (ReceiverEnd T)) (t : HalterEnd T) → HasAllEnds seat.old.me.0 s es t → seat.new.me.1 ≡ left_of s es ++ seat.old.me.1 }
 {
     words.load::<TakesAll<J>>(seat, CURSOR_WORD);
 }

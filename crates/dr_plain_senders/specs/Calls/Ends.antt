@@ -31,8 +31,9 @@ SenderStand T = EndOf T (SenderRecord T)
 abbrev pub ReceiverStand : Type 0 → Type 0
 ReceiverStand T = EndOf T (ReceiverRecord T)
 
-abbrev pub HalterStand : Type 0 → Type 0
-HalterStand T = EndOf T HalterRecord
+-- the halter is to its caller what it is at its station
+abbrev pub HalterEnd : Type 0 → Type 0
+HalterEnd T = EndOf T HalterRecord
 
 -- looks at the counts of some handlers
 abbrev pub count_looks : List ℕ → List ℕ → List Look

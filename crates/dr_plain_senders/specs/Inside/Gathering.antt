@@ -5,7 +5,7 @@ use Rattle.dr_runs.specs.Gathering.{AreOf, Known}
 use Rattle.dr_plain_senders.specs.declared.record.EndRecord.{EndRecord}
 use Rattle.dr_plain_senders.specs.declared.record.EndRecord.TheVariants.{Sends, Receives, Halts}
 use Rattle.dr_plain_senders.specs.declared.record.Step.{Step}
-use Rattle.dr_plain_senders.specs.Calls.Ends.{SenderEnd, ReceiverEnd, HalterStand}
+use Rattle.dr_plain_senders.specs.Calls.Ends.{SenderEnd, ReceiverEnd, HalterEnd}
 
 module _ {T : Type 0} where
   -- the senders are at this ring, and the receivers
@@ -21,5 +21,5 @@ module _ {T : Type 0} where
   abbrev pub receiver_known : ReceiverEnd T → Known (EndRecord T) (Step T)
   receiver_known e = record { knows = Receives e.knows; past = e.past; stored = e.stored }
 
-  abbrev pub halter_known : HalterStand T → Known (EndRecord T) (Step T)
+  abbrev pub halter_known : HalterEnd T → Known (EndRecord T) (Step T)
   halter_known e = record { knows = Halts e.knows; past = e.past; stored = e.stored }

@@ -3,7 +3,7 @@
 
 ghost use Rattle.std.specs.Prelude.{◌≡◌, ◌<◌, List};
 ghost use Rattle.dr_runs.specs.Seats.{both_views};
-ghost use Rattle.dr_plain_senders.specs.Calls.Ends.{SenderEnd, ReceiverEnd, HalterStand};
+ghost use Rattle.dr_plain_senders.specs.Calls.Ends.{SenderEnd, ReceiverEnd, HalterEnd};
 ghost use Rattle.dr_plain_senders.specs.Inside.Finishing.{HasAllEnds, TookAll};
 
 use super::{Names, RingSeat, Words};
@@ -40,7 +40,7 @@ pub fn take_in<T>(words: &Words<T>, seat: &mut RingSeat<T>, mut other: RingSeat<
 pub fn take_all<T, J: Names<T>>(words: &Words<T>, seat: &mut RingSeat<T>) -> u64
     requires table { (seat.old.table_id ≡ words.now.table_id) × (0 < words.now.table_id.words) }
     requires plan { words.now.key ≡ J.plan }
-    requires ends { (ss : List (SenderEnd T)) × (rs : List (ReceiverEnd T)) × (t : HalterStand T) × HasAllEnds seat.old.me.0 ss rs t × (J.plan ≡ t.plan) }
+    requires ends { (ss : List (SenderEnd T)) × (rs : List (ReceiverEnd T)) × (t : HalterEnd T) × HasAllEnds seat.old.me.0 ss rs t × (J.plan ≡ t.plan) }
     ensures seat { seat.new.table_id ≡ seat.old.table_id }
     ensures took { TookAll J.plan seat.old.me result seat.new.me }
 {

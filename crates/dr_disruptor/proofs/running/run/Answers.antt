@@ -4,7 +4,7 @@ use Rattle.std.specs.Prelude.{IfErr}
 use lib.ListN.{get_elem?}
 use Rattle.dr_disruptor.specs.declared.fault.RunFault.{RunFault}
 use Rattle.dr_plain.specs.declared.record.SenderRecord.{SenderRecord}
-use Rattle.dr_plain.specs.Calls.Ends.{HalterStand, ReceiverEnd, SenderEnd, receiver_place, sender_place}
+use Rattle.dr_plain.specs.Calls.Ends.{HalterEnd, ReceiverEnd, SenderEnd, receiver_place, sender_place}
 use Rattle.dr_plain.specs.Meaning.Records.{events_of}
 use Rattle.dr_plain.specs.Calls.Settling.{AreAllEnds}
 use Rattle.dr_plain.specs.Meaning.Shape.{handlers_of}
@@ -41,7 +41,7 @@ wind_up-requires-clause-ends g c =
     (subst (λ (l : List (ReceiverEnd g.row.E.Denot)). AreAllEnds made.fresh l made.halter) (sym begun.ensures.ends) made.ensures.ends)
 
 pub wind_up-requires-clause-unhalted : goal.wind_up-requires-clause-unhalted
-wind_up-requires-clause-unhalted g c = ap (λ (t : HalterStand g.row.E.Denot). t.knows.halted) c.in_ok-fresh.ensures.fresh.1.halter
+wind_up-requires-clause-unhalted g c = ap (λ (t : HalterEnd g.row.E.Denot). t.knows.halted) c.in_ok-fresh.ensures.fresh.1.halter
 
 pub wind_up-requires-clause-fresh : goal.wind_up-requires-clause-fresh
 wind_up-requires-clause-fresh g c =

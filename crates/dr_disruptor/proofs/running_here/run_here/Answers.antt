@@ -2,7 +2,7 @@ use Rattle.std.proofs.Common.{rules, ◌≡◌, List, All, length, refl, sym, su
 use Rattle.std.specs.Prelude.{IfErr}
 use lib.ListN.{get_elem?}
 use Rattle.dr_plain.specs.declared.record.SenderRecord.{SenderRecord}
-use Rattle.dr_plain.specs.Calls.Ends.{HalterStand, ReceiverEnd, receiver_place}
+use Rattle.dr_plain.specs.Calls.Ends.{HalterEnd, ReceiverEnd, receiver_place}
 use Rattle.dr_plain.specs.Calls.InPlace.{SawSome, does_in_place}
 use Rattle.dr_plain.specs.Calls.Settling.{AreAllEnds}
 use Rattle.dr_plain.specs.Meaning.Records.{events_of}
@@ -47,7 +47,7 @@ wind_up_here-requires-clause-ends g c =
     (all_moved made.sender sent.new.sender.sender made.receivers.items made.halter place made.ensures.ends)
 
 pub wind_up_here-requires-clause-unhalted : goal.wind_up_here-requires-clause-unhalted
-wind_up_here-requires-clause-unhalted g c = ap (λ (t : HalterStand g.row.E.Denot). t.knows.halted) c.in_ok-sender.ensures.fresh.1.halter
+wind_up_here-requires-clause-unhalted g c = ap (λ (t : HalterEnd g.row.E.Denot). t.knows.halted) c.in_ok-sender.ensures.fresh.1.halter
 
 pub wind_up_here-requires-clause-fresh : goal.wind_up_here-requires-clause-fresh
 wind_up_here-requires-clause-fresh g c =

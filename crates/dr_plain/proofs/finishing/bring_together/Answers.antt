@@ -4,7 +4,7 @@ use Rattle.dr_plain.specs.Meaning.Shape.{handlers_of}
 use Rattle.dr_plain.specs.Inside.Seats.{Sitting}
 use Rattle.dr_plain.specs.Inside.Gathering.{halter_known}
 use Rattle.dr_plain.specs.Inside.Stations.{sender_stand}
-use Rattle.dr_plain.specs.Calls.Ends.{SenderEnd, HalterStand}
+use Rattle.dr_plain.specs.Calls.Ends.{SenderEnd, HalterEnd}
 use Rattle.dr_plain.proofs.Gathering.{all_settle, all_unhalted, has_run}
 use Rattle.dr_plain.proofs.Ending.{AllTogether, takes_in, has_all}
 use Rattle.dr_plain.proofs.Departed.{sender_in, halter_in, kept_of, together_of}
@@ -29,7 +29,7 @@ take_in-requires g c =
     let B = c.into_left-ring.ensures.ring in let words = B.0.1 in let at = ap (λ r. r.table.shared.table_id) (sym c.deref.ensures) in record {
       table = (
         ap (λ (e : SenderEnd g.row.T.Denot). e.ring) (c.sends.view_is ∙ c.into_left-ring.ensures.left) ∙ B.0.0 ∙ at,
-        ap (λ (e : HalterStand g.row.T.Denot). e.ring) (c.halts.view_is ∙ c.into_left-halts.ensures.left) ∙ c.requires.halter ∙ B.0.0 ∙ at,
+        ap (λ (e : HalterEnd g.row.T.Denot). e.ring) (c.halts.view_is ∙ c.into_left-halts.ensures.left) ∙ c.requires.halter ∙ B.0.0 ∙ at,
         subst (λ r. 0 < r.table.shared.table_id.words) (sym c.deref.ensures) (omega arith),
       );
     }

@@ -9,7 +9,7 @@ use Rattle.dr_plain.specs.Meaning.Moments.{fresh_receivers}
 use Rattle.dr_plain.specs.declared.record.ReceiverRecord.{ReceiverRecord}
 use Rattle.dr_plain.specs.Calls.Making.{receiver_at_ring}
 use Rattle.dr_plain.specs.Inside.Seats.{Sitting}
-use Rattle.dr_plain.specs.Inside.Stations.{sender_stand, halter_stand}
+use Rattle.dr_plain.specs.Inside.Stations.{sender_stand, halter_end}
 use Rattle.dr_plain.proofs.Making.{ruled_new, some_words}
 use Rattle.dr_plain.proofs.opening.stations.Goals as goal
 
@@ -51,5 +51,5 @@ returns g c =
           (second.2 ∙ ap (λ (m : Sitting g.row.T.Denot). (first_view m.0, m.1)) first);
       receivers = c.in_ok-receivers.ensures
           ∙ (λ i. map (λ (r : ReceiverRecord g.row.T.Denot). receiver_at_ring (receives i) r) (fresh_receivers (plan i) 0 (handlers_of (plan i))));
-      halter = λ i. halter_stand (halts i) (halter i);
+      halter = λ i. halter_end (halts i) (halter i);
     }

@@ -4,7 +4,7 @@ use Rattle.dr_plain.specs.Meaning.Shape.{Shape, handlers_of}
 use Rattle.dr_plain.specs.Inside.Seats.{Sitting}
 use Rattle.dr_plain.specs.Inside.Gathering.{halter_known}
 use Rattle.dr_plain.specs.Inside.Stations.{sender_stand}
-use Rattle.dr_plain.specs.Calls.Ends.{SenderEnd, HalterStand}
+use Rattle.dr_plain.specs.Calls.Ends.{SenderEnd, HalterEnd}
 use Rattle.dr_plain.proofs.Ending.{AllTogether, takes_in, has_all}
 use Rattle.dr_plain.proofs.Departed.{sender_in, halter_in, kept_of}
 use Rattle.dr_plain.proofs.over.end.Goals as goal
@@ -27,7 +27,7 @@ take_in-requires g c =
     let B = c.requires.sender in let words = B.0.1 in record {
       table = (
         ap (λ (e : SenderEnd g.row.T.Denot). e.ring) c.sender.view_is ∙ B.0.0,
-        ap (λ (e : HalterStand g.row.T.Denot). e.ring) c.halter.view_is ∙ c.requires.ends.halter ∙ B.0.0,
+        ap (λ (e : HalterEnd g.row.T.Denot). e.ring) c.halter.view_is ∙ c.requires.ends.halter ∙ B.0.0,
         omega arith,
       );
     }

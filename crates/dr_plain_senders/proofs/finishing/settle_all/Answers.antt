@@ -3,7 +3,7 @@ use Rattle.dr_plain_senders.specs.Meaning.Shape.{Shape, handlers_of}
 use Rattle.dr_plain_senders.specs.Meaning.Words.{is_halted}
 use Rattle.dr_plain_senders.specs.Inside.Bringing.{AreTogether}
 use Rattle.dr_plain_senders.specs.Calls.Plans.{IsPlan}
-use Rattle.dr_plain_senders.specs.Calls.Ends.{HalterStand, EndPlace}
+use Rattle.dr_plain_senders.specs.Calls.Ends.{HalterEnd, EndPlace}
 use Rattle.dr_plain_senders.specs.Calls.Settling.{HasRun, GivesBack}
 use Rattle.dr_plain_senders.proofs.Plans.{is_shape}
 use Rattle.dr_plain_senders.proofs.Gathering.{Together, has_all, has_run}
@@ -13,8 +13,8 @@ use Rattle.dr_plain_senders.proofs.finishing.settle_all.Given.{Over}
 use Rattle.dr_plain_senders.proofs.finishing.settle_all.Goals.{After-gather_receivers}
 
 -- the plan that the halter left is the ring's
-plan_is : {T : Type 0} (left given : HalterStand T) (k plan : Shape T) → left ≡ given → given.plan ≡ k → plan ≡ k → left.plan ≡ plan
-plan_is left given k plan same made is = ap (λ (x : HalterStand _). x.plan) same ∙ made ∙ sym is
+plan_is : {T : Type 0} (left given : HalterEnd T) (k plan : Shape T) → left ≡ given → given.plan ≡ k → plan ≡ k → left.plan ≡ plan
+plan_is left given k plan same made is = ap (λ (x : HalterEnd _). x.plan) same ∙ made ∙ sym is
 
 -- all ends come together in the halter's seat, and what they bring in its places
 come : (g : Over) (c : After-gather_receivers g)
@@ -39,14 +39,14 @@ come g c =
 pub gather_senders-requires-clause-table : goal.gather_senders-requires-clause-table
 gather_senders-requires-clause-table g c =
     let B = c.into_left-ring.ensures.ring in let words = B.0.1 in let at = ap (λ r. r.table.shared.table_id) (sym c.deref.ensures) in (
-      ap (λ (e : HalterStand g.row.T.Denot). e.ring) (c.halts.view_is ∙ c.into_left-ring.ensures.left) ∙ B.0.0 ∙ at,
+      ap (λ (e : HalterEnd g.row.T.Denot). e.ring) (c.halts.view_is ∙ c.into_left-ring.ensures.left) ∙ B.0.0 ∙ at,
       subst (λ r. 0 < r.table.shared.table_id.words) (sym c.deref.ensures) (omega arith),
     )
 
 pub gather_senders-requires-clause-senders : goal.gather_senders-requires-clause-senders
 gather_senders-requires-clause-senders g c p e at =
     ap (λ (x : EndPlace g.row.T.Denot). x.0) (c.requires.each_sender p e at)
-    ∙ sym (ap (λ (x : HalterStand g.row.T.Denot). x.ring) (c.halts.view_is ∙ c.into_left-ring.ensures.left))
+    ∙ sym (ap (λ (x : HalterEnd g.row.T.Denot). x.ring) (c.halts.view_is ∙ c.into_left-ring.ensures.left))
 
 pub gather_senders-requires-clause-plans : goal.gather_senders-requires-clause-plans
 gather_senders-requires-clause-plans g c p e at =
@@ -66,30 +66,30 @@ gather_senders-requires-clause-places g c =
 pub gather_receivers-requires-clause-table : goal.gather_receivers-requires-clause-table
 gather_receivers-requires-clause-table g c =
     let B = c.into_left-ring.ensures.ring in let words = B.0.1 in let at = ap (λ r. r.table.shared.table_id) (sym c.deref.ensures) in (
-      c.gather_senders.ensures.seat.0 ∙ ap (λ (e : HalterStand g.row.T.Denot). e.ring) (c.halts.view_is ∙ c.into_left-ring.ensures.left) ∙ B.0.0 ∙ at,
+      c.gather_senders.ensures.seat.0 ∙ ap (λ (e : HalterEnd g.row.T.Denot). e.ring) (c.halts.view_is ∙ c.into_left-ring.ensures.left) ∙ B.0.0 ∙ at,
       subst (λ r. 0 < r.table.shared.table_id.words) (sym c.deref.ensures) (omega arith),
     )
 
 pub gather_receivers-requires-clause-receivers : goal.gather_receivers-requires-clause-receivers
 gather_receivers-requires-clause-receivers g c h e at =
     ap (λ (x : EndPlace g.row.T.Denot). x.0) (c.requires.each_receiver h e at)
-    ∙ sym (ap (λ (x : HalterStand g.row.T.Denot). x.ring) (c.halts.view_is ∙ c.into_left-ring.ensures.left)) ∙ sym c.gather_senders.ensures.seat.0
+    ∙ sym (ap (λ (x : HalterEnd g.row.T.Denot). x.ring) (c.halts.view_is ∙ c.into_left-ring.ensures.left)) ∙ sym c.gather_senders.ensures.seat.0
 
 pub gather_receivers-requires-clause-places : goal.gather_receivers-requires-clause-places
 gather_receivers-requires-clause-places g c =
-    c.halts.invariant.places.counts ∙ ap (λ (x : HalterStand g.row.T.Denot). handlers_of x.plan) (c.halts.view_is ∙ c.into_left-ring.ensures.left)
+    c.halts.invariant.places.counts ∙ ap (λ (x : HalterEnd g.row.T.Denot). handlers_of x.plan) (c.halts.view_is ∙ c.into_left-ring.ensures.left)
     ∙ sym c.requires.receivers
 
 pub gather_receivers-requires-clause-rooms : goal.gather_receivers-requires-clause-rooms
 gather_receivers-requires-clause-rooms g c =
-    c.halts.invariant.places.hands ∙ ap (λ (x : HalterStand g.row.T.Denot). handlers_of x.plan) (c.halts.view_is ∙ c.into_left-ring.ensures.left)
+    c.halts.invariant.places.hands ∙ ap (λ (x : HalterEnd g.row.T.Denot). handlers_of x.plan) (c.halts.view_is ∙ c.into_left-ring.ensures.left)
     ∙ sym c.requires.receivers
 
 pub reclaim_all-found-requires-clause-table : goal.reclaim_all-found-requires-clause-table
 reclaim_all-found-requires-clause-table g c =
     let B = c.into_left-ring.ensures.ring in let words = B.0.1 in let at = ap (λ r. r.table.shared.table_id) (sym c.deref.ensures) in (
       c.gather_receivers.ensures.seat.0 ∙ c.gather_senders.ensures.seat.0
-          ∙ ap (λ (e : HalterStand g.row.T.Denot). e.ring) (c.halts.view_is ∙ c.into_left-ring.ensures.left) ∙ B.0.0 ∙ at,
+          ∙ ap (λ (e : HalterEnd g.row.T.Denot). e.ring) (c.halts.view_is ∙ c.into_left-ring.ensures.left) ∙ B.0.0 ∙ at,
       subst (λ r. 0 < r.table.shared.table_id.words) (sym c.deref.ensures) (omega arith),
     )
 

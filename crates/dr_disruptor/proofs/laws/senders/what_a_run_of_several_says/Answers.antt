@@ -5,7 +5,7 @@ use Rattle.dr_meaning.specs.Meaning.Laws.{Laws}
 use Rattle.dr_runs.specs.declared.counts.HandlerCounts.{HandlerCounts}
 use Rattle.dr_runs.proofs.Lists.{map_there}
 use Rattle.dr_plain_senders.specs.declared.settled.Settled.{Settled}
-use Rattle.dr_plain_senders.specs.Calls.Ends.{HalterStand, ReceiverEnd, SenderEnd, receiver_place, received_of}
+use Rattle.dr_plain_senders.specs.Calls.Ends.{HalterEnd, ReceiverEnd, SenderEnd, receiver_place, received_of}
 use Rattle.dr_plain_senders.specs.Calls.InPlace.{SawSome, does_in_place}
 use Rattle.dr_plain_senders.specs.Calls.Making.{receiver_at_ring}
 use Rattle.dr_plain_senders.specs.Calls.Settling.{handler_counts}
@@ -33,7 +33,7 @@ pub returns-clause-merges : goal.returns-clause-merges
 returns-clause-merges g c most k feeds handlers ran is = (is.through.merge, is.through.through, is.claimed)
 
 -- each receiver took and completed all that was claimed, and so it is counted
-completes_all : {E : Type 0} (settled : Settled E) (ss : List (SenderEnd E)) (rs : List (ReceiverEnd E)) (t : HalterStand E) (ends : AreSettled settled ss rs t)
+completes_all : {E : Type 0} (settled : Settled E) (ss : List (SenderEnd E)) (rs : List (ReceiverEnd E)) (t : HalterEnd E) (ends : AreSettled settled ss rs t)
     → (events : List E) → events ≡ events_of (published_events ends.run.world) → settled.claimed ≡ length events
     → (h : ℕ) (e : ReceiverEnd E) → get_elem? rs h ≡ some e
     → ((received_of e.knows).events ≡ events) × (e.knows.completed ≡ settled.claimed)
