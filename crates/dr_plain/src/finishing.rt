@@ -57,7 +57,7 @@ pub(crate) fn bring_receiver<T>(
         completed: receiver.completed,
     };
     put_at(hands, place, receiver.parts);
-    settling::take_in(words, seat, receiver.seat);
+    settling::unite(words, seat, receiver.seat);
 }
 
 // All receivers come so.
@@ -125,7 +125,7 @@ fn bring_together<T: Drop>(
     let (ring, sends) = sender.into_left();
     let (_, halts) = halter.into_left();
     let (mut seat, mut counts, mut hands) = (sends.seat, sends.counts, sends.hands);
-    settling::take_in(&ring.table.shared, &mut seat, halts.seat);
+    settling::unite(&ring.table.shared, &mut seat, halts.seat);
     gather_receivers(&ring, &mut seat, receivers, &mut counts, &mut hands);
     let row = reclaim_all(
         &ring.table.shared,

@@ -64,7 +64,7 @@ pub(crate) fn end<T>(
         mut hands,
         strip,
     } = sender;
-    settling::take_in(words, &mut seat, halter.seat);
+    settling::unite(words, &mut seat, halter.seat);
     gather_receivers_left(words, &mut seat, receivers, &mut counts, &mut hands);
     let row = reclaim_all(
         words,

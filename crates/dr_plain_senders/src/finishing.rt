@@ -94,7 +94,7 @@ pub(crate) fn bring_sender<T>(
 {
     let own = sender.tokens;
     bring_open(plan, &sender.owned, sender.end, own, tokens, brought);
-    settling::take_in(words, seat, sender.seat);
+    settling::unite(words, seat, sender.seat);
 }
 
 /// A receiver's seat comes to the halter's, and its counts and parts to their places.
@@ -118,7 +118,7 @@ pub(crate) fn bring_receiver<T>(
         completed: receiver.completed,
     };
     put_at(hands, place, receiver.parts);
-    settling::take_in(words, seat, receiver.seat);
+    settling::unite(words, seat, receiver.seat);
 }
 
 // All senders come so.

@@ -76,7 +76,7 @@ fn gather_halter(ring: &Arc<RingBody, Global>, seat: &mut RingSeat, halter: Opti
     ensures view { Gathers ring_ends seat.old.me.0 (halters_known halter) seat.new.me.0 }
 {
     if let Some(halter) = halter {
-        settling::take_in(&ring.table.shared, seat, halter.seat);
+        settling::unite(&ring.table.shared, seat, halter.seat);
     }
 }
 
@@ -100,7 +100,7 @@ fn gather_receivers(
             completed: receiver.completed,
         };
         let station = receiver.station;
-        settling::take_in(&ring.table.shared, seat, station.seat);
+        settling::unite(&ring.table.shared, seat, station.seat);
     }
 }
 

@@ -25,7 +25,7 @@ impl<T, J: Names<T>> Play<Token<T>, View<T>> for TakesAll<J> {
 }
 
 /// A seat takes in what another stands for. What slots that other has in hand stay in no seat.
-pub fn take_in<T>(words: &Words<T>, seat: &mut RingSeat<T>, mut other: RingSeat<T>)
+pub fn unite<T>(words: &Words<T>, seat: &mut RingSeat<T>, mut other: RingSeat<T>)
     requires table { (seat.old.table_id ≡ words.now.table_id) × (other.table_id ≡ words.now.table_id) × (0 < words.now.table_id.words) }
     ensures seat { (seat.new.table_id ≡ seat.old.table_id) × (seat.new.id ≡ seat.old.id) }
     ensures view { seat.new.me ≡ (both_views seat.old.me.0 other.me.0, seat.old.me.1) }

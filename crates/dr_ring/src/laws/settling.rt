@@ -10,7 +10,7 @@ use dr_runs::{CURSOR_WORD, Together};
 use std::marker::Brand;
 
 /// A seat takes in what another stands for.
-pub fn take_in(words: &Words, seat: &mut RingSeat, other: RingSeat)
+pub fn unite(words: &Words, seat: &mut RingSeat, other: RingSeat)
     requires table { (seat.old.table_id ≡ words.now.table_id) × (other.table_id ≡ words.now.table_id) × (0 < words.now.table_id.words) }
     requires other { other.me.1 ≡ [] }
     ensures seat { (seat.new.table_id ≡ seat.old.table_id) × (seat.new.id ≡ seat.old.id) }

@@ -14,18 +14,18 @@ use Rattle.dr_plain.proofs.finishing.bring_together.Goals.{After-gather_receiver
 
 -- all ends come together in the sender's seat
 come : (g : Over) (c : After-gather_receivers g)
-    → AllTogether c.sends.inside.seat.me.0 c.take_in.new.seat.me.0 c.gather_receivers.new.seat.me.0 c.args.sender c.args.receivers.items c.args.halter
+    → AllTogether c.sends.inside.seat.me.0 c.unite.new.seat.me.0 c.gather_receivers.new.seat.me.0 c.args.sender c.args.receivers.items c.args.halter
 come g c = record {
   mine = sender_in _ c.sends.inside.seat.me _ _ c.args.sender c.sends.invariant.0 (c.sends.view_is ∙ c.into_left-ring.ensures.left);
   halter = takes_in _ _ _ (halter_known c.args.halter)
       (halter_in _ c.halts.inside.seat.me c.args.halter c.halts.invariant (c.halts.view_is ∙ c.into_left-halts.ensures.left))
-      (ap (λ (m : Sitting g.row.T.Denot). m.0) c.take_in.ensures.view);
+      (ap (λ (m : Sitting g.row.T.Denot). m.0) c.unite.ensures.view);
   receivers = c.gather_receivers.ensures.view;
   all = c.requires;
 }
 
-pub take_in-requires : goal.take_in-requires
-take_in-requires g c =
+pub unite-requires : goal.unite-requires
+unite-requires g c =
     let B = c.into_left-ring.ensures.ring in let words = B.0.1 in let at = ap (λ r. r.table.shared.table_id) (sym c.deref.ensures) in record {
       table = (
         ap (λ (e : SenderEnd g.row.T.Denot). e.ring) (c.sends.view_is ∙ c.into_left-ring.ensures.left) ∙ B.0.0 ∙ at,
@@ -37,12 +37,12 @@ take_in-requires g c =
 pub gather_receivers-requires-clause-table : goal.gather_receivers-requires-clause-table
 gather_receivers-requires-clause-table g c =
     let B = c.into_left-ring.ensures.ring in
-    (c.take_in.ensures.seat.0 ∙ ap (λ (e : SenderEnd g.row.T.Denot). e.ring) (c.sends.view_is ∙ c.into_left-ring.ensures.left) ∙ B.0.0, B.0.1, B.0.2)
+    (c.unite.ensures.seat.0 ∙ ap (λ (e : SenderEnd g.row.T.Denot). e.ring) (c.sends.view_is ∙ c.into_left-ring.ensures.left) ∙ B.0.0, B.0.1, B.0.2)
 
 pub gather_receivers-requires-clause-receivers : goal.gather_receivers-requires-clause-receivers
 gather_receivers-requires-clause-receivers g c h e at =
     let ring = ap (λ (s : SenderEnd g.row.T.Denot). s.ring) (c.sends.view_is ∙ c.into_left-ring.ensures.left) in
-    (c.requires.receivers.each h e at).0 ∙ sym ring ∙ sym c.take_in.ensures.seat.0
+    (c.requires.receivers.each h e at).0 ∙ sym ring ∙ sym c.unite.ensures.seat.0
 
 pub gather_receivers-requires-clause-places : goal.gather_receivers-requires-clause-places
 gather_receivers-requires-clause-places g c =

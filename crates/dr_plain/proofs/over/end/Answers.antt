@@ -13,17 +13,17 @@ use Rattle.dr_plain.proofs.over.end.Goals.{After-gather_receivers_left}
 
 -- all that the ends left comes together in the sender's seat
 come : (g : Over) (c : After-gather_receivers_left g)
-    → AllTogether c.sender.inside.seat.me.0 c.take_in.new.seat.me.0 c.gather_receivers_left.new.seat.me.0 c.args.sender c.args.receivers c.args.halter
+    → AllTogether c.sender.inside.seat.me.0 c.unite.new.seat.me.0 c.gather_receivers_left.new.seat.me.0 c.args.sender c.args.receivers c.args.halter
 come g c = record {
   mine = sender_in _ c.sender.inside.seat.me _ _ c.args.sender c.sender.invariant.0 c.sender.view_is;
   halter = takes_in _ _ _ (halter_known c.args.halter) (halter_in _ c.halter.inside.seat.me c.args.halter c.halter.invariant c.halter.view_is)
-      (ap (λ (m : Sitting g.row.T.Denot). m.0) c.take_in.ensures.view);
+      (ap (λ (m : Sitting g.row.T.Denot). m.0) c.unite.ensures.view);
   receivers = c.gather_receivers_left.ensures.view;
   all = c.requires.ends;
 }
 
-pub take_in-requires : goal.take_in-requires
-take_in-requires g c =
+pub unite-requires : goal.unite-requires
+unite-requires g c =
     let B = c.requires.sender in let words = B.0.1 in record {
       table = (
         ap (λ (e : SenderEnd g.row.T.Denot). e.ring) c.sender.view_is ∙ B.0.0,
@@ -35,11 +35,11 @@ take_in-requires g c =
 pub gather_receivers_left-requires-clause-table : goal.gather_receivers_left-requires-clause-table
 gather_receivers_left-requires-clause-table g c =
     let B = c.requires.sender in let words = B.0.1 in
-    (c.take_in.ensures.seat.0 ∙ ap (λ (e : SenderEnd g.row.T.Denot). e.ring) c.sender.view_is ∙ B.0.0, omega arith)
+    (c.unite.ensures.seat.0 ∙ ap (λ (e : SenderEnd g.row.T.Denot). e.ring) c.sender.view_is ∙ B.0.0, omega arith)
 
 pub gather_receivers_left-requires-clause-receivers : goal.gather_receivers_left-requires-clause-receivers
 gather_receivers_left-requires-clause-receivers g c h e at =
-    (c.requires.ends.receivers.each h e at).0 ∙ sym (ap (λ (s : SenderEnd g.row.T.Denot). s.ring) c.sender.view_is) ∙ sym c.take_in.ensures.seat.0
+    (c.requires.ends.receivers.each h e at).0 ∙ sym (ap (λ (s : SenderEnd g.row.T.Denot). s.ring) c.sender.view_is) ∙ sym c.unite.ensures.seat.0
 
 pub gather_receivers_left-requires-clause-places : goal.gather_receivers_left-requires-clause-places
 gather_receivers_left-requires-clause-places g c =
@@ -52,7 +52,7 @@ gather_receivers_left-requires-clause-rooms g c =
 pub reclaim_all-row-requires-clause-table : goal.reclaim_all-row-requires-clause-table
 reclaim_all-row-requires-clause-table g c =
     let B = c.requires.sender in let words = B.0.1 in
-    (c.gather_receivers_left.ensures.seat.0 ∙ c.take_in.ensures.seat.0 ∙ ap (λ (e : SenderEnd g.row.T.Denot). e.ring) c.sender.view_is ∙ B.0.0, omega arith)
+    (c.gather_receivers_left.ensures.seat.0 ∙ c.unite.ensures.seat.0 ∙ ap (λ (e : SenderEnd g.row.T.Denot). e.ring) c.sender.view_is ∙ B.0.0, omega arith)
 
 pub reclaim_all-row-requires-clause-cells : goal.reclaim_all-row-requires-clause-cells
 reclaim_all-row-requires-clause-cells g c =

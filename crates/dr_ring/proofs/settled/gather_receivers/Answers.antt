@@ -7,8 +7,8 @@ use Rattle.dr_ring.specs.declared.record.ReceiverRecord.{ReceiverRecord}
 use Rattle.dr_ring.specs.Calls.Ends.{ReceiverEnd}
 use Rattle.dr_ring.proofs.settled.gather_receivers.Goals as goal
 
-pub take_in-requires-clause-table : goal.take_in-requires-clause-table
-take_in-requires-clause-table c =
+pub unite-requires-clause-table : goal.unite-requires-clause-table
+unite-requires-clause-table c =
     let t = c.requires.table in let inv = c.loop-receiver.invariant in let at = t.0 ∙ ap (λ r. r.table.shared.table_id) (sym c.deref.ensures) in (
       inv.0 ∙ at,
       ap (λ (e : ReceiverEnd). e.ring) (c.station.view_is ∙ c.receiver.view_is)
@@ -28,10 +28,10 @@ loop-receiver-preserved c =
     c.receiver.invariant.taken ∙ ap (λ (q : ReceiverRecord). length q.received) knows in
     let completed : c.receiver.inside.completed ≡ c.in-Some.receiver.knows.completed =
     c.receiver.invariant.completed ∙ ap (λ (q : ReceiverRecord). q.completed) knows in (
-      c.take_in.ensures.seat.0 ∙ inv.0,
+      c.unite.ensures.seat.0 ∙ inv.0,
       (
         c.in-Some.receiver ∷ inv.1.0,
-        gathering_more c.station.inside.seat.me.0 inv.1.1 c.in-Some.ensures.items came (ap (λ (m : Sitting). m.0) c.take_in.ensures.view),
+        gathering_more c.station.inside.seat.me.0 inv.1.1 c.in-Some.ensures.items came (ap (λ (m : Sitting). m.0) c.unite.ensures.view),
         filled_more inv.1.2 inv.1.1.split c.in-Some.ensures.items
             (λ i. set c.loop-receiver.counts.items (place i) record { taken = taken i; completed = completed i }),
       ),

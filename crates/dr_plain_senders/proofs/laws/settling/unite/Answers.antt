@@ -1,7 +1,7 @@
 use Rattle.std.proofs.Common.{ap, ◌∙◌}
 use Rattle.dr_lent.proofs.Going.{leave_on, join_on}
 use Rattle.dr_plain_senders.specs.Inside.Seats.{Sitting}
-use Rattle.dr_plain_senders.proofs.laws.settling.take_in.Goals as goal
+use Rattle.dr_plain_senders.proofs.laws.settling.unite.Goals as goal
 
 pub split_seat-view-requires : goal.split_seat-view-requires
 split_seat-view-requires g c = (c.requires.table.1, c.requires.table.2, leave_on _ _ _)
