@@ -8,14 +8,13 @@ use Rattle.atomic_table.specs.Table.{opening as table_opening}
 use Rattle.atomic_table.specs.Seated.{TableId}
 use Rattle.dr_cells.specs.declared.token.Token.{Token}
 use Rattle.dr_cells.specs.Tokens.{no_token}
-use Rattle.dr_graph.specs.Meaning.Graph.{IsGraph}
 use Rattle.dr_runs.specs.Seats.{seat_at, fresh_seat, first_view, rest_view}
 use Rattle.dr_runs.proofs.Lists.{at_map, map_there}
 use Rattle.dr_runs.proofs.Rows.{replicate_at, at_replicate}
 use Rattle.dr_runs.proofs.Cuts.{ruled_fresh}
 use Rattle.dr_lent.specs.declared.lent.Lent.{Lent}
 use Rattle.dr_lent.proofs.Lanes.{inside_lanes}
-use Rattle.dr_plain.specs.Meaning.Shape.{Shape, handlers_of}
+use Rattle.dr_plain.specs.Meaning.Shape.{Shape, IsShape, handlers_of}
 use Rattle.dr_plain.specs.Meaning.Words.{words_of, slot_of, slots_of}
 use Rattle.dr_plain.specs.Meaning.Lying.{part_of, Lies}
 use Rattle.dr_plain.specs.Calls.Plans.{IsPlan}
@@ -61,10 +60,10 @@ module _ {T : Type 0} where
 
   -- a new ring keeps the rule
   pub ruled_new : (k : Shape) (ws : List ℕ) (cs : List (Token T)) → ws ≡ replicate (words_of k) 0 → cs ≡ replicate (slots_of k) no_token
-      → IsGraph k.upstreams → 0 < k.size
+      → IsShape k
       → Ruled {T = T} k (table_opening ws cs (all_ends k))
-  ruled_new k ws cs is blank graph some_slot =
-      inl (ruled_fresh (exchange k) (fresh_ends k) (λ n. n) ws cs (sym is) (lies_fresh k cs blank some_slot) (graph, some_slot) (stands_fresh k))
+  ruled_new k ws cs is blank shape =
+      inl (ruled_fresh (exchange k) (fresh_ends k) (λ n. n) ws cs (sym is) (lies_fresh k cs blank shape.some_slot) shape (stands_fresh k))
 
   -- the next of the receivers
   fresh_next : (k : Shape) (h n : ℕ) → h < n → fresh_receivers {T = T} k h (n - h) ≡ fresh_receiver k h ∷ fresh_receivers k (h + 1) (n - (h + 1))

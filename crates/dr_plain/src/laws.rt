@@ -11,12 +11,11 @@ mod receiver;
 mod sender;
 pub(crate) mod settling;
 
-ghost use Rattle.std.specs.Prelude.{List, Option, ℕ, ◌≡◌, ◌<◌, ◌++◌, length, slice_index};
-ghost use Rattle.dr_graph.specs.Meaning.Graph.{IsGraph};
+ghost use Rattle.std.specs.Prelude.{List, Option, ℕ, ◌≡◌, ◌++◌, length, slice_index};
 ghost use Rattle.dr_meaning.specs.Meaning.Transcript.{Transcript, LeadsTo};
 ghost use Rattle.dr_meaning.specs.Meaning.Laws.{Laws};
 ghost use Rattle.dr_meaning.specs.Meaning.Progress.{NobodyIsStuck};
-ghost use Rattle.dr_plain.specs.Meaning.Shape.{Shape, ring_setup};
+ghost use Rattle.dr_plain.specs.Meaning.Shape.{Shape, IsShape, ring_setup};
 ghost use Rattle.dr_runs.specs.OneSender.Words.{halt_word};
 ghost use Rattle.dr_plain.specs.Meaning.Records.{claimed};
 ghost use Rattle.dr_plain.specs.Meaning.Rule.{World, KeepsRule};
@@ -66,17 +65,17 @@ pub type RingSeat<T> = Seat<Token<T>, View<T>>;
 /// of a claim without room finds was so already at its first. Once a ring is halted, nothing more is
 /// claimed. It does nothing when it runs: the contract is the theorem.
 pub fn moments<T>()
-    ensures rule { (k : Shape) (steps : List (Step T)) (entries : Transcript T) (w : World T) → IsGraph k.upstreams → 0 < k.size → Runs k steps entries (new_world k) w → KeepsRule k w }
-    ensures leads { (k : Shape) (steps : List (Step T)) (entries : Transcript T) (w : World T) → IsGraph k.upstreams → 0 < k.size → Runs k steps entries (new_world k) w → LeadsTo (ring_setup k) entries (picture_of k w) }
-    ensures writes { (k : Shape) (steps : List (Step T)) (entries : Transcript T) (w : World T) → IsGraph k.upstreams → 0 < k.size → Runs k steps entries (new_world k) w → (wrote : List (Option T)) → length wrote ≡ w.sender.pending → LeadsTo (ring_setup k) (entries ++ open_writes (length w.sender.published) wrote) (picture_with k w wrote) }
-    ensures laws { (k : Shape) (steps : List (Step T)) (entries : Transcript T) (w : World T) → IsGraph k.upstreams → 0 < k.size → Runs k steps entries (new_world k) w → Laws (ring_setup k) entries }
-    ensures progress { (k : Shape) (steps : List (Step T)) (entries : Transcript T) (w : World T) → IsGraph k.upstreams → 0 < k.size → Runs k steps entries (new_world k) w → NobodyIsStuck (ring_setup k) (picture_of k w) }
-    ensures told { (k : Shape) (steps : List (Step T)) (entries : Transcript T) (w : World T) → IsGraph k.upstreams → 0 < k.size → Runs k steps entries (new_world k) w → WereTold w entries }
-    ensures replies { (k : Shape) (steps : List (Step T)) (entries : Transcript T) (w : World T) → IsGraph k.upstreams → 0 < k.size → Runs k steps entries (new_world k) w → RepliesAsAnswered k w }
-    ensures offers { (k : Shape) (steps more : List (Step T)) (entries rest : Transcript T) (w u : World T) → IsGraph k.upstreams → 0 < k.size → Runs k steps entries (new_world k) w → Runs k more rest w u → OffersWhatWasThere k w u }
-    ensures hands { (k : Shape) (steps more : List (Step T)) (entries rest : Transcript T) (w u : World T) → IsGraph k.upstreams → 0 < k.size → Runs k steps entries (new_world k) w → Runs k more rest w u → HandsWhatWasThere k w u }
-    ensures rises { (k : Shape) (steps more : List (Step T)) (entries rest : Transcript T) (w u : World T) → IsGraph k.upstreams → 0 < k.size → Runs k steps entries (new_world k) w → Runs k more rest w u → NothingFalls w u }
-    ensures halted { (k : Shape) (steps more : List (Step T)) (entries rest : Transcript T) (w u : World T) → IsGraph k.upstreams → 0 < k.size → Runs k steps entries (new_world k) w → Runs k more rest w u → slice_index w.words halt_word ≡ 1 → claimed u.sender ≡ claimed w.sender }
+    ensures rule { (k : Shape) (steps : List (Step T)) (entries : Transcript T) (w : World T) → IsShape k → Runs k steps entries (new_world k) w → KeepsRule k w }
+    ensures leads { (k : Shape) (steps : List (Step T)) (entries : Transcript T) (w : World T) → IsShape k → Runs k steps entries (new_world k) w → LeadsTo (ring_setup k) entries (picture_of k w) }
+    ensures writes { (k : Shape) (steps : List (Step T)) (entries : Transcript T) (w : World T) → IsShape k → Runs k steps entries (new_world k) w → (wrote : List (Option T)) → length wrote ≡ w.sender.pending → LeadsTo (ring_setup k) (entries ++ open_writes (length w.sender.published) wrote) (picture_with k w wrote) }
+    ensures laws { (k : Shape) (steps : List (Step T)) (entries : Transcript T) (w : World T) → IsShape k → Runs k steps entries (new_world k) w → Laws (ring_setup k) entries }
+    ensures progress { (k : Shape) (steps : List (Step T)) (entries : Transcript T) (w : World T) → IsShape k → Runs k steps entries (new_world k) w → NobodyIsStuck (ring_setup k) (picture_of k w) }
+    ensures told { (k : Shape) (steps : List (Step T)) (entries : Transcript T) (w : World T) → IsShape k → Runs k steps entries (new_world k) w → WereTold w entries }
+    ensures replies { (k : Shape) (steps : List (Step T)) (entries : Transcript T) (w : World T) → IsShape k → Runs k steps entries (new_world k) w → RepliesAsAnswered k w }
+    ensures offers { (k : Shape) (steps more : List (Step T)) (entries rest : Transcript T) (w u : World T) → IsShape k → Runs k steps entries (new_world k) w → Runs k more rest w u → OffersWhatWasThere k w u }
+    ensures hands { (k : Shape) (steps more : List (Step T)) (entries rest : Transcript T) (w u : World T) → IsShape k → Runs k steps entries (new_world k) w → Runs k more rest w u → HandsWhatWasThere k w u }
+    ensures rises { (k : Shape) (steps more : List (Step T)) (entries rest : Transcript T) (w u : World T) → IsShape k → Runs k steps entries (new_world k) w → Runs k more rest w u → NothingFalls w u }
+    ensures halted { (k : Shape) (steps more : List (Step T)) (entries rest : Transcript T) (w u : World T) → IsShape k → Runs k steps entries (new_world k) w → Runs k more rest w u → slice_index w.words halt_word ≡ 1 → claimed u.sender ≡ claimed w.sender }
 {
     every_transcript_is_lawful::<T>();
     nobody_is_stuck::<T>();

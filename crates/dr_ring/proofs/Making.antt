@@ -4,11 +4,10 @@ use Rattle.std.proofs.Common.{get_or, replicate, sym, refl, ap, ◌∙◌, subst
 use Rattle.std.proofs.lemmas.List.{length-map, length-replicate}
 use Rattle.atomic_table.specs.Table.{opening as table_opening}
 use Rattle.atomic_table.specs.Seated.{TableId}
-use Rattle.dr_graph.specs.Meaning.Graph.{IsGraph}
 use Rattle.dr_runs.specs.Seats.{seat_at, fresh_seat, first_view, rest_view}
 use Rattle.dr_runs.proofs.Lists.{at_map}
 use Rattle.dr_runs.proofs.Cuts.{ruled_fresh}
-use Rattle.dr_ring.specs.Meaning.Shape.{Shape, handlers_of}
+use Rattle.dr_ring.specs.Meaning.Shape.{Shape, IsShape, handlers_of}
 use Rattle.dr_ring.specs.Meaning.Words.{words_of}
 use Rattle.dr_ring.specs.Calls.Plans.{IsPlan}
 use Rattle.dr_ring.specs.declared.record.SenderRecord.{SenderRecord}
@@ -39,8 +38,8 @@ stands_fresh k (suc (suc j)) e at =
     ((let g = number in omega arith), ap (λ (m : ℕ). get_elem? rs m) number ∙ t.1)
 
 -- a new ring keeps the rule
-pub ruled_new : (k : Shape) (ws : List ℕ) → ws ≡ replicate (words_of k) 0 → IsGraph k.upstreams → 0 < k.size → Ruled k (table_opening ws [] (all_ends k))
-ruled_new k ws is graph some_slot = ruled_fresh (exchange k) (fresh_ends k) (λ n. n) ws [] (sym is) tt (graph, some_slot) (stands_fresh k)
+pub ruled_new : (k : Shape) (ws : List ℕ) → ws ≡ replicate (words_of k) 0 → IsShape k → Ruled k (table_opening ws [] (all_ends k))
+ruled_new k ws is shape = ruled_fresh (exchange k) (fresh_ends k) (λ n. n) ws [] (sym is) tt shape (stands_fresh k)
 
 -- the next of the receivers
 fresh_next : (k : Shape) (h n : ℕ) → h < n → fresh_receivers k h (n - h) ≡ fresh_receiver k h ∷ fresh_receivers k (h + 1) (n - (h + 1))

@@ -12,12 +12,11 @@ mod sender;
 pub(crate) mod settling;
 
 ghost use Rattle.dr_seq.specs.declared.event.Event.{Event};
-ghost use Rattle.std.specs.Prelude.{List, ℕ, ◌≡◌, ◌<◌, slice_index};
-ghost use Rattle.dr_graph.specs.Meaning.Graph.{IsGraph};
+ghost use Rattle.std.specs.Prelude.{List, ℕ, ◌≡◌, slice_index};
 ghost use Rattle.dr_meaning.specs.Meaning.Transcript.{Transcript, LeadsTo};
 ghost use Rattle.dr_meaning.specs.Meaning.Laws.{Laws};
 ghost use Rattle.dr_meaning.specs.Meaning.Progress.{NobodyIsStuck};
-ghost use Rattle.dr_ring.specs.Meaning.Shape.{Shape, ring_setup};
+ghost use Rattle.dr_ring.specs.Meaning.Shape.{Shape, IsShape, ring_setup};
 ghost use Rattle.dr_runs.specs.OneSender.Words.{halt_word};
 ghost use Rattle.dr_ring.specs.Meaning.Records.{claimed};
 ghost use Rattle.dr_ring.specs.Meaning.Rule.{World, KeepsRule};
@@ -72,15 +71,15 @@ pub(crate) struct RingBody {
 /// last look of a claim without room finds was so already at its first. Once a ring is halted,
 /// nothing more is claimed. It does nothing when it runs: the contract is the theorem.
 pub fn moments()
-    ensures rule { (k : Shape) (steps : List Step) (entries : Transcript Event) (w : World) → IsGraph k.upstreams → 0 < k.size → Runs k steps entries (new_world k) w → KeepsRule k w }
-    ensures leads { (k : Shape) (steps : List Step) (entries : Transcript Event) (w : World) → IsGraph k.upstreams → 0 < k.size → Runs k steps entries (new_world k) w → LeadsTo (ring_setup k) entries (picture_of k w) }
-    ensures laws { (k : Shape) (steps : List Step) (entries : Transcript Event) (w : World) → IsGraph k.upstreams → 0 < k.size → Runs k steps entries (new_world k) w → Laws (ring_setup k) entries }
-    ensures progress { (k : Shape) (steps : List Step) (entries : Transcript Event) (w : World) → IsGraph k.upstreams → 0 < k.size → Runs k steps entries (new_world k) w → NobodyIsStuck (ring_setup k) (picture_of k w) }
-    ensures told { (k : Shape) (steps : List Step) (entries : Transcript Event) (w : World) → IsGraph k.upstreams → 0 < k.size → Runs k steps entries (new_world k) w → WereTold w entries }
-    ensures replies { (k : Shape) (steps : List Step) (entries : Transcript Event) (w : World) → IsGraph k.upstreams → 0 < k.size → Runs k steps entries (new_world k) w → RepliesAsAnswered k w }
-    ensures hands { (k : Shape) (steps more : List Step) (entries rest : Transcript Event) (w u : World) → IsGraph k.upstreams → 0 < k.size → Runs k steps entries (new_world k) w → Runs k more rest w u → HandsWhatWasThere k w u }
-    ensures rises { (k : Shape) (steps more : List Step) (entries rest : Transcript Event) (w u : World) → IsGraph k.upstreams → 0 < k.size → Runs k steps entries (new_world k) w → Runs k more rest w u → NothingFalls k w u }
-    ensures halted { (k : Shape) (steps more : List Step) (entries rest : Transcript Event) (w u : World) → IsGraph k.upstreams → 0 < k.size → Runs k steps entries (new_world k) w → Runs k more rest w u → slice_index w.words halt_word ≡ 1 → claimed u.sender ≡ claimed w.sender }
+    ensures rule { (k : Shape) (steps : List Step) (entries : Transcript Event) (w : World) → IsShape k → Runs k steps entries (new_world k) w → KeepsRule k w }
+    ensures leads { (k : Shape) (steps : List Step) (entries : Transcript Event) (w : World) → IsShape k → Runs k steps entries (new_world k) w → LeadsTo (ring_setup k) entries (picture_of k w) }
+    ensures laws { (k : Shape) (steps : List Step) (entries : Transcript Event) (w : World) → IsShape k → Runs k steps entries (new_world k) w → Laws (ring_setup k) entries }
+    ensures progress { (k : Shape) (steps : List Step) (entries : Transcript Event) (w : World) → IsShape k → Runs k steps entries (new_world k) w → NobodyIsStuck (ring_setup k) (picture_of k w) }
+    ensures told { (k : Shape) (steps : List Step) (entries : Transcript Event) (w : World) → IsShape k → Runs k steps entries (new_world k) w → WereTold w entries }
+    ensures replies { (k : Shape) (steps : List Step) (entries : Transcript Event) (w : World) → IsShape k → Runs k steps entries (new_world k) w → RepliesAsAnswered k w }
+    ensures hands { (k : Shape) (steps more : List Step) (entries rest : Transcript Event) (w u : World) → IsShape k → Runs k steps entries (new_world k) w → Runs k more rest w u → HandsWhatWasThere k w u }
+    ensures rises { (k : Shape) (steps more : List Step) (entries rest : Transcript Event) (w u : World) → IsShape k → Runs k steps entries (new_world k) w → Runs k more rest w u → NothingFalls k w u }
+    ensures halted { (k : Shape) (steps more : List Step) (entries rest : Transcript Event) (w u : World) → IsShape k → Runs k steps entries (new_world k) w → Runs k more rest w u → slice_index w.words halt_word ≡ 1 → claimed u.sender ≡ claimed w.sender }
 {
     every_transcript_is_lawful::<Event>();
     nobody_is_stuck::<Event>();

@@ -16,7 +16,7 @@ use Rattle.dr_plain.proofs.opening.stations.Goals as goal
 pub new-requires : goal.new-requires
 new-requires g c =
     ruled_new _ _ _ (c.as_slice.ensures.value ∙ c.in_ok-words.ensures.items_if_clones_equal (λ y same. same) ∙ ap (λ (n : ℕ). replicate n 0) c.words.ensures)
-    (c.in_ok-slots.ensures ∙ ap (λ (n : ℕ). replicate n no_token) c.slots.ensures) c.requires.graph (size_positive _ c.requires.size)
+    (c.in_ok-slots.ensures ∙ ap (λ (n : ℕ). replicate n no_token) c.slots.ensures) (record { graph = c.requires.graph; some_slot = size_positive _ c.requires.size })
 
 pub split_seat-second-requires : goal.split_seat-second-requires
 split_seat-second-requires g c =
