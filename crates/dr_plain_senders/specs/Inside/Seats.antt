@@ -181,8 +181,8 @@ module _ {T : Type 0} where
   given_by_completion k r n = stretch (placed k (lane_of r.number)) r.completed (lent_all (take (n - r.completed) (drop r.completed r.received)))
 
   -- What each kind of step tells: of the seat before and the word found or stored, the seat after.
-  abbrev pub SenderLooked : Tells T
-  SenderLooked s me n me' = let r : SenderRecord T = sender_of me.0 in (me' ≡ as_sender (sender_looked r s.word n) me.1) × FindsMore r.looks s.word n
+  abbrev pub SenderLookedAtCount : Tells T
+  SenderLookedAtCount s me n me' = let r : SenderRecord T = sender_of me.0 in (me' ≡ as_sender (sender_looked r s.word n) me.1) × FindsMore r.looks s.word n
 
   -- one look tells how many sequences are claimed, and what a sender has is among these
   abbrev pub SenderLookedAtClaims : Tells T

@@ -14,7 +14,7 @@ ghost use Rattle.dr_plain_senders.specs.Calls.Finds.{FindsMore, FindsOwn, IsEarl
 ghost use Rattle.dr_plain_senders.specs.Calls.Ends.{HasLoaded, HasStored};
 ghost use Rattle.dr_plain_senders.specs.Inside.Seats.{LayIn, LayAsLent, taken_by_claim, given_by_publication};
 
-use super::plays::{Claim, Look, LookAtMark, Publish, SeeClaims, SenderHalt};
+use super::plays::{Claim, LookAtFinal, LookAtMark, Publish, SeeClaims, SenderHalt};
 use super::{Names, RingSeat};
 use crate::body::RingBody;
 use crate::plan::{CLAIM_WORD, HALT_BIT, Plan, count_word};
@@ -73,7 +73,7 @@ impl<T> SenderStation<T> {
     {
         self.looks = self.looks.saturating_add(1);
         let words = &self.ring.table.shared;
-        words.load::<Look>(&mut self.seat, count_word(handler))
+        words.load::<LookAtFinal>(&mut self.seat, count_word(handler))
     }
 
     /// A sender claims `count` sequences from `found` on, for which it has seen that there is room,
