@@ -1,17 +1,15 @@
 -- What a halter tells of how far its ring came.
 use Rattle.std.specs.Prelude.{◌≡◌, ◌<◌, ◌≤◌, ◌⊎◌, ℕ, List}
 use Rattle.dr_seq.specs.declared.event.Event.{Event}
-use Rattle.dr_runs.specs.Looks.{last_look}
+use Rattle.dr_runs.specs.Looks.{last_look, FindsMore}
 use Rattle.dr_runs.specs.OneSender.Words.{cursor_word, count_word}
 use Rattle.dr_plain_senders.specs.Meaning.Shape as shape_of_several
 use Rattle.dr_plain_senders.specs.Meaning.Words as words_of_several
 use Rattle.dr_plain_senders.specs.Meaning.Records as records_of_several
 use Rattle.dr_plain_senders.specs.Calls.Ends as several
-use Rattle.dr_plain_senders.specs.Calls.Finds as finds_of_several
 use Rattle.dr_plain.specs.Meaning.Shape.{handlers_of}
 use Rattle.dr_plain.specs.Meaning.Records as records_of_bytes
 use Rattle.dr_plain.specs.Calls.Ends as plain
-use Rattle.dr_plain.specs.Calls.Finds.{FindsMore}
 use Rattle.dr_c.specs.declared.end.End.{End}
 use Rattle.dr_c.specs.declared.end.End.TheVariants.{HalterOfSeveral, HalterOfBytes}
 use Rattle.dr_c.specs.Numbers.{wrong_end, no_handler}
@@ -33,7 +31,7 @@ TellsCursorBy count count' number other end' = (end' ≡ other) × (number ≡ w
 abbrev pub TellsCompletedOfSeveral : ℕ → ℕ → ℕ → ℕ → several.HalterEnd Event → several.HalterEnd Event → Type 0
 TellsCompletedOfSeveral handler count count' number h h' = let word : ℕ = words_of_several.count_word handler in
     ((handler < shape_of_several.handlers_of h.plan) × (number ≡ 0) × several.HasLoaded h (records_of_several.halter_looked h.knows word count') h.hand h'
-    × finds_of_several.FindsMore h.knows.looks word count')
+    × FindsMore h.knows.looks word count')
     ⊎ ((shape_of_several.handlers_of h.plan ≤ handler) × (number ≡ no_handler) × (count' ≡ count) × (h' ≡ h))
 
 abbrev pub TellsCompletedOfBytes : ℕ → ℕ → ℕ → ℕ → plain.HalterEnd (List ℕ) → plain.HalterEnd (List ℕ) → Type 0

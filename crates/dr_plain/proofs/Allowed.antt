@@ -29,7 +29,8 @@ use Rattle.dr_plain.specs.Meaning.Records.{closed_looked, receiver_looked, taken
 use Rattle.dr_plain.specs.Meaning.Rule.{World, KeepsRule}
 use Rattle.dr_plain.specs.Meaning.Lying.{LiesBy, Lies}
 use Rattle.dr_plain.specs.Meaning.Steps.{Happens, next_of}
-use Rattle.dr_plain.specs.Calls.Finds.{FindsMore, FindsCompleted, FindsHalt, FindsEvents}
+use Rattle.dr_plain.specs.Calls.Finds.{FindsCompleted, FindsHalt, FindsEvents}
+use Rattle.dr_runs.specs.Looks.{FindsMore}
 use Rattle.dr_plain.specs.Inside.Seats.{End, Hand, Sitting, Tells, ring_ends, Loads, Stores, world_of, Ruled, as_sender, as_receiver, as_halter}
 use Rattle.dr_plain.specs.Inside.Seats.{sender_of, receiver_of, halter_of, IsSender, IsReceiver, IsHalter}
 use Rattle.dr_plain.specs.Inside.Seats.{lent_all, taken_by_claim, given_by_publication, taken_by_poll, given_by_completion, SenderLookedAtCount}

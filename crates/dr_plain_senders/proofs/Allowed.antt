@@ -17,7 +17,7 @@ use Rattle.atomic_table.proofs.Lists.{set_here, at_longer}
 use Rattle.dr_cells.specs.declared.token.Token.{Token}
 use Rattle.dr_graph.specs.Meaning.Graph.{finals}
 use Rattle.dr_runs.specs.Seats.{end_of, seat_at}
-use Rattle.dr_runs.specs.Looks.{last_look}
+use Rattle.dr_runs.specs.Looks.{last_look, FindsMore}
 use Rattle.dr_runs.proofs.Elements.{at_below}
 use Rattle.dr_runs.proofs.Looks.{last_look_le}
 use Rattle.dr_runs.proofs.Offers.{final_inside}
@@ -38,7 +38,7 @@ use Rattle.dr_plain_senders.specs.Meaning.Records.{fresh_stage}
 use Rattle.dr_plain_senders.specs.Meaning.Rule.{World, KeepsRule}
 use Rattle.dr_plain_senders.specs.Meaning.Lying.{Laid, Lies}
 use Rattle.dr_plain_senders.specs.Meaning.Steps.{Happens, sender_knows, sender_claims, halted_words}
-use Rattle.dr_plain_senders.specs.Calls.Finds.{FindsMore, FindsOwn, IsEarlier}
+use Rattle.dr_plain_senders.specs.Calls.Finds.{FindsOwn, IsEarlier}
 use Rattle.dr_plain_senders.specs.Inside.Seats.{End, Hand, Sitting, Tells, ring_ends, Loads, Stores, Ruled, as_sender, as_halter, sender_of}
 use Rattle.dr_plain_senders.specs.Inside.Seats.{halter_of, IsSender, IsHalter}
 use Rattle.dr_plain_senders.specs.Inside.Seats.{LayIn, LayAsLent, taken_by_claim, given_by_publication, SenderLookedAtCount, SenderLookedAtClaims}

@@ -13,6 +13,10 @@ abbrev pub last_look : ℕ → List Look → ℕ → ℕ
 last_look d [] word = d
 last_look d (x ∷ xs) word = last_look (if x.word == word then x.value else d) xs word
 
+-- a look finds no less than the last one at its word
+abbrev pub FindsMore : List Look → ℕ → ℕ → Type 0
+FindsMore looks word n = last_look 0 looks word ≤ n
+
 -- how many looks an end counts
 abbrev pub looks_counted : List Look → ℕ
 looks_counted looks = min (length looks) 18446744073709551615

@@ -28,7 +28,8 @@ use Rattle.dr_plain.specs.Meaning.Lying.{placed, Lies}
 use Rattle.dr_plain.specs.Meaning.Steps.{Happens}
 use Rattle.dr_plain.specs.Meaning.Stores.{is_store_of}
 use Rattle.dr_plain.specs.Meaning.Moments.{fresh_sender, fresh_receivers, fresh_halter, fresh_receiver, new_world, entries_of}
-use Rattle.dr_plain.specs.Calls.Finds.{FindsMore, FindsCompleted, FindsHalt, FindsClosed, FindsEvents}
+use Rattle.dr_plain.specs.Calls.Finds.{FindsCompleted, FindsHalt, FindsClosed, FindsEvents}
+use Rattle.dr_runs.specs.Looks.{FindsMore}
 
 -- what is known of a seat's ends, with the slots that it has in hand, and a seat: with it, the run as it was at each end's last step
 abbrev pub End : Type 0 → Type 0

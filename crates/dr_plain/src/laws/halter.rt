@@ -5,7 +5,7 @@ ghost use Rattle.dr_plain.specs.Meaning.Records.{halter_halted, halter_looked};
 ghost use Rattle.dr_plain.specs.Meaning.Shape.{handlers_of};
 ghost use Rattle.dr_plain.specs.Meaning.Words.{words_of};
 ghost use Rattle.dr_runs.specs.OneSender.Words.{cursor_word, count_word as count_word_of};
-ghost use Rattle.dr_plain.specs.Calls.Finds.{FindsMore};
+ghost use Rattle.dr_runs.specs.Looks.{FindsMore};
 ghost use Rattle.dr_plain.specs.declared.record.Step.TheVariants.{HalterHalts};
 ghost use Rattle.std.specs.Arc.{arc_value};
 ghost use Rattle.std.specs.Prelude.{◌≡◌, ◌<◌, ◌≤◌};

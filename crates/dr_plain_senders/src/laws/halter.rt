@@ -4,11 +4,10 @@
 ghost use Rattle.std.specs.Arc.{arc_value};
 ghost use Rattle.std.specs.Prelude.{◌≡◌, ◌<◌, ◌≤◌, ℕ};
 ghost use Rattle.dr_runs.specs.Seats.{end_of};
-ghost use Rattle.dr_runs.specs.Looks.{last_look};
+ghost use Rattle.dr_runs.specs.Looks.{last_look, FindsMore};
 ghost use Rattle.dr_plain_senders.specs.Meaning.Shape.{handlers_of};
 ghost use Rattle.dr_plain_senders.specs.Meaning.Words.{claim_word, claimed_in as claimed_in_word, count_word as count_word_of, mark_start};
 ghost use Rattle.dr_plain_senders.specs.Meaning.Records.{halter_halted, halter_looked};
-ghost use Rattle.dr_plain_senders.specs.Calls.Finds.{FindsMore};
 ghost use Rattle.dr_plain_senders.specs.declared.record.Step.TheVariants.{HalterHalts};
 ghost use Rattle.dr_plain_senders.specs.Calls.Ends.{HasLoaded, HasStored};
 ghost use Rattle.dr_plain_senders.specs.Inside.Leaving.{BelongsHalter};

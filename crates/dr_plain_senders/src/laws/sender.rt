@@ -10,7 +10,8 @@ ghost use Rattle.dr_plain_senders.specs.Meaning.Words.{claim_word, halted_from, 
 ghost use Rattle.dr_plain_senders.specs.Meaning.Records.{events_of, Owns, has_published, sender_looked, mark_found, SeesRoom};
 ghost use Rattle.dr_plain_senders.specs.Meaning.Lying.{Laid};
 ghost use Rattle.dr_plain_senders.specs.declared.record.Step.TheVariants.{SenderClaims, SenderPublishes, SenderHalts};
-ghost use Rattle.dr_plain_senders.specs.Calls.Finds.{FindsMore, FindsOwn, IsEarlier, exchanged, after_exchange};
+ghost use Rattle.dr_plain_senders.specs.Calls.Finds.{FindsOwn, IsEarlier, exchanged, after_exchange};
+ghost use Rattle.dr_runs.specs.Looks.{FindsMore};
 ghost use Rattle.dr_plain_senders.specs.Calls.Ends.{HasLoaded, HasStored};
 ghost use Rattle.dr_plain_senders.specs.Inside.Seats.{LayIn, LayAsLent, taken_by_claim, given_by_publication};
 
