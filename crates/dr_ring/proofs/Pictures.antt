@@ -32,8 +32,8 @@ use Rattle.dr_ring.specs.declared.record.Step.TheVariants.{SenderLooksAtCount, S
 use Rattle.dr_ring.specs.declared.record.Step.TheVariants.{SenderHalts, SenderCloses, ReceiverLooksAtClosed, ReceiverLooksAtCursor, ReceiverLooksAtCount}
 use Rattle.dr_ring.specs.declared.record.Step.TheVariants.{ReceiverLoadsFirst, ReceiverLoadsSecond, ReceiverCompletes, HalterHalts}
 use Rattle.dr_ring.specs.Meaning.Steps.{Happens, sender_knows, sender_stores, receiver_knows, receiver_stores}
-use Rattle.dr_ring.specs.Meaning.Moments.{fresh_receiver, taken_of, picture_of, write_of, receiver_at, entries_of, Runs}
-use Rattle.dr_runs.specs.Entries.{entry, told_drained, poll_of}
+use Rattle.dr_ring.specs.Meaning.Moments.{fresh_receiver, taken_of, picture_of, write_of, poll_of_event, receiver_at, entries_of, Runs}
+use Rattle.dr_runs.specs.Entries.{entry, told_drained}
 use Rattle.dr_runs.proofs.Elements.{at_below, value_at}
 use Rattle.dr_runs.proofs.Completions as completions
 use Rattle.dr_runs.proofs.Completions.{machine_room, ahead_of_all, count_at, counts_stay, count_set, upstream_inside}
@@ -258,7 +258,7 @@ lead_cursor_look k w h r rest end at K leads =
 -- what the load of an event's second word tells the handler h
 abbrev taken_by : Shape → World → ℕ → ReceiverRecord → Transcript Event
 taken_by k w h r =
-    poll_of h r.half (word_at w.words (payload_word k (length r.received) 1)) (length r.received) (available (ring_setup k) (picture_of k w) h)
+    poll_of_event h r.half (word_at w.words (payload_word k (length r.received) 1)) (length r.received) (available (ring_setup k) (picture_of k w) h)
 
 lead_take : (k : Shape) (w : World) (h first : ℕ) (r : ReceiverRecord) (rest : Transcript Event) (end : State Event) → get_elem? w.receivers h ≡ some r
     → r.half ≡ Some first → IsBelowBarrier k h r → KeepsRule k w
@@ -293,7 +293,7 @@ lead_take k w h first r rest end at half low K leads =
       state = record m { taken = set ts h (j + 1) };
     } in
     let exact : machine.step (ring_setup k) m (Poll h 1) ≡ outcome n = step ∙ ap outcome is in
-    subst (λ (o : Option ℕ). Leads k (poll_of h o (word_at w.words (payload_word k n 1)) n (available (ring_setup k) m h) ++ rest) m end) (sym half)
+    subst (λ (o : Option ℕ). Leads k (poll_of_event h o (word_at w.words (payload_word k n 1)) n (available (ring_setup k) m h) ++ rest) m end) (sym half)
     (leads_one (ring_setup k) (Poll h 1) (Batch n 1 (n + 1 == available (ring_setup k) m h)) (found ∷ []) rest m _ end exact going_on)
 
 lead_complete : (k : Shape) (w : World) (h n : ℕ) (r : ReceiverRecord) (rest : Transcript Event) (end : State Event) → get_elem? w.receivers h ≡ some r

@@ -15,5 +15,6 @@ pub mod Completions
 pub mod Replies
 pub mod Scans
 pub mod Answering
+pub mod Entries
 pub mod Told
 pub mod LastLooks

@@ -4,8 +4,8 @@ use Rattle.std.specs.Prelude.{slice_index, slice_index_or, Some, None, true, Con
 use mathlib.Core.Option.{some}
 use lib.ListN.{get_elem?}
 use Rattle.std.specs.List.{range_with_len}
-use Rattle.dr_meaning.specs.declared.command.Command.TheVariants.{Claim, Write, Publish, Poll, Complete, Halt}
-use Rattle.dr_meaning.specs.declared.command.Reply.TheVariants.{Claimed, Written, Published, Batch, Completed, Halting}
+use Rattle.dr_meaning.specs.declared.command.Command.TheVariants.{Claim, Write, Publish, Complete, Halt}
+use Rattle.dr_meaning.specs.declared.command.Reply.TheVariants.{Claimed, Written, Published, Completed, Halting}
 use Rattle.dr_meaning.specs.Meaning.Machine as machine
 use Rattle.dr_meaning.specs.Meaning.Machine.{State, available}
 use Rattle.dr_meaning.specs.Meaning.Transcript.{Transcript}
@@ -23,7 +23,7 @@ use Rattle.dr_plain.specs.declared.record.Step.TheVariants.{SenderLooksAtCount, 
 use Rattle.dr_plain.specs.declared.record.Step.TheVariants.{ReceiverLooksAtClosed, ReceiverLooksAtCursor, ReceiverLooksAtCount, ReceiverCompletes}
 use Rattle.dr_plain.specs.declared.record.Step.TheVariants.{HalterHalts, HalterLooks}
 use Rattle.dr_plain.specs.Meaning.Steps.{Happens, next_of}
-use Rattle.dr_runs.specs.Entries.{entry, told_drained}
+use Rattle.dr_runs.specs.Entries.{entry, told_drained, poll_of}
 
 module _ {T : Type 0} where
   -- the ends of a new ring
@@ -64,12 +64,6 @@ module _ {T : Type 0} where
   abbrev pub writes_of : ℕ → List T → Transcript T
   writes_of s [] = []
   writes_of s (event ∷ events) = entry (Write 0 s event) Written [] ++ writes_of (s + 1) events
-
-  -- the poll that hands out these events, where some are handed out
-  abbrev pub poll_of : ℕ → ℕ → List T → ℕ → Transcript T
-  poll_of h taken [] available = []
-  poll_of h taken (event ∷ events) available =
-      entry (Poll h (length (event ∷ events))) (Batch taken (length (event ∷ events)) (taken + length (event ∷ events) == available)) (event ∷ events)
 
   abbrev pub receiver_at : Shape → World T → ℕ → ReceiverRecord T
   receiver_at k w h = slice_index_or w.receivers h (fresh_receiver k h)

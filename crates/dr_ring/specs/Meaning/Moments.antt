@@ -5,8 +5,8 @@ use mathlib.Core.Option.{some}
 use lib.ListN.{get_elem?}
 use Rattle.std.specs.List.{range_with_len}
 use Rattle.dr_seq.specs.declared.event.Event.{Event}
-use Rattle.dr_meaning.specs.declared.command.Command.TheVariants.{Claim, Write, Publish, Complete, Halt}
-use Rattle.dr_meaning.specs.declared.command.Reply.TheVariants.{Claimed, Written, Published, Completed, Halting}
+use Rattle.dr_meaning.specs.declared.command.Command.TheVariants.{Claim, Write, Publish, Poll, Complete, Halt}
+use Rattle.dr_meaning.specs.declared.command.Reply.TheVariants.{Claimed, Written, Published, Batch, Completed, Halting}
 use Rattle.dr_meaning.specs.Meaning.Machine as machine
 use Rattle.dr_meaning.specs.Meaning.Machine.{State, available}
 use Rattle.dr_meaning.specs.Meaning.Transcript.{Transcript}
@@ -26,7 +26,7 @@ use Rattle.dr_ring.specs.declared.record.Step.TheVariants.{SenderPublishes, Send
 use Rattle.dr_ring.specs.declared.record.Step.TheVariants.{ReceiverLooksAtCount, ReceiverLoadsFirst, ReceiverLoadsSecond, ReceiverCompletes}
 use Rattle.dr_ring.specs.declared.record.Step.TheVariants.{HalterHalts}
 use Rattle.dr_ring.specs.Meaning.Steps.{Happens}
-use Rattle.dr_runs.specs.Entries.{entry, told_drained, poll_of}
+use Rattle.dr_runs.specs.Entries.{entry, told_drained}
 
 -- the ends of a new ring
 abbrev pub fresh_sender : Shape → SenderRecord
@@ -66,6 +66,12 @@ abbrev pub write_of : Option HalfWrite → ℕ → Transcript Event
 write_of None second = []
 write_of (Some x) second = entry (Write 0 x.sequence record { first = x.first; second = second }) Written []
 
+-- the poll that an event comes to of which the first word was loaded before
+abbrev pub poll_of_event : ℕ → Option ℕ → ℕ → ℕ → ℕ → Transcript Event
+poll_of_event h None second taken available = []
+poll_of_event h (Some first) second taken available =
+    entry (Poll h 1) (Batch taken 1 (taken + 1 == available)) (record { first = first; second = second } ∷ [])
+
 abbrev pub receiver_at : Shape → World → ℕ → ReceiverRecord
 receiver_at k w h = slice_index_or w.receivers h (fresh_receiver k h)
 
@@ -86,7 +92,7 @@ entries_of k (ReceiverLooksAtCount h u) w = []
 entries_of k (ReceiverLoadsFirst h) w = []
 entries_of k (ReceiverLoadsSecond h) w =
     let r : ReceiverRecord = receiver_at k w h in
-    poll_of h r.half (slice_index w.words (payload_word k (length r.received) 1)) (length r.received) (available (ring_setup k) (picture_of k w) h)
+    poll_of_event h r.half (slice_index w.words (payload_word k (length r.received) 1)) (length r.received) (available (ring_setup k) (picture_of k w) h)
 entries_of k (ReceiverCompletes h n) w = entry (Complete h n) Completed []
 entries_of k HalterHalts w = entry Halt Halting []
 
