@@ -20,7 +20,7 @@ use Rattle.dr_plain_senders.specs.declared.record.SenderRecord.{SenderRecord}
 use Rattle.dr_plain_senders.specs.declared.record.ReceiverRecord.{ReceiverRecord}
 use Rattle.dr_plain_senders.specs.declared.settled.Settled.{Settled}
 use Rattle.dr_plain_senders.specs.Meaning.Moments.{Runs, fresh_receiver, fresh_receivers, fresh_sender, fresh_senders, new_world}
-use Rattle.dr_plain_senders.specs.Meaning.Records as records
+use Rattle.dr_lent.specs.Events.{events_of}
 use Rattle.dr_plain_senders.specs.Meaning.Records.{is_published}
 use Rattle.dr_plain_senders.specs.Meaning.Rule.{IsOutWith, KeepsRule, World}
 use Rattle.dr_plain_senders.specs.Meaning.Settling.{Settles, published_events}
@@ -193,9 +193,9 @@ module _ {E A B F : Type 0} (goes : Relation E A) (room : ℕ) (k : Shape E) (bl
       out_is w.stages s u l.0 at ((K.received 0 first.0.outlet.knows (at_world 0 first.0.outlet at_first)).beginning s l.0 l.1)
 
   -- all that is published, in order
-  pub in_order : records.events_of (published_events w) ≡ events
+  pub in_order : events_of (published_events w) ≡ events
   in_order =
-      ap (λ (ts : List (Stage E)). records.events_of (filter_map (λ t. t.lent) ts)) (taken_whole blank w.stages all_out) ∙ all_lent blank w.stages all_out
+      ap (λ (ts : List (Stage E)). events_of (filter_map (λ t. t.lent) ts)) (taken_whole blank w.stages all_out) ∙ all_lent blank w.stages all_out
 
   saw_within : (h : ℕ) (e : ReceiverEnd E) → get_elem? outlets h ≡ some e → (n : ℕ) → SawSome e n → n ≤ length events
   saw_within h e at n saw =
@@ -211,7 +211,7 @@ module _ {E A B F : Type 0} (goes : Relation E A) (room : ℕ) (k : Shape E) (bl
       (λ h e at. ap (λ (x : ReceiverEnd E). (received_by x).events) (new_ends h e at))
       (λ h e at.
       let d = drained h e at in (
-        ap (λ (ls : List (Lent E)). records.events_of ls) d.events_are ∙ in_order,
+        ap (λ (ls : List (Lent E)). events_of ls) d.events_are ∙ in_order,
         saw_within h e at,
       ))))
 

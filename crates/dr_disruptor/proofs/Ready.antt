@@ -15,7 +15,8 @@ use Rattle.dr_runs.proofs.Lists.{map_there}
 use Rattle.dr_plain.specs.declared.record.SenderRecord.{SenderRecord}
 use Rattle.dr_plain.specs.declared.settled.Settled.{Settled}
 use Rattle.dr_plain.specs.Meaning.Moments.{fresh_receivers}
-use Rattle.dr_plain.specs.Meaning.Records.{claimed, events_of}
+use Rattle.dr_plain.specs.Meaning.Records.{claimed}
+use Rattle.dr_lent.specs.Events.{events_of}
 use Rattle.dr_plain.specs.Meaning.Settling.{FoundUnhalted, Settles}
 use Rattle.dr_plain.specs.Meaning.Shape.{Shape, handlers_of}
 use Rattle.dr_plain.specs.Calls.Ends.{HalterEnd, ReceiverEnd, ReceiverPlace, SenderEnd, SenderPlace, receiver_place, received_of, sender_place}

@@ -12,7 +12,8 @@ use Rattle.dr_workers.specs.Meaning.Merge.{IsMerge}
 use Rattle.dr_plain_senders.specs.declared.record.Step.TheVariants.{HalterHalts}
 use Rattle.dr_plain_senders.specs.declared.settled.Settled.{Settled}
 use Rattle.dr_plain_senders.specs.Meaning.Moments.{fresh_receivers, fresh_sender}
-use Rattle.dr_plain_senders.specs.Meaning.Records.{events_of, halter_halted}
+use Rattle.dr_plain_senders.specs.Meaning.Records.{halter_halted}
+use Rattle.dr_lent.specs.Events.{events_of}
 use Rattle.dr_plain_senders.specs.Meaning.Rule.{World}
 use Rattle.dr_plain_senders.specs.Meaning.Settling.{published_events}
 use Rattle.dr_plain_senders.specs.Meaning.Shape.{Shape, handlers_of}

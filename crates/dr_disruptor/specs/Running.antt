@@ -13,7 +13,8 @@ use Rattle.dr_plain.specs.Calls.Making.{receiver_at_ring}
 use Rattle.dr_plain.specs.Calls.Sending.{CloseCall}
 use Rattle.dr_plain.specs.Calls.Settling.{HasRun, handler_counts}
 use Rattle.dr_plain.specs.Meaning.Moments.{fresh_receivers, fresh_sender}
-use Rattle.dr_plain.specs.Meaning.Records.{claimed, events_of}
+use Rattle.dr_plain.specs.Meaning.Records.{claimed}
+use Rattle.dr_lent.specs.Events.{events_of}
 use Rattle.dr_plain.specs.Meaning.Settling.{FoundUnhalted, Settles}
 use Rattle.dr_plain.specs.Meaning.Shape.{Shape, handlers_of}
 use Rattle.dr_disruptor.specs.declared.fault.RunFault.{RunFault}

@@ -9,7 +9,7 @@ ghost use Rattle.dr_plain.specs.Calls.Ends.{ReceiverEnd, SenderEnd, received_of,
 ghost use Rattle.dr_plain.specs.Calls.Making.{AreFreshEnds};
 ghost use Rattle.dr_plain.specs.Calls.Sending.{CloseCall};
 ghost use Rattle.dr_plain.specs.Calls.Settling.{AreAllEnds};
-ghost use Rattle.dr_plain.specs.Meaning.Records.{events_of};
+ghost use Rattle.dr_lent.specs.Events.{events_of};
 ghost use Rattle.dr_disruptor.specs.Handlers.{AllWentThrough};
 ghost use Rattle.dr_disruptor.specs.Serving.{AreInBatches, IsIdle, given_end, given_handler};
 ghost use Rattle.dr_disruptor.specs.Running.{AreServedBack, AreSettled, IsRanBy, refusal_of, shape_of};

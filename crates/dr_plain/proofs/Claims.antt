@@ -22,7 +22,8 @@ use Rattle.dr_runs.specs.declared.look.Look.{Look}
 use Rattle.dr_plain.specs.declared.record.SenderRecord.{SenderRecord}
 use Rattle.dr_runs.specs.declared.written.Written.{Written}
 use Rattle.dr_plain.specs.Meaning.Lying.{placed}
-use Rattle.dr_plain.specs.Meaning.Records.{events_of, claimed, laid, halt_looked}
+use Rattle.dr_plain.specs.Meaning.Records.{claimed, laid, halt_looked}
+use Rattle.dr_lent.specs.Events.{events_of}
 use Rattle.dr_runs.specs.Looks.{look, last_look}
 use Rattle.dr_runs.specs.OneSender.Looks.{count_looks}
 use Rattle.dr_plain.specs.Calls.Ends.{SenderStand, SenderEnd, sent_of}

@@ -18,7 +18,7 @@ use Rattle.dr_runs.specs.OneSender.Words.{closed_word, count_word, cursor_word}
 use Rattle.dr_runs.proofs.LastLooks.{found_behind, found_counts}
 use Rattle.dr_runs.proofs.Lists.{at_behind}
 use Rattle.dr_plain.specs.declared.record.ReceiverRecord.{ReceiverRecord}
-use Rattle.dr_plain.specs.Meaning.Records.{events_of}
+use Rattle.dr_lent.specs.Events.{events_of}
 use Rattle.dr_plain.specs.Calls.Ends.{ReceiverEnd, received_of}
 use Rattle.dr_plain.specs.Calls.Receiving.{PollCall}
 use Rattle.dr_meaning.specs.Calls.InPlaceOutlets.{SawMore, TakesNext, TakesUpTo}

@@ -20,7 +20,8 @@ use Rattle.dr_plain.specs.Meaning.Words.{words_of}
 use Rattle.dr_runs.specs.OneSender.Words.{cursor_word, closed_word, halt_word, count_word}
 use Rattle.dr_runs.specs.declared.look.Look.{Look}
 use Rattle.dr_plain.specs.declared.record.ReceiverRecord.{ReceiverRecord}
-use Rattle.dr_plain.specs.Meaning.Records.{events_of, claimed, barrier_seen, halt_looked, published_more, closed_looked, receiver_looked}
+use Rattle.dr_plain.specs.Meaning.Records.{claimed, barrier_seen, halt_looked, published_more, closed_looked, receiver_looked}
+use Rattle.dr_lent.specs.Events.{events_of}
 use Rattle.dr_runs.specs.Looks.{look}
 use Rattle.dr_plain.specs.Meaning.Records.{taken_at, tells_drained, cursor_looked, completed_to, SeesRoom}
 use Rattle.dr_plain.specs.Meaning.Rule.{World, KeepsRule, ArePast}

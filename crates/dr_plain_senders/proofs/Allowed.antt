@@ -33,7 +33,8 @@ use Rattle.dr_plain_senders.specs.declared.record.Step.{Step}
 use Rattle.dr_plain_senders.specs.declared.record.Step.TheVariants.{SenderLooksAtClaims, SenderLooksAtCount, SenderClaims, SenderPublishes}
 use Rattle.dr_plain_senders.specs.declared.record.Step.TheVariants.{SenderLooksAtMark, SenderHalts}
 use Rattle.dr_plain_senders.specs.declared.record.Step.TheVariants.{HalterHalts, HalterLooks}
-use Rattle.dr_plain_senders.specs.Meaning.Records.{events_of, Owns, has_published, sender_looked, mark_found, claimed_from, halter_halted, halter_looked, SeesRoom}
+use Rattle.dr_plain_senders.specs.Meaning.Records.{Owns, has_published, sender_looked, mark_found, claimed_from, halter_halted, halter_looked, SeesRoom}
+use Rattle.dr_lent.specs.Events.{events_of}
 use Rattle.dr_plain_senders.specs.Meaning.Records.{fresh_stage}
 use Rattle.dr_plain_senders.specs.Meaning.Rule.{World, KeepsRule}
 use Rattle.dr_plain_senders.specs.Meaning.Lying.{Laid, Lies}

@@ -18,7 +18,8 @@ use Rattle.dr_plain_senders.specs.Meaning.Words.{mark_word, mark_bit, in_word, f
 use Rattle.dr_plain_senders.specs.declared.record.Stage.{Stage}
 use Rattle.dr_plain_senders.specs.declared.record.Own.{Own}
 use Rattle.dr_plain_senders.specs.declared.record.SenderRecord.{SenderRecord}
-use Rattle.dr_plain_senders.specs.Meaning.Records.{Owns, events_of, published, own_after, brought, has_published}
+use Rattle.dr_plain_senders.specs.Meaning.Records.{Owns, published, own_after, brought, has_published}
+use Rattle.dr_lent.specs.Events.{events_of}
 use Rattle.dr_plain_senders.specs.Meaning.Rule.{World, KeepsRule}
 use Rattle.dr_plain_senders.specs.Meaning.Lying.{lent, Lies}
 use Rattle.dr_plain_senders.specs.Meaning.Steps.{PublishesAll, sender_publishes}

@@ -2,7 +2,7 @@
 
 ghost use Rattle.std.specs.Prelude.{◌≡◌, ◌+◌, ◌<◌, ◌≤◌, ◌^◌, ◌||◌, take, drop, length, Some};
 ghost use Rattle.dr_meaning.specs.Calls.Ends.{IsEndsAnswer, PollAnswers, CompleteAnswers, is_drained, Takes, Completes};
-ghost use Rattle.dr_plain_senders.specs.Meaning.Records.{events_of};
+ghost use Rattle.dr_lent.specs.Events.{events_of};
 ghost use Rattle.dr_plain_senders.specs.Calls.Ends.{receiver_place, received_of};
 ghost use Rattle.dr_plain_senders.specs.Calls.Receiving.{CompleteCall};
 ghost use Rattle.dr_plain_senders.specs.Calls.Outlets.{PollIntoCall, receiver_does};

@@ -5,7 +5,7 @@ use Rattle.dr_cells.specs.declared.token.Token.{Token}
 use Rattle.dr_meaning.specs.Calls.Ends.{Sent, Received}
 use Rattle.dr_runs.specs.Runs.{IsBeginning}
 use Rattle.dr_plain.specs.Meaning.Shape.{Shape}
-use Rattle.dr_plain.specs.Meaning.Records.{events_of}
+use Rattle.dr_lent.specs.Events.{events_of}
 use Rattle.dr_plain.specs.declared.record.Step.{Step}
 use Rattle.dr_plain.specs.declared.record.SenderRecord.{SenderRecord}
 use Rattle.dr_plain.specs.declared.record.ReceiverRecord.{ReceiverRecord}

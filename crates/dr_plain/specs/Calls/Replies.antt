@@ -22,7 +22,8 @@ use Rattle.dr_runs.specs.declared.look.Look.{Look}
 use Rattle.dr_runs.specs.Looks.{last_look}
 use Rattle.dr_plain.specs.declared.record.SenderRecord.{SenderRecord}
 use Rattle.dr_plain.specs.declared.record.ReceiverRecord.{ReceiverRecord}
-use Rattle.dr_plain.specs.Meaning.Records.{events_of, claimed, SeesRoom}
+use Rattle.dr_plain.specs.Meaning.Records.{claimed, SeesRoom}
+use Rattle.dr_lent.specs.Events.{events_of}
 use Rattle.dr_plain.specs.Meaning.Rule.{World}
 use Rattle.dr_plain.specs.Meaning.Moments.{picture_of}
 use Rattle.dr_plain.specs.Calls.Sending.{LooksToClaim, tests_of_claim}

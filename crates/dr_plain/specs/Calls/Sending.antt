@@ -16,7 +16,8 @@ use Rattle.dr_plain.specs.declared.record.Step.TheVariants.{SenderPublishes, Sen
 use Rattle.dr_runs.specs.Runs.{IsBeginning, StoresWhereOk}
 use Rattle.dr_runs.specs.OneSender.Replies.{claim_tests_of}
 use Rattle.dr_plain.specs.Calls.Ends.{SenderEnd, sender_place, sent_of}
-use Rattle.dr_plain.specs.Meaning.Records.{claimed, events_of, sender_halted, sender_closed, SeesRoom}
+use Rattle.dr_plain.specs.Meaning.Records.{claimed, sender_halted, sender_closed, SeesRoom}
+use Rattle.dr_lent.specs.Events.{events_of}
 use Rattle.dr_runs.specs.Looks.{look}
 use Rattle.dr_runs.specs.OneSender.Looks.{count_looks}
 

@@ -13,7 +13,8 @@ use Rattle.dr_plain.specs.declared.record.Step.TheVariants.{ReceiverLooksAtClose
 use Rattle.dr_plain.specs.declared.record.Step.TheVariants.{HalterHalts, HalterLooks}
 use Rattle.dr_plain.specs.declared.record.SenderRecord.{SenderRecord}
 use Rattle.dr_plain.specs.declared.record.ReceiverRecord.{ReceiverRecord}
-use Rattle.dr_plain.specs.Meaning.Records.{events_of, sender_looked, halt_looked, published_more, sender_halted, sender_closed, closed_looked}
+use Rattle.dr_plain.specs.Meaning.Records.{sender_looked, halt_looked, published_more, sender_halted, sender_closed, closed_looked}
+use Rattle.dr_lent.specs.Events.{events_of}
 use Rattle.dr_plain.specs.Meaning.Records.{receiver_looked, taken_at, cursor_looked, completed_to, halter_halted, halter_looked, SeesRoom}
 use Rattle.dr_plain.specs.Meaning.Rule.{World}
 

@@ -1,7 +1,7 @@
 //! What each kind of step tells. These types are for the proofs alone.
 
 ghost use Rattle.dr_plain.specs.Inside.Seats.{Loads, Stores, SenderLookedAtCount, SenderLookedAtHalt, SenderPublished, SenderHalted, SenderClosed, ReceiverLookedAtClosed, ReceiverLookedAtCursor, ReceiverLookedAtCount, ReceiverCompleted, HalterHalted, HalterLooked, receiver_of};
-ghost use Rattle.dr_plain.specs.Meaning.Records.{events_of};
+ghost use Rattle.dr_lent.specs.Events.{events_of};
 ghost use Rattle.dr_plain.specs.declared.record.Step.TheVariants.{SenderPublishes, SenderHalts, SenderCloses, ReceiverCompletes, HalterHalts};
 
 use crate::record::View;

@@ -16,7 +16,7 @@ use Rattle.dr_plain_senders.specs.Meaning.Shape.{Shape}
 use Rattle.dr_plain_senders.specs.Meaning.Words.{claim_word, claimed_in, is_halted, in_word, marked_from}
 use Rattle.dr_plain_senders.specs.declared.record.ReceiverRecord.{ReceiverRecord}
 use Rattle.dr_plain_senders.specs.declared.record.Step.TheVariants.{ReceiverCompletes}
-use Rattle.dr_plain_senders.specs.Meaning.Records.{events_of}
+use Rattle.dr_lent.specs.Events.{events_of}
 use Rattle.dr_plain_senders.specs.Calls.Ends.{ReceiverEnd, received_of, receiver_place, count_looks, mark_looks}
 
 -- a walk over the words of marks from that of the sequence s on: all marks of its sequences

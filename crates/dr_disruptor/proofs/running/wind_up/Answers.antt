@@ -3,7 +3,7 @@ use lib.ListN.{get_elem?}
 use Rattle.dr_plain.specs.Calls.Ends.{ReceiverEnd, receiver_place}
 use Rattle.dr_plain.specs.Calls.InPlace.{SawSome, does_in_place}
 use Rattle.dr_plain.specs.Calls.Settling.{AreAllEnds}
-use Rattle.dr_plain.specs.Meaning.Records.{events_of}
+use Rattle.dr_lent.specs.Events.{events_of}
 use Rattle.dr_plain.specs.Meaning.Settling.{Settles}
 use Rattle.dr_disruptor.specs.Handlers.{AllWentThrough}
 use Rattle.dr_disruptor.specs.Serving.{given_end, given_handler}

@@ -8,7 +8,7 @@ use Rattle.dr_plain.specs.declared.record.SenderRecord.{SenderRecord}
 use Rattle.dr_plain.specs.declared.settled.Settled.{Settled}
 use Rattle.dr_plain.specs.Calls.Ends.{ReceiverEnd, SenderEnd, SenderPlace}
 use Rattle.dr_plain.specs.Calls.Settling.{handler_counts}
-use Rattle.dr_plain.specs.Meaning.Records.{events_of}
+use Rattle.dr_lent.specs.Events.{events_of}
 use Rattle.dr_plain.specs.Meaning.Shape.{Shape, ring_setup}
 use Rattle.dr_disruptor.specs.Running.{AreSettled}
 use Rattle.dr_disruptor.proofs.laws.runs.what_a_settled_run_says.Goals as goal

@@ -10,7 +10,7 @@ use Rattle.dr_plain_senders.specs.Calls.InPlace.{SawSome, does_in_place}
 use Rattle.dr_plain_senders.specs.Calls.Making.{receiver_at_ring}
 use Rattle.dr_plain_senders.specs.Calls.Settling.{handler_counts}
 use Rattle.dr_plain_senders.specs.Meaning.Moments.{fresh_receiver}
-use Rattle.dr_plain_senders.specs.Meaning.Records.{events_of}
+use Rattle.dr_lent.specs.Events.{events_of}
 use Rattle.dr_plain_senders.specs.Meaning.Settling.{published_events}
 use Rattle.dr_plain_senders.specs.Meaning.Shape.{Shape, ring_setup}
 use Rattle.dr_disruptor.specs.Merging.{AreSettled, new_receivers}

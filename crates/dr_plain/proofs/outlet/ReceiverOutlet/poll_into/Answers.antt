@@ -2,7 +2,7 @@ use Rattle.std.proofs.Common.{◌≤◌, List, take, drop, length, arith, sym, a
 use Rattle.std.proofs.lemmas.List.{length-append, length-map}
 use Rattle.dr_lent.specs.declared.lent.Lent.{Lent}
 use Rattle.dr_lent.proofs.Copying.{copied_all}
-use Rattle.dr_plain.specs.Meaning.Records.{events_of}
+use Rattle.dr_lent.specs.Events.{events_of}
 use Rattle.dr_plain.specs.Calls.Ends.{ReceiverEnd}
 use Rattle.dr_plain.proofs.Copying.{takes_batch}
 use Rattle.dr_plain.proofs.outlet.ReceiverOutlet.poll_into.Goals as goal

@@ -2,7 +2,7 @@ use Rattle.std.proofs.Common.{◌≡◌, ℕ, ◌+◌, ◌-◌, ◌≤◌, ◌<�
 use Rattle.dr_seq.proofs.Sizes.{size_at_most}
 use Rattle.dr_runs.specs.Runs.{IsBeginning}
 use Rattle.dr_lent.specs.Rows.{cells_of}
-use Rattle.dr_plain.specs.Meaning.Records.{events_of}
+use Rattle.dr_lent.specs.Events.{events_of}
 use Rattle.dr_plain.specs.declared.record.Step.{Step}
 use Rattle.dr_plain.specs.declared.record.Step.TheVariants.{SenderPublishes}
 use Rattle.dr_plain.specs.Calls.Ends.{SenderEnd, SenderStand}
