@@ -12,7 +12,8 @@ use Rattle.dr_plain.specs.Meaning.Records.{claimed}
 use Rattle.dr_plain.specs.Meaning.Rule.{World, KeepsRule}
 use Rattle.dr_plain.specs.Meaning.Steps.{Happens}
 use Rattle.dr_plain.specs.Meaning.Moments.{Runs}
-use Rattle.dr_plain.proofs.Keeps.{word_at, claims_none}
+use Rattle.dr_plain.proofs.Keeps.{claims_none}
+use Rattle.dr_runs.proofs.Elements.{word_at}
 use Rattle.dr_plain.proofs.Beginning.{keeps_step}
 
 module _ {T : Type 0} where

@@ -30,8 +30,7 @@ use Rattle.dr_plain.specs.Calls.Receiving.{AnswersAsSeen}
 use Rattle.dr_runs.specs.Polls.{handed}
 use Rattle.dr_runs.specs.OneSender.Polls.{PollLooks, offer}
 use Rattle.dr_plain.specs.Calls.Handing.{HandsWhatWasThere, LooksAt, OffersWhatWasThere}
-use Rattle.dr_runs.proofs.Elements.{at_below}
-use Rattle.dr_plain.proofs.Keeps.{word_at}
+use Rattle.dr_runs.proofs.Elements.{at_below, word_at}
 use Rattle.dr_plain.proofs.Beginning.{keeps_step}
 use Rattle.dr_runs.proofs.Completions.{count_at, upstream_inside}
 use Rattle.dr_plain.proofs.Pictures.{inside_of}

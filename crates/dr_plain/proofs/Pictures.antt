@@ -32,12 +32,12 @@ use Rattle.dr_plain.specs.Meaning.Steps.{Happens, sender_knows, sender_stores, r
 use Rattle.dr_plain.specs.Meaning.Moments.{fresh_receiver, taken_of, picture_of, writes_of, receiver_at, entries_of, Runs}
 use Rattle.dr_runs.specs.Entries.{entry, poll_of}
 use Rattle.dr_runs.proofs.Entries.{poll_none, poll_some}
-use Rattle.dr_runs.proofs.Elements.{at_below, value_at}
+use Rattle.dr_runs.proofs.Elements.{at_below, value_at, word_at}
 use Rattle.dr_runs.proofs.Completions as completions
 use Rattle.dr_runs.proofs.Completions.{machine_room, count_at, counts_stay, count_set, upstream_inside}
 use Rattle.dr_runs.proofs.Offers.{offered_at_most, offered_at_least}
 use Rattle.dr_runs.proofs.Looks.{past_more}
-use Rattle.dr_plain.proofs.Keeps.{word_at, receiver_of_handler, room_seen, ahead_of_all, claims_some, claims_none}
+use Rattle.dr_plain.proofs.Keeps.{receiver_of_handler, room_seen, ahead_of_all, claims_some, claims_none}
 use Rattle.dr_plain.proofs.Barriers.{below_upstream, below_front, next_count, takes_below}
 use Rattle.dr_plain.proofs.Stores.{tells_truth}
 use Rattle.dr_plain.proofs.Beginning.{keeps_step}

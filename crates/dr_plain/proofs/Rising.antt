@@ -10,8 +10,7 @@ use Rattle.dr_plain.specs.declared.record.Step.TheVariants.{ReceiverLooksAtClose
 use Rattle.dr_plain.specs.Meaning.Rule.{World, KeepsRule}
 use Rattle.dr_plain.specs.Meaning.Steps.{Happens}
 use Rattle.dr_plain.specs.Meaning.Moments.{Runs}
-use Rattle.dr_runs.proofs.Elements.{at_below}
-use Rattle.dr_plain.proofs.Keeps.{word_at}
+use Rattle.dr_runs.proofs.Elements.{at_below, word_at}
 use Rattle.dr_plain.proofs.Beginning.{keeps_step}
 
 -- what is stored is no less than what was there

@@ -18,7 +18,7 @@ use Rattle.dr_plain.specs.Meaning.Rule.{World}
 use Rattle.dr_plain.specs.Meaning.Steps.{Happens, next_of}
 use Rattle.dr_plain.specs.Meaning.Moments.{Runs, entries_of, batch_at, new_world, receiver_at, WereTold}
 use Rattle.dr_plain.proofs.Beginning.{fresh_at}
-use Rattle.dr_plain.proofs.Keeps.{word_at}
+use Rattle.dr_runs.proofs.Elements.{word_at}
 use Rattle.dr_plain.proofs.Pictures.{is_receiver}
 
 -- each look that tells a receiver so has the entry

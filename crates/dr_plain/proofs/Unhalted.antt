@@ -15,7 +15,7 @@ use Rattle.dr_plain.specs.Meaning.Rule.{World, KeepsRule}
 use Rattle.dr_plain.specs.Meaning.Settling.{FoundUnhalted}
 use Rattle.dr_plain.specs.Meaning.Steps.{Happens}
 use Rattle.dr_plain.specs.Meaning.Moments.{Runs, new_world}
-use Rattle.dr_plain.proofs.Keeps.{word_at}
+use Rattle.dr_runs.proofs.Elements.{word_at}
 use Rattle.dr_plain.proofs.Beginning.{kept_opening, keeps_step}
 
 -- a look did not find the ring halted

@@ -14,7 +14,7 @@ use Rattle.dr_plain.specs.Meaning.Records.{claimed}
 use Rattle.dr_plain.specs.Meaning.Rule.{World, KeepsRule}
 use Rattle.dr_plain.specs.Meaning.Moments.{picture_of}
 use Rattle.dr_plain.specs.Calls.Replies.{picture_with, open_writes}
-use Rattle.dr_plain.proofs.Keeps.{word_at}
+use Rattle.dr_runs.proofs.Elements.{word_at}
 use Rattle.dr_plain.proofs.Machine.{Leads, values_of, next_place}
 use Rattle.dr_plain.proofs.Pictures.{sent, sent_count}
 use Rattle.dr_runs.proofs.OneSender.{leads_one, owner_is}

@@ -18,7 +18,7 @@ use Rattle.dr_cells.specs.declared.token.Token.{Token}
 use Rattle.dr_graph.specs.Meaning.Graph.{finals}
 use Rattle.dr_runs.specs.Seats.{end_of, seat_at}
 use Rattle.dr_runs.specs.Looks.{last_look, FindsMore}
-use Rattle.dr_runs.proofs.Elements.{at_below}
+use Rattle.dr_runs.proofs.Elements.{at_below, word_at}
 use Rattle.dr_runs.proofs.Looks.{last_look_le}
 use Rattle.dr_runs.proofs.Offers.{final_inside}
 use Rattle.dr_runs.proofs.Seats.{adds_nothing, adds_one}
@@ -45,7 +45,7 @@ use Rattle.dr_plain_senders.specs.Inside.Seats.{halter_of, IsSender, IsHalter}
 use Rattle.dr_plain_senders.specs.Inside.Seats.{LayIn, LayAsLent, taken_by_claim, given_by_publication, SenderLookedAtCount, SenderLookedAtClaims}
 use Rattle.dr_plain_senders.specs.Inside.Seats.{SenderClaimed, SenderPublished, SenderLookedAtMark, SenderHalted}
 use Rattle.dr_plain_senders.specs.Inside.Seats.{HalterHalted, HalterLooked}
-use Rattle.dr_plain_senders.proofs.Places.{word_at, claimed_low}
+use Rattle.dr_plain_senders.proofs.Places.{claimed_low}
 use Rattle.dr_plain_senders.proofs.Facts.{near_open, owned}
 use Rattle.dr_plain_senders.proofs.KeepsClaims.{keeps_claims}
 use Rattle.dr_plain_senders.proofs.Moves.{stays, gives_moves, claim_moves}

@@ -19,7 +19,7 @@ use Rattle.dr_meaning.specs.Meaning.Machine.{Setup, State, Outcome, available, l
 use Rattle.dr_meaning.specs.Meaning.Transcript.{Transcript, LeadsFrom}
 use Rattle.dr_runs.specs.Entries.{entry, told_drained, poll_of}
 use Rattle.dr_runs.proofs.Entries.{poll_some}
-use Rattle.dr_runs.proofs.Elements.{at_below, value_at, there}
+use Rattle.dr_runs.proofs.Elements.{at_below, value_at, there, word_at}
 use Rattle.dr_runs.proofs.Offers.{final_inside, counts_below, offered_at_most, offered_at_least}
 use Rattle.dr_runs.proofs.Lists.{map_same, map_but}
 use Rattle.dr_lent.specs.declared.lent.Lent.{Lent}
@@ -40,7 +40,7 @@ use Rattle.dr_plain_senders.specs.Meaning.Steps.{Happens, PublishesOne, Publishe
 use Rattle.dr_plain_senders.specs.Meaning.Steps.{halted_words}
 use Rattle.dr_plain_senders.specs.Meaning.Moments.{fresh_receiver, taken_of, stage_at, event_in, event_of, picture_of, receiver_at, events_from}
 use Rattle.dr_plain_senders.specs.Meaning.Moments.{batch_of, published_by, entries_of, Runs}
-use Rattle.dr_plain_senders.proofs.Places.{word_at, claimed_low, halted_low, is_halted_from}
+use Rattle.dr_plain_senders.proofs.Places.{claimed_low, halted_low, is_halted_from}
 use Rattle.dr_runs.proofs.Looks.{last_look_le}
 use Rattle.dr_plain_senders.proofs.Facts.{cases_option, none_or_some, receiver_of_handler, handler_inside, orderly, upstream_inside, taken_out}
 use Rattle.dr_plain_senders.proofs.Facts.{taken_claimed, owned, above}

@@ -19,7 +19,7 @@ use Rattle.dr_ring.specs.Meaning.Rule.{World, KeepsRule}
 use Rattle.dr_ring.specs.Meaning.Steps.{Happens}
 use Rattle.dr_ring.specs.Meaning.Moments.{Runs}
 use Rattle.dr_ring.proofs.Events.{open_events, written_count}
-use Rattle.dr_ring.proofs.Keeps.{word_at}
+use Rattle.dr_runs.proofs.Elements.{word_at}
 use Rattle.dr_ring.proofs.Pictures.{keeps_step}
 
 -- halted, with n sequences claimed

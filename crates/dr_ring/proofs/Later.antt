@@ -33,8 +33,8 @@ use Rattle.dr_ring.specs.Calls.Receiving.{AnswersAsSeen}
 use Rattle.dr_runs.specs.Polls.{handed}
 use Rattle.dr_runs.specs.OneSender.Polls.{PollLooks, offer}
 use Rattle.dr_ring.specs.Calls.Handing.{HandsWhatWasThere}
-use Rattle.dr_runs.proofs.Elements.{at_below}
-use Rattle.dr_ring.proofs.Keeps.{word_at, inside_of}
+use Rattle.dr_runs.proofs.Elements.{at_below, word_at}
+use Rattle.dr_ring.proofs.Keeps.{inside_of}
 use Rattle.dr_runs.proofs.Completions.{count_at, upstream_inside}
 use Rattle.dr_ring.proofs.Pictures.{keeps_step}
 use Rattle.dr_ring.proofs.Replies.{at_front}

@@ -34,13 +34,13 @@ use Rattle.dr_ring.specs.declared.record.Step.TheVariants.{ReceiverLoadsFirst, R
 use Rattle.dr_ring.specs.Meaning.Steps.{Happens, sender_knows, sender_stores, receiver_knows, receiver_stores}
 use Rattle.dr_ring.specs.Meaning.Moments.{fresh_receiver, taken_of, picture_of, write_of, poll_of_event, receiver_at, entries_of, Runs}
 use Rattle.dr_runs.specs.Entries.{entry, told_drained}
-use Rattle.dr_runs.proofs.Elements.{at_below, value_at}
+use Rattle.dr_runs.proofs.Elements.{at_below, value_at, word_at}
 use Rattle.dr_runs.proofs.Completions as completions
 use Rattle.dr_runs.proofs.Completions.{machine_room, ahead_of_all, count_at, counts_stay, count_set, upstream_inside}
 use Rattle.dr_runs.proofs.Offers.{final_inside, offered_at_most, offered_more}
 use Rattle.dr_runs.proofs.Looks.{last_look_le}
 use Rattle.dr_ring.proofs.Events.{open_events, written_count, published_same}
-use Rattle.dr_ring.proofs.Keeps.{word_at, receiver_of_handler, inside_of, orderly, seen_room, halt_seen, opens, opens_none}
+use Rattle.dr_ring.proofs.Keeps.{receiver_of_handler, inside_of, orderly, seen_room, halt_seen, opens, opens_none}
 use Rattle.dr_ring.proofs.Keeps.{keeps_sender_looks, keeps_halt_look, keeps_first, keeps_second}
 use Rattle.dr_ring.proofs.Stores.{keeps_publishes, keeps_sender_halts, keeps_halter_halts, keeps_closes, keeps_receiver_looks, tells_truth}
 use Rattle.dr_ring.proofs.Stores.{keeps_cursor_look, early, keeps_half_taken, taken_event, keeps_takes, keeps_completes}

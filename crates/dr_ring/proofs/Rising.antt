@@ -13,8 +13,7 @@ use Rattle.dr_ring.specs.declared.record.Step.TheVariants.{ReceiverLoadsFirst, R
 use Rattle.dr_ring.specs.Meaning.Rule.{World, KeepsRule}
 use Rattle.dr_ring.specs.Meaning.Steps.{Happens}
 use Rattle.dr_ring.specs.Meaning.Moments.{Runs}
-use Rattle.dr_runs.proofs.Elements.{at_below}
-use Rattle.dr_ring.proofs.Keeps.{word_at}
+use Rattle.dr_runs.proofs.Elements.{at_below, word_at}
 use Rattle.dr_ring.proofs.Pictures.{keeps_step}
 
 -- the word is no less there

@@ -21,7 +21,7 @@ use Rattle.dr_ring.specs.Meaning.Rule.{World}
 use Rattle.dr_ring.specs.Meaning.Steps.{Happens}
 use Rattle.dr_ring.specs.Meaning.Moments.{Runs, entries_of, new_world, receiver_at, WereTold}
 use Rattle.dr_ring.proofs.Beginning.{fresh_at}
-use Rattle.dr_ring.proofs.Keeps.{word_at}
+use Rattle.dr_runs.proofs.Elements.{word_at}
 use Rattle.dr_ring.proofs.Pictures.{is_receiver}
 
 -- the receiver h was told so

@@ -17,7 +17,7 @@ use Rattle.dr_ring.specs.Meaning.Settling.{FoundUnhalted}
 use Rattle.dr_ring.specs.Meaning.Steps.{Happens}
 use Rattle.dr_ring.specs.Meaning.Moments.{Runs, new_world}
 use Rattle.dr_ring.proofs.Beginning.{kept_opening}
-use Rattle.dr_ring.proofs.Keeps.{word_at}
+use Rattle.dr_runs.proofs.Elements.{word_at}
 use Rattle.dr_ring.proofs.Pictures.{keeps_step}
 
 -- without a halt of the halter's the sender found none but its own

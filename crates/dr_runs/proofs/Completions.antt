@@ -11,13 +11,10 @@ use Rattle.dr_meaning.specs.Meaning.Machine.{State, least_completed}
 use Rattle.dr_runs.specs.OneSender.Words.{count_word}
 use Rattle.dr_runs.specs.declared.look.Look.{Look}
 use Rattle.dr_runs.specs.Looks.{last_look, ArePast}
-use Rattle.dr_runs.proofs.Elements.{contains_none}
+use Rattle.dr_runs.proofs.Elements.{word_at, contains_none}
 use Rattle.dr_runs.proofs.Lists.{map_same, map_but}
 use Rattle.dr_runs.proofs.Looks.{last_look_le}
 use Rattle.dr_runs.proofs.Offers.{final_inside, some_final, counts_below}
-
-abbrev pub word_at : List ℕ → ℕ → ℕ
-word_at words i = get_or words i 0
 
 -- counts by their words
 abbrev pub counts_of : List (List ℕ) → List ℕ → List ℕ
