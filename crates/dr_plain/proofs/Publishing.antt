@@ -42,7 +42,7 @@ use Rattle.dr_plain.proofs.Tokens.{out}
 use Rattle.dr_runs.proofs.Elements.{there, value_at}
 use Rattle.dr_plain.proofs.Noting.{write_at, writes_at, written_at, unwritten_at, writes_both, writes_same, writes_count, noted_published, noted_later}
 use Rattle.dr_plain.proofs.Rowing.{dropped, taken, length_rows, replicate_both, rows_both}
-use Rattle.dr_plain.proofs.Stations.{begins_same}
+use Rattle.dr_runs.proofs.Beginnings.{begins_same}
 
 module _ {T : Type 0} where
   -- what lies in the cell of a sequence

@@ -19,7 +19,7 @@ impl<T> SenderStation<T> {
     /// `Exhausted`, `NoRoom`, and at the exchange `Halted` once more, or `Contended`: another
     /// sender claimed meanwhile. A refused claim may have looked, and at the exchange have
     /// stored what was there; it changes nothing else.
-    #[tactic(auto, using(crate::proofs::Stations::begins_same, crate::proofs::Stations::begins_on))]
+    #[tactic(auto, using(dr_runs::proofs::Beginnings::begins_same, dr_runs::proofs::Beginnings::begins_on))]
     pub fn try_claim(&mut self, n: u64) -> Result<Claimed, ClaimFault>
         ensures call { ClaimCall self.old n self.new result }
         ensures hand { ClaimTakes self.old n self.new result }

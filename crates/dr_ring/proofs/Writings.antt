@@ -11,7 +11,7 @@ use Rattle.dr_ring.specs.declared.record.Step.{Step}
 use Rattle.dr_ring.specs.declared.record.Step.TheVariants.{SenderStoresFirst, SenderStoresSecond}
 use Rattle.dr_runs.specs.Runs.{IsBeginning}
 use Rattle.dr_ring.specs.Calls.Ends.{SenderEnd, sender_place}
-use Rattle.dr_ring.proofs.Stations.{begins_same, begins_on}
+use Rattle.dr_runs.proofs.Beginnings.{begins_same, begins_on}
 use Rattle.dr_ring.specs.Calls.Sending.{OnlySends, WriteCall}
 use Rattle.dr_ring.specs.Calls.Inlets.{WriteAllCall, writes_from}
 

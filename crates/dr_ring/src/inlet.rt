@@ -40,7 +40,7 @@ impl Inlet<Event> for Sender {
         Ok(Sender::write(self, s, event)?)
     }
 
-    #[tactic(auto, using(crate::proofs::Stations::begins_same, crate::proofs::Stations::begins_on))]
+    #[tactic(auto, using(dr_runs::proofs::Beginnings::begins_same, dr_runs::proofs::Beginnings::begins_on))]
     fn write_all(&mut self, lo: u64, events: &[Event]) -> Wrote
         requires limit { lo + length events.now ≤ 2 ^ 62 }
         ensures kept { sender_place self.new ≡ sender_place self.old }

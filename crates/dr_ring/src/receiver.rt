@@ -35,7 +35,7 @@ impl Receiver {
     /// of `out`. It looks at closed, then at the cursor, then at the count of each upstream.
     ///
     /// It is refused with `BadCount`, and changes nothing, where `out` is empty.
-    #[tactic(auto, using(crate::proofs::Stations::begins_same, crate::proofs::Stations::begins_on))]
+    #[tactic(auto, using(dr_runs::proofs::Beginnings::begins_same, dr_runs::proofs::Beginnings::begins_on))]
     pub fn poll_into(&mut self, out: &mut [Event]) -> Result<Polled, Refusal>
         ensures call { PollCall self.old out.old self.new out.new result }
         ensures fits { length self.new.knows.received < 2 ^ 64 }
@@ -65,7 +65,7 @@ impl Receiver {
     /// may use their slots again once all final handlers have completed them.
     ///
     /// Refusals in their order: `Behind` (more are completed), `NotTaken`. They change nothing.
-    #[tactic(auto, using(crate::proofs::Stations::begins_same, crate::proofs::Stations::begins_on))]
+    #[tactic(auto, using(dr_runs::proofs::Beginnings::begins_same, dr_runs::proofs::Beginnings::begins_on))]
     pub fn complete(&mut self, upto: u64) -> Result<(), Refusal>
         ensures { CompleteCall self.old upto self.new result }
     {

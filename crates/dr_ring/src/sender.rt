@@ -42,7 +42,7 @@ impl Sender {
     /// The causes of a refusal in their order: `BadCount` (none, or more than the size), `Halted`,
     /// `Exhausted`, `NoRoom`, and `Halted` once more. A refused claim may have looked, and changes
     /// nothing else.
-    #[tactic(auto, using(crate::proofs::Stations::begins_same, crate::proofs::Stations::begins_on))]
+    #[tactic(auto, using(dr_runs::proofs::Beginnings::begins_same, dr_runs::proofs::Beginnings::begins_on))]
     pub fn try_claim(&mut self, n: u64) -> Result<Claimed, Refusal>
         ensures { ClaimCall self.old n self.new result }
     {
@@ -76,7 +76,7 @@ impl Sender {
     /// written before.
     ///
     /// Refusals in their order: `NotClaimed`, `AlreadyPublished`. They change nothing.
-    #[tactic(auto, using(crate::proofs::Stations::begins_same, crate::proofs::Stations::begins_on))]
+    #[tactic(auto, using(dr_runs::proofs::Beginnings::begins_same, dr_runs::proofs::Beginnings::begins_on))]
     pub fn write(&mut self, sequence: u64, event: Event) -> Result<(), Refusal>
         ensures { WriteCall self.old sequence event self.new result }
     {
@@ -99,7 +99,7 @@ impl Sender {
     ///
     /// Refusals in their order: `BadCount` (`lo` above `hi`), `NotClaimed`, `AlreadyPublished`,
     /// `NotWritten`, `OutOfOrder`. They change nothing.
-    #[tactic(auto, using(crate::proofs::Stations::begins_same, crate::proofs::Stations::begins_on))]
+    #[tactic(auto, using(dr_runs::proofs::Beginnings::begins_same, dr_runs::proofs::Beginnings::begins_on))]
     pub fn publish(&mut self, lo: u64, hi: u64) -> Result<(), Refusal>
         ensures { PublishCall self.old lo hi self.new result }
     {
@@ -128,7 +128,7 @@ impl Sender {
     /// all of them is told `Drained`. It may be repeated.
     ///
     /// It is refused with `OpenClaim`, and changes nothing, while a claimed sequence is unpublished.
-    #[tactic(auto, using(crate::proofs::Stations::begins_same, crate::proofs::Stations::begins_on))]
+    #[tactic(auto, using(dr_runs::proofs::Beginnings::begins_same, dr_runs::proofs::Beginnings::begins_on))]
     pub fn close(&mut self) -> Result<(), Refusal>
         ensures call { CloseCall self.old self.new result }
         ensures done { ClosesOnceDone self.old self.new }

@@ -1,4 +1,5 @@
 pub mod Lists
+pub mod Beginnings
 pub mod Seats
 pub mod Cuts
 pub mod Gathering

@@ -11,7 +11,7 @@ use Rattle.dr_runs.specs.declared.written.Written.{Written}
 use Rattle.dr_plain.specs.Inside.Lending.{lents_of}
 use Rattle.dr_plain.specs.Inside.Views.{sender_end}
 use Rattle.dr_plain.proofs.Claims.{collected_many}
-use Rattle.dr_plain.proofs.Stations.{begins_same}
+use Rattle.dr_runs.proofs.Beginnings.{begins_same}
 use Rattle.dr_plain.proofs.Publishing.{publish_none, publish_unclaimed, publish_early, publish_unwritten, publish_late, publish_done, publish_stores}
 use Rattle.dr_plain.proofs.Publishing.{lend_hand, turn_room, publish_order, publish_lents, publish_hand, published_knows, turned_knows, fits_publish}
 use Rattle.dr_plain.proofs.sender.Sender.publish.Goals as goal

@@ -7,7 +7,7 @@ use Rattle.dr_ring.specs.Meaning.Records.{receiver_looked}
 use Rattle.dr_ring.specs.Calls.Ends.{ReceiverEnd}
 use Rattle.dr_ring.specs.Calls.Receiving.{AnswersAsSeen, received_all}
 use Rattle.dr_runs.specs.Runs.{IsBeginning}
-use Rattle.dr_ring.proofs.Stations.{begins_on}
+use Rattle.dr_runs.proofs.Beginnings.{begins_on}
 use Rattle.dr_ring.proofs.Polls.{saw, seen_round, poll_nothing, poll_batch, offers}
 use Rattle.dr_runs.proofs.Offers.{of_count}
 use Rattle.dr_ring.proofs.receiver.Receiver.poll_into.Goals as goal
