@@ -2,10 +2,10 @@
 use Rattle.std.proofs.Common.{◌≡◌, ◌⊎◌, ℕ, zero, suc, ◌+◌, ◌<◌, ◌≤◌, inl, inr, Bool, true, false, if◌then◌else◌, List, [], ◌∷◌, ◌++◌, map}
 use Rattle.std.proofs.Common.{length, set, drop, Some, sym, refl, ap, ◌∙◌, subst, arith}
 use Rattle.std.proofs.lemmas.List.{length-drop}
-use mathlib.Core.Option.{some, none, some-injective, some-ne-none}
+use mathlib.Core.Option.{some, some-injective, some-ne-none}
 use mathlib.Core.Option as maybe
 use lib.ListN.{get_elem?}
-use Rattle.atomic_table.specs.Table.{step, Allows, State}
+use Rattle.atomic_table.specs.Table.{Allows, State}
 use Rattle.atomic_table.proofs.Lists.{at_set}
 use Rattle.dr_cells.specs.declared.token.Token.{Token}
 use Rattle.dr_runs.specs.declared.view.View.{View}
@@ -234,7 +234,7 @@ module _ {T : Type 0} (k : Shape) where
     ]
 
   pub takes_all : (slots id word : ℕ) (me : Sitting T) (s : SenderEnd T) (es : List (ReceiverEnd T)) (t : HalterEnd T) → HasAllEnds me.0 s es t
-      → Allows (Ruled k) slots id me word (λ n. n) (TookAll k (step slots word 0 0 none) me)
+      → Allows (Ruled k) slots id me word (λ n. n) (TookAll k me)
   takes_all slots id word me s es t H st rule len at small = elim rule [
     | inl R ↦ (
         let w = R.world in let A = stand_of st R id me.0 at s es t H in

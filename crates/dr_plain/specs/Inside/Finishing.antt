@@ -2,7 +2,6 @@
 use Rattle.std.specs.Prelude.{◌≡◌, ◌≢◌, ℕ, ◌+◌, ◌-◌, ◌<◌, ◌≤◌, true, if◌then◌else◌, List, [], ◌∷◌, ◌++◌, map, length, drop, Some}
 use mathlib.Core.Option.{some}
 use lib.ListN.{get_elem?}
-use Rattle.atomic_table.specs.Table.{Step as TableStep}
 use Rattle.dr_cells.specs.declared.token.Token.{Token}
 use Rattle.dr_cells.specs.Hold.{whole, kept, joined}
 use Rattle.dr_cells.specs.Tokens.{token_at, with_hold}
@@ -51,7 +50,7 @@ module _ {T : Type 0} where
     pub all : AreAllEnds s es t
 
   -- a load by the seat that has them: it stands for none any more, and has in hand what lay in the slots
-  pub record TookAll (k : Shape) (s : TableStep (Token T)) (me : Sitting T) (n : ℕ) (me' : Sitting T) : Type 0 where
+  pub record TookAll (k : Shape) (me : Sitting T) (n : ℕ) (me' : Sitting T) : Type 0 where
     pub ran : ViewRan (exchange k) me.0
     pub hand : (s : SenderEnd T) (es : List (ReceiverEnd T)) (t : HalterEnd T) → HasAllEnds me.0 s es t → me'.1 ≡ left_of s es ++ me.1
 

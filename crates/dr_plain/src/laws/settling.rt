@@ -36,7 +36,7 @@ pub struct TakesAll<J> {
 }
 
 impl<T, J: Plans> Play<Token<T>, View<T>> for TakesAll<J> {
-    ghost then = { TookAll J.plan };
+    ghost then = { λ s me n me'. TookAll J.plan me n me' };
 }
 
 /// A seat takes in what another stands for. What slots that other has in hand stay in no seat.
