@@ -29,6 +29,7 @@ try:
 
 test:
 	tests/house.py
+	tools/clauses.py --check
 	tests/steps_in_laws.sh
 	tests/everything.sh
 
@@ -51,6 +52,7 @@ install: disruptor install-lib
 	install -d $(into)/bin
 	install -m 755 disruptor $(into)/bin
 	find share -type f -exec install -D -m 644 '{}' '$(into)/{}' ';'
+	install -D -m 644 -t '$(into)/share/doc/disruptor' docs/*.md
 
 install-lib: lib
 	install -d $(into)/lib/pkgconfig $(into)/lib/cmake/disruptor $(into)/include

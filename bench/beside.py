@@ -66,7 +66,7 @@ class Programs:
         if given.library:
             self.words |= self.of_packages(folder, os.path.abspath(given.library))
         if shutil.which("javac") and os.path.exists(given.lmax):
-            subprocess.run(["javac", "-cp", given.lmax, "-d", folder, LMAX], check=True)
+            subprocess.run(["javac", "-cp", given.lmax, "-sourcepath", os.path.dirname(LMAX), "-d", folder, LMAX], check=True)
             java = ["java", "-cp", f"{given.lmax}{os.pathsep}{folder}", "Lmax"]
             self.words |= {"lmax": [*java, "next"], "lmax-try": [*java, "try"], "lmax-dsl": [*java, "dsl"]}
 

@@ -49,7 +49,7 @@ def of_java(folder, lmax, library=None):
     classes, path = os.path.join(folder, "java"), os.pathsep.join(jars.values())
     missing = {"OverSlots.java", "OverLmax.java"} - {f"Over{name.capitalize()}.java" for name in jars}
     sources = [os.path.join(OF_JAVA, it) for it in sorted(os.listdir(OF_JAVA)) if it not in missing]
-    subprocess.run(["javac", "-cp", path, "-d", classes, *sources], check=True)
+    subprocess.run(["javac", "-cp", path, "-sourcepath", f"{TOP}/bench/lmax", "-d", classes, *sources], check=True)
     return ["java", "-cp", f"{path}{os.pathsep}{classes}"], tuple(jars)
 
 

@@ -24,6 +24,8 @@ sys.path.insert(0, f"{TOP}/tests")
 import library_calls  # noqa: E402
 
 CALLS = 200
+# (of handlers, and of senders)
+MOST = 16
 WORDS = struct.Struct("<QQ")
 
 
@@ -34,7 +36,7 @@ class Exchange:
         self.chance, self.library = chance, library
         self.size = 1 << chance.randrange(6)
         self.limit = chance.choice([1, 40, library_calls.MAX_LIMIT])
-        handlers = chance.randrange(1, 6)
+        handlers = chance.randrange(1, chance.choice([6, MOST + 1]))
         masks = [sum(1 << up for up in range(k) if chance.random() < 0.4) for k in range(handlers)]
         kind = chance.choice(["words", "bytes", "slots", "several", "slots of several"])
         self.is_single, self.is_of_bytes, self.is_of_slots = "several" not in kind, kind == "bytes", "slots" in kind
@@ -47,7 +49,7 @@ class Exchange:
             sender, self.receivers, self.halter = library_calls.open(library, self.size, masks, self.limit)
             self.senders, mode = [sender], "single"
         else:
-            several = chance.randrange(1, 5)
+            several = chance.randrange(1, chance.choice([5, MOST + 1]))
             self.senders, self.receivers, self.halter = library_calls.open_several(library, self.size, masks, several, self.limit)
             mode = f"multi,{several}"
         self.claimed = 0

@@ -31,11 +31,11 @@ others_in() {
     grep -rnE '[.:]peek([^A-Za-z0-9_]|$)|then = [{] (Loads [(]λ|Stores .*[)] [(]λ)' "$src" --include='*.rt'
 }
 
-# (The tokens of plain memory are exchanged in slots that an end has in hand, which is no step.)
+# (The tokens of plain memory are exchanged in slots that an end has in hand, which is no step. Below a ring no other call steps.)
 others=$(
     others_in crates/dr_ring/src
     for ring in dr_plain dr_plain_senders; do others_in crates/$ring/src; done | grep -v '[.]exchange('
-    grep -rnE "$calls|$ends" crates/dr_lent/src --include='*.rt' | grep -v '[.]exchange('
+    for below in dr_runs dr_lent dr_cells; do grep -rnE "$calls|$ends" crates/$below/src --include='*.rt'; done | grep -v '[.]exchange('
 )
 if [ -n "$others" ]; then
     printf 'a load or store that is no step of the laws, or that its contract does not tell as one:\n%s\n' "$others"

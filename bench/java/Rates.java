@@ -62,28 +62,13 @@ public final class Rates {
         this.size = size;
         bytes = number(words.group(1), 16);
         senders = number(words.group(2), 0);
-        upstreams = upstreams(words.group(3));
+        upstreams = Shapes.upstreams(words.group(3));
         claim = Math.min(size, number(words.group(4), 1));
         nanos = (long) (seconds * 1e9);
     }
 
     private static int number(String digits, int otherwise) {
         return digits == null ? otherwise : Integer.parseInt(digits);
-    }
-
-    private static int[][] upstreams(String shape) {
-        switch (shape) {
-            case "unicast":
-                return new int[][] {{}};
-            case "pipeline":
-                return new int[][] {{}, {0}, {1}};
-            case "multicast":
-                return new int[][] {{}, {}, {}};
-            case "diamond":
-                return new int[][] {{}, {}, {0, 1}};
-            default:
-                throw new IllegalArgumentException("no topology " + shape);
-        }
     }
 
     /** Fills events with the numbers from 0 on. */

@@ -79,26 +79,11 @@ public final class Lmax {
         this.tries = claims.equals("try");
         this.dsl = claims.equals("dsl");
         this.producers = producers;
-        this.upstreams = upstreams(shape);
+        this.upstreams = Shapes.upstreams(shape);
         this.step = pace.equals("step");
         this.claim = pace.startsWith("b") ? Math.min(size, Long.parseLong(pace.substring(1))) : 1;
         this.size = size;
         this.nanos = (long) (seconds * 1e9);
-    }
-
-    private static int[][] upstreams(String shape) {
-        switch (shape) {
-            case "unicast":
-                return new int[][] {{}};
-            case "pipeline":
-                return new int[][] {{}, {0}, {1}};
-            case "multicast":
-                return new int[][] {{}, {}, {}};
-            case "diamond":
-                return new int[][] {{}, {}, {0, 1}};
-            default:
-                throw new IllegalArgumentException(shape);
-        }
     }
 
     private boolean isFinal(int handler) {

@@ -40,6 +40,7 @@ pub struct Business {
 impl Business {
     /// A handler that was shown nothing yet.
     pub fn new(alloc: Global) -> Business
+        // It holds what no events make, and did not fail.
         ensures empty { IsBusinessOf result [] }
         ensures well { result.failed ≡ false }
     {
@@ -160,7 +161,9 @@ impl Business {
 
     /// The part of the business handler in the report.
     pub fn into_text(self, alloc: Global) -> Result<String, AllocError>
+        // The text is the handler's part, with a line for each account that it keeps.
         ensures text { IfOk result (λ text. string_bytes text ≡ business_text self) }
+        // It keeps its accounts in rising order.
         ensures ordered { IsOrdered nat_cmp self.accounts }
     {
         let mut lines = String::new(alloc);

@@ -22,6 +22,7 @@ pub struct Journal {
 impl Journal {
     /// A journal that was shown nothing yet.
     pub fn new(alloc: Global) -> Journal
+        // It holds what no events make, and did not fail.
         ensures empty { IsJournalOf result [] }
         ensures well { result.failed ≡ false }
     {

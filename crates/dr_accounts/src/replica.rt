@@ -23,6 +23,7 @@ pub struct Replica {
 impl Replica {
     /// A replica that was shown nothing yet.
     pub fn new(alloc: Global) -> Replica
+        // It holds what no events make, and did not fail.
         ensures empty { IsReplicaOf result [] }
         ensures well { result.failed ≡ false }
     {

@@ -25,6 +25,7 @@ pub trait Reporter: Handler<Event> + Drop {
 
     /// One that was shown nothing yet.
     fn begin(alloc: Global) -> Self
+        // It was shown nothing yet, and did not fail.
         ensures new { is_new result }
         ensures well { failed result ≡ false };
 
@@ -35,12 +36,15 @@ pub trait Reporter: Handler<Event> + Drop {
     /// Its part of the report. An error is that memory ran out.
     fn into_part(self, alloc: Global) -> Result<String, AllocError>
         requires { failed self ≡ false }
+        // If it went from a new one through batches, the text is its part of all their events.
         ensures { (first : Self) (batches : List (Dealt Event)) → is_new first → GoesThrough Self.goes first (shown_of batches) self → IfOk result (λ text. string_bytes text ≡ part_of (dealt_events batches)) };
 }
 
 /// The part of a handler alone. An error is that memory ran out, here or when an event was handled.
 pub fn part<H: Reporter>(handler: H, alloc: Global) -> Result<String, AllocError>
+    // If it went from a new one through batches, the text is its part of all their events.
     ensures text { (first : H) (batches : List (Dealt Event)) → H.is_new first → GoesThrough H.goes first (shown_of batches) handler → IfOk result (λ text. string_bytes text ≡ H.part_of (dealt_events batches)) }
+    // One that failed gives no text.
     ensures well { IfOk result (λ text. H.failed handler ≡ false) }
 {
     if handler.has_failed() {

@@ -49,7 +49,9 @@ impl Responder {
     /// A responder that goes on from accounts: the sequence of its first answer is the number of
     /// events that they were shown.
     pub fn new(alloc: Global, business: Business) -> Responder
+        // If the accounts are those of some events, it goes on from these, and has no answer yet.
         ensures empty { (past : List Event) → IsBusinessOf business past → IsResponderOf result past [] }
+        // It failed if and only if the accounts' handler did.
         ensures well { result.failed ≡ business.failed }
     {
         Responder {
@@ -82,6 +84,7 @@ impl Responder {
     /// The answers to the events that it was shown since it was made or last cleared. Of one that
     /// failed they are not to be used.
     pub fn answers(&self) -> &str
+        // They are the text that it holds.
         ensures text { result.now ≡ string_bytes self.now.answers }
         // Behind the answers to events before these, they are the answers to all.
         ensures all { (first : Responder) (past before events : List Event) (s : ℕ) (end : Bool) → IsResponderOf first (past ++ before) [] → GoesThrough answering first (showings events s end) self.now → self.now.failed ≡ false → answers_to past before ++ result.now ≡ answers_to past (before ++ events) }
@@ -91,7 +94,9 @@ impl Responder {
 
     /// Forgets the answers, which were taken: the next one goes on from them.
     pub fn clear(&mut self)
+        // Its accounts stay those of all events, and it has no answer yet.
         ensures cleared { (past events : List Event) → IsResponderOf self.old past events → IsResponderOf self.new (past ++ events) [] }
+        // Whether it failed stays.
         ensures failed { self.new.failed ≡ self.old.failed }
     {
         self.answers.clear();

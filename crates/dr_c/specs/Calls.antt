@@ -125,7 +125,7 @@ PublishesSlotsBy lo hi number (SenderOfBytes w) end' =
     OfWriter {A = Unit {0}} w end' number (λ s s' answer. sends_of_bytes.PublishCall (sends_of_bytes.with_lying s (hi + 1)) lo hi s' answer × (answer ≢ Err NotWritten))
 PublishesSlotsBy lo hi number (SenderOfSeveral s) end' =
     (s' : several.SenderEnd Event) × (answer : Result (Unit {0}) Refusal) × (end' ≡ SenderOfSeveral s') × (number ≡ told answer)
-    × PublishesAsLeft LeavesOfSeveral (λ m m'. publications_of_several.PublishCall m lo hi m' answer) lo s s'
+    × PublishesAsLeft LeavesOfSeveral (λ m m'. publications_of_several.PublishCall m lo hi m' answer) lo hi s s'
     × (HasEachOnce s.knows.own → hi < s.plan.limit → hi < 2 ^ 62 → answer ≢ Err NotWritten)
 PublishesSlotsBy lo hi number other end' = (end' ≡ other) × (number ≡ wrong_end)
 

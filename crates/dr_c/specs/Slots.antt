@@ -1,5 +1,5 @@
 -- A stretch that is published with what lies in its cells, since its events lie in the caller's own memory.
-use Rattle.std.specs.Prelude.{◌≡◌, ◌<◌, ◌≤◌, ◌⊎◌, ℕ, true, false, is_none, List, Option, Result}
+use Rattle.std.specs.Prelude.{◌≡◌, ◌<◌, ◌≤◌, ◌+◌, ◌-◌, ◌⊎◌, ℕ, true, false, is_none, List, Option, Result}
 use mathlib.Core.Option.{some}
 use lib.ListN.{get_elem?}
 use Rattle.std.specs.List.{FoldsTo, range_with_len}
@@ -15,10 +15,10 @@ use Rattle.dr_plain_senders.specs.Calls.Writing as writes_of_several
 abbrev pub LeavesOfSeveral : several.SenderEnd Event → ℕ → several.SenderEnd Event → Type 0
 LeavesOfSeveral s sequence s' = (answer : Result (Unit {0}) Refusal) × writes_of_several.UpdateCall (λ was now. now ≡ was) s sequence s' answer
 
--- some sequences, none before lo, are written as they lie, and then there is a publication
-abbrev pub PublishesAsLeft : {S : Type 0} → (S → ℕ → S → Type 0) → (S → S → Type 0) → ℕ → S → S → Type 0
-PublishesAsLeft {S} Leaves Publishes lo s s' =
-    (first : ℕ) × (count : ℕ) × (between : S) × (lo ≤ first) × FoldsTo Leaves s (range_with_len first count) between × Publishes between s'
+-- the sequences from lo on, none beyond hi, are written as they lie, and then there is a publication
+abbrev pub PublishesAsLeft : {S : Type 0} → (S → ℕ → S → Type 0) → (S → S → Type 0) → ℕ → ℕ → S → S → Type 0
+PublishesAsLeft {S} Leaves Publishes lo hi s s' =
+    (count : ℕ) × (between : S) × (count ≤ hi + 1 - lo) × FoldsTo Leaves s (range_with_len lo count) between × Publishes between s'
 
 -- each of these sequences stands once among them, as where each claim gives others
 abbrev pub HasEachOnce : List (Own Event) → Type 0

@@ -33,8 +33,10 @@ fn are_in_order(masks: &[u64]) -> bool
 /// The size of a ring with which nothing is amiss, or what is amiss first, which is never memory.
 #[tactic(auto, using(crate::proofs::Opened::bad_size, crate::proofs::Opened::no_handlers, crate::proofs::Opened::too_many, crate::proofs::Opened::bad_order, crate::proofs::Opened::bad_producers, crate::proofs::Opened::bad_limit, crate::proofs::Opened::all_fine))]
 pub fn checked_size(size: u64, limit: u64, masks: &[u64], senders: usize) -> Result<Size, OpenFault>
+    // What is asked for has no fault, and it is this size.
     ensures size { IfOk result (λ made. made ≡ size) }
     ensures fine { IfOk result (λ made. IsFine false (length masks.now) senders size limit masks.now) }
+    // The first fault is told, which is never memory.
     ensures refused { IfErr result (λ fault. IsWhy false (length masks.now) senders size limit masks.now fault) }
     ensures known { IfErr result (λ fault. fault ≢ NoMemory) }
 {

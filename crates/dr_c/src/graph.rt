@@ -98,8 +98,10 @@ fn follows_masks(alloc: Global, graph: &Graph, masks: &[u64]) -> Result<bool, Al
 /// The graph of as many handlers as there are masks, in which handler `k` follows those whose bits are in mask `k`; or
 /// `NoMemory`.
 pub fn graph(alloc: Global, masks: &[u64]) -> Result<Graph, OpenFault>
+    // There is a handler for each mask, and it follows just those whose bits are set.
     ensures all { IfOk result (λ graph. length graph.upstreams ≡ length masks.now) }
     ensures follows { IfOk result (λ graph. FollowsMasks graph.upstreams masks.now) }
+    // It fails only for lack of memory.
     ensures refused { IfErr result (λ fault. fault ≡ NoMemory) }
 {
     let Ok(graph) = built(alloc, masks) else {

@@ -47,7 +47,8 @@ use progress::Counts;
 use std::alloc::Global;
 
 /// Opens a ring of `size` slots in which `limit` sequences may be claimed. Handler `k` of `handlers` follows those whose bits
-/// are in the mask `upstreams[k]`, and its receiver comes to `receivers[k]` of `count`. A refused call opens no handle.
+/// are in the mask `upstreams[k]`, and its receiver comes to `receivers[k]` of `count`. A refused call opens no handle, and tells
+/// what is amiss first, by the order of `before` in `specs/OpenFault`, in which a lack of memory comes last.
 #[unsafe(no_mangle)]
 pub extern "C" fn disruptor_open_at(
     alloc: Global,
@@ -60,6 +61,7 @@ pub extern "C" fn disruptor_open_at(
     count: usize,
     halter: &mut [Handle],
 ) -> u32
+    // A new ring's ends are in the handles, or the first fault is told; a bad place changes nothing.
     ensures { Whether ((length upstreams.now == handlers) && (length receivers.old == count)) (AtPlaces sender.old sender.new halter.old halter.new ((receivers.new ≡ receivers.old) × (result ≡ bad_pointer)) (λ s s' h h'. OpenedBy size limit upstreams.now s receivers.old h s' receivers.new h' result)) ((sender.new ≡ sender.old) × (receivers.new ≡ receivers.old) × (halter.new ≡ halter.old) × (result ≡ bad_pointer)) }
 {
     if upstreams.len() != handlers || receivers.len() != count {
@@ -69,7 +71,8 @@ pub extern "C" fn disruptor_open_at(
 }
 
 /// Opens a ring of `count` senders as [`disruptor_open_at`] does one of a single sender. Their ends come to `senders`, and the
-/// receivers, of which there are as many as handlers, to `receivers`. It ends with a halt, and is never closed.
+/// receivers, of which there are as many as handlers, to `receivers`. It ends with a halt, and is never closed. Its events begin
+/// as zeros.
 #[unsafe(no_mangle)]
 pub extern "C" fn disruptor_open_several_at(
     alloc: Global,
@@ -83,6 +86,7 @@ pub extern "C" fn disruptor_open_several_at(
     rooms: usize,
     halter: &mut [Handle],
 ) -> u32
+    // A new ring's ends are in the handles, or the first fault is told; a bad place changes nothing.
     ensures { Whether ((length upstreams.now == handlers) && (length senders.old == count) && (length receivers.old == rooms)) (AtPlace halter.old halter.new ((senders.new ≡ senders.old) × (receivers.new ≡ receivers.old) × (result ≡ bad_pointer)) (λ h h'. OpenedSeveralBy size limit upstreams.now senders.old receivers.old h senders.new receivers.new h' result)) ((senders.new ≡ senders.old) × (receivers.new ≡ receivers.old) × (halter.new ≡ halter.old) × (result ≡ bad_pointer)) }
 {
     if upstreams.len() != handlers || senders.len() != count || receivers.len() != rooms {
@@ -105,6 +109,7 @@ pub extern "C" fn disruptor_open_bytes_at(
     count: usize,
     halter: &mut [Handle],
 ) -> u32
+    // A new ring's ends are in the handles, or the first fault is told; a bad place changes nothing.
     ensures { Whether ((length upstreams.now == handlers) && (length receivers.old == count)) (AtPlaces sender.old sender.new halter.old halter.new ((receivers.new ≡ receivers.old) × (result ≡ bad_pointer)) (λ s s' h h'. OpenedBytesBy size limit bytes upstreams.now s receivers.old h s' receivers.new h' result)) ((sender.new ≡ sender.old) × (receivers.new ≡ receivers.old) × (halter.new ≡ halter.old) × (result ≡ bad_pointer)) }
 {
     if upstreams.len() != handlers || receivers.len() != count {
@@ -123,6 +128,7 @@ pub extern "C" fn disruptor_claim_at(
     n: u64,
     lo: &mut [u64],
 ) -> u32
+    // It is the sender's claim, told by its number; any other end or place is refused, and all stays.
     ensures { AtPlaces sender.old sender.new lo.old lo.new (result ≡ bad_pointer) (λ s s' lo lo'. OnHandle s.held.value s'.held.value ((lo' ≡ lo) × (result ≡ not_open)) (ClaimsBy n lo lo' result)) }
 {
     if sender.len() != 1 || lo.len() != 1 {
@@ -139,6 +145,7 @@ pub extern "C" fn disruptor_write_at(
     sequence: u64,
     event: &[Event],
 ) -> u32
+    // It is the sender's write, told by its number; any other end or place is refused, and all stays.
     ensures { ReadsAt event.now ((sender.new ≡ sender.old) × (result ≡ bad_pointer)) (λ event. AtPlace sender.old sender.new (result ≡ bad_pointer) (λ s s'. OnHandle s.held.value s'.held.value (result ≡ not_open) (WritesBy sequence event result))) }
 {
     if event.len() != 1 {
@@ -156,6 +163,7 @@ pub extern "C" fn disruptor_write_bytes_at(
     bytes: &[u8],
     count: usize,
 ) -> u32
+    // A sender of bytes changes its event to just these, if as many as it has; all else is refused.
     ensures { Whether (length bytes.now == count) (AtPlace sender.old sender.new (result ≡ bad_pointer) (λ s s'. OnHandle s.held.value s'.held.value (result ≡ not_open) (WritesBytesBy sequence bytes.now result))) ((sender.new ≡ sender.old) × (result ≡ bad_pointer)) }
 {
     if bytes.len() != count {
@@ -172,6 +180,7 @@ pub extern "C" fn disruptor_publish_at(
     lo: u64,
     hi: u64,
 ) -> u32
+    // It is the sender's publication, told by its number; any other end or place is refused, and all stays.
     ensures { AtPlace sender.old sender.new (result ≡ bad_pointer) (λ s s'. OnHandle s.held.value s'.held.value (result ≡ not_open) (PublishesBy lo hi result)) }
 {
     if sender.len() != 1 {
@@ -189,6 +198,7 @@ pub extern "C" fn disruptor_publish_slots_at(
     lo: u64,
     hi: u64,
 ) -> u32
+    // Own sequences are written as they lie, and then it is the ring's publication; other ends are refused.
     ensures { AtPlace sender.old sender.new (result ≡ bad_pointer) (λ s s'. OnHandle s.held.value s'.held.value (result ≡ not_open) (PublishesSlotsBy lo hi result)) }
 {
     if sender.len() != 1 {
@@ -200,6 +210,7 @@ pub extern "C" fn disruptor_publish_slots_at(
 /// Closes the ring.
 #[unsafe(no_mangle)]
 pub extern "C" fn disruptor_close_at(alloc: Global, sender: &mut [Handle]) -> u32
+    // It is the only sender's close, told by its number; any other end or place is refused, and all stays.
     ensures { AtPlace sender.old sender.new (result ≡ bad_pointer) (λ s s'. OnHandle s.held.value s'.held.value (result ≡ not_open) (ClosesBy result)) }
 {
     if sender.len() != 1 {
@@ -217,6 +228,7 @@ pub extern "C" fn disruptor_poll_at(
     room: usize,
     offer: &mut [Offer],
 ) -> u32
+    // It is the receiver's poll, told by number and offer; any other end or place is refused, and all stays.
     ensures { Whether (length out.old == room) (AtPlaces receiver.old receiver.new offer.old offer.new ((out.new ≡ out.old) × (result ≡ bad_pointer)) (λ r r' offer offer'. OnHandle r.held.value r'.held.value ((out.new ≡ out.old) × (offer' ≡ offer) × (result ≡ not_open)) (PollsBy out.old out.new offer offer' result))) ((receiver.new ≡ receiver.old) × (out.new ≡ out.old) × (offer.new ≡ offer.old) × (result ≡ bad_pointer)) }
 {
     if out.len() != room {
@@ -233,6 +245,7 @@ pub extern "C" fn disruptor_poll_bytes_at(
     room: u64,
     offer: &mut [Offer],
 ) -> u32
+    // It polls a receiver of bytes, told by number and offer; any other end or place is refused, and stays.
     ensures { AtPlaces receiver.old receiver.new offer.old offer.new (result ≡ bad_pointer) (λ r r' offer offer'. OnHandle r.held.value r'.held.value ((offer' ≡ offer) × (result ≡ not_open)) (PollsBytesBy room offer offer' result)) }
 {
     if receiver.len() != 1 || offer.len() != 1 {
@@ -249,6 +262,7 @@ pub extern "C" fn disruptor_poll_slots_at(
     room: u64,
     offer: &mut [Offer],
 ) -> u32
+    // It polls a receiver of slots, told by number and offer; any other end or place is refused, and stays.
     ensures { AtPlaces receiver.old receiver.new offer.old offer.new (result ≡ bad_pointer) (λ r r' offer offer'. OnHandle r.held.value r'.held.value ((offer' ≡ offer) × (result ≡ not_open)) (PollsSlotsBy room offer offer' result)) }
 {
     if receiver.len() != 1 || offer.len() != 1 {
@@ -267,6 +281,7 @@ pub extern "C" fn disruptor_read_bytes_at(
     into: &mut [u8],
     count: usize,
 ) -> u32
+    // It copies just the event's bytes, if it is in hand and there is room for just these; the end stays.
     ensures { Whether (length into.old == count) (AtPlace receiver.old receiver.new ((into.new ≡ into.old) × (result ≡ bad_pointer)) (λ r r'. OnHandle r.held.value r'.held.value ((into.new ≡ into.old) × (result ≡ not_open)) (λ end end'. (end' ≡ end) × ReadsBytesBy sequence into.old into.new result end))) ((receiver.new ≡ receiver.old) × (into.new ≡ into.old) × (result ≡ bad_pointer)) }
 {
     if into.len() != count {
@@ -278,6 +293,7 @@ pub extern "C" fn disruptor_read_bytes_at(
 /// Completes all events below `upto`.
 #[unsafe(no_mangle)]
 pub extern "C" fn disruptor_complete_at(alloc: Global, receiver: &mut [Handle], upto: u64) -> u32
+    // It is the receiver's completion, told by its number; any other end or place is refused, and all stays.
     ensures { AtPlace receiver.old receiver.new (result ≡ bad_pointer) (λ r r'. OnHandle r.held.value r'.held.value (result ≡ not_open) (CompletesBy upto result)) }
 {
     if receiver.len() != 1 {
@@ -289,6 +305,7 @@ pub extern "C" fn disruptor_complete_at(alloc: Global, receiver: &mut [Handle], 
 /// Halts the ring.
 #[unsafe(no_mangle)]
 pub extern "C" fn disruptor_halt_at(alloc: Global, halter: &mut [Handle]) -> u32
+    // The halter stores a halt, which is never refused; any other end or place is refused, and all stays.
     ensures { AtPlace halter.old halter.new (result ≡ bad_pointer) (λ h h'. OnHandle h.held.value h'.held.value (result ≡ not_open) (λ end end'. HaltsBy end end' result)) }
 {
     if halter.len() != 1 {
@@ -305,6 +322,7 @@ pub extern "C" fn disruptor_progress_at(
     handle: &mut [Handle],
     counts: &mut [Counts],
 ) -> u32
+    // It tells both counts of an end that has them; any other end or place is refused, and all stays.
     ensures { AtPlaces handle.old handle.new counts.old counts.new (result ≡ bad_pointer) (λ h h' counts counts'. OnHandle h.held.value h'.held.value ((counts' ≡ counts) × (result ≡ not_open)) (λ end end'. (end' ≡ end) × TellsBy end counts counts' result)) }
 {
     if handle.len() != 1 || counts.len() != 1 {
@@ -320,6 +338,7 @@ pub extern "C" fn disruptor_cursor_at(
     halter: &mut [Handle],
     count: &mut [u64],
 ) -> u32
+    // It tells what the halter finds; any other end or place is refused, and all stays.
     ensures { AtPlaces halter.old halter.new count.old count.new (result ≡ bad_pointer) (λ h h' n n'. OnHandle h.held.value h'.held.value ((n' ≡ n) × (result ≡ not_open)) (TellsCursorBy n n' result)) }
 {
     if halter.len() != 1 || count.len() != 1 {
@@ -336,6 +355,7 @@ pub extern "C" fn disruptor_completed_at(
     handler: usize,
     count: &mut [u64],
 ) -> u32
+    // It tells what the halter finds of a handler that there is; all else is refused and stays.
     ensures { AtPlaces halter.old halter.new count.old count.new (result ≡ bad_pointer) (λ h h' n n'. OnHandle h.held.value h'.held.value ((n' ≡ n) × (result ≡ not_open)) (TellsCompletedBy handler n n' result)) }
 {
     if halter.len() != 1 || count.len() != 1 {
@@ -356,7 +376,9 @@ pub extern "C" fn disruptor_free_at(alloc: Global, handles: &mut [Handle])
 #[tactic(auto, using(crate::proofs::Names::of_the_library))]
 #[unsafe(no_mangle)]
 pub extern "C" fn disruptor_name_at(number: u32, text: &mut [u8]) -> usize
+    // A number of a claim's, a graph's or an opening's fault that has a name here has the library's.
     ensures library { AreOfTheLibrary name_by }
+    // It is the length of the whole name, of which `text` has as much as fits; the rest of `text` stays.
     ensures length { result ≡ length (name_by number) }
     ensures text { text.new ≡ take (length text.old) (name_by number) ++ drop (length (name_by number)) text.old }
 {

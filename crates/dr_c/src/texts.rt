@@ -77,6 +77,7 @@ pub fn name(number: u32) -> &'static str
 
 /// Puts a name to the front of a text, as far as there is room, and gives its length.
 pub fn put(number: u32, text: &mut [u8]) -> usize
+    // It is the length of the whole name, of which `text` has as much as fits; the rest of `text` stays.
     ensures length { result ≡ length (name_by number) }
     ensures text { text.new ≡ take (length text.old) (name_by number) ++ drop (length (name_by number)) text.old }
 {

@@ -21,6 +21,7 @@ impl Writer {
     /// The sender of a ring in whose cells there are so many bytes each.
     pub fn new(sender: Sender<Bytes>, bytes: usize) -> Writer
         requires { all_have bytes sender.cells ≡ true }
+        // It has this sender, and so many bytes for each event.
         ensures sender { result.sender ≡ sender }
         ensures bytes { result.bytes ≡ bytes }
     {
@@ -29,6 +30,7 @@ impl Writer {
 
     /// Claims.
     pub fn try_claim(&mut self, n: u64) -> Result<Claimed, Refusal>
+        // Each event has as many bytes as before, and the call is the ring's claim.
         ensures bytes { self.new.bytes ≡ self.old.bytes }
         ensures call { ClaimCall self.old.sender n self.new.sender result }
     {
@@ -38,6 +40,7 @@ impl Writer {
     /// Writes the event of a sequence where it lies.
     pub fn write(&mut self, sequence: u64, bytes: &[u8]) -> Result<(), Refusal>
         requires { length bytes.now ≡ self.old.bytes }
+        // Each event has as many bytes as before, and that of the sequence has these, by the ring's update.
         ensures bytes { self.new.bytes ≡ self.old.bytes }
         ensures call { UpdateCall (λ was now. now ≡ bytes.now) self.old.sender sequence self.new.sender result }
     {
@@ -46,6 +49,7 @@ impl Writer {
 
     /// Publishes.
     pub fn publish(&mut self, lo: u64, hi: u64) -> Result<(), Refusal>
+        // Each event has as many bytes as before, and the call is the ring's publication.
         ensures bytes { self.new.bytes ≡ self.old.bytes }
         ensures call { PublishCall self.old.sender lo hi self.new.sender result }
     {
@@ -54,8 +58,10 @@ impl Writer {
 
     /// Publishes the sequences from `lo` to `hi` with what lies in their cells: none is refused as not written.
     pub fn publish_slots(&mut self, lo: u64, hi: u64) -> Result<(), Refusal>
+        // Each event has as many bytes as before; open ones to `hi` are written as they lie, then published.
         ensures bytes { self.new.bytes ≡ self.old.bytes }
         ensures call { PublishCall (with_lying self.old.sender (hi + 1)) lo hi self.new.sender result }
+        // Nothing is refused as not written.
         ensures written { result ≢ Err NotWritten }
     {
         self.sender.write_lying(hi);
@@ -64,6 +70,7 @@ impl Writer {
 
     /// Closes the ring.
     pub fn close(&mut self) -> Result<(), Refusal>
+        // Each event has as many bytes as before, and the call is the ring's close.
         ensures bytes { self.new.bytes ≡ self.old.bytes }
         ensures call { CloseCall self.old.sender self.new.sender result }
     {

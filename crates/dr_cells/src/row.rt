@@ -57,6 +57,7 @@ impl<T> Row<T> {
     /// The token of the first cell.
     pub fn take(&mut self) -> Token<T>
         requires { 0 < length self.old.items }
+        // The whole token of the row's first cell comes out, with what lies there; the row begins one later.
         ensures rest { (self.new.strip ≡ self.old.strip) × (self.new.from ≡ self.old.from + 1) }
         ensures first { (x : T) × (self.old.items ≡ x ∷ self.new.items) × IsOf self.old.strip self.old.from result × (result.hold ≡ whole x) }
     {
@@ -66,6 +67,7 @@ impl<T> Row<T> {
     /// Puts the cell that follows the last one back.
     pub fn give(&mut self, token: Token<T>)
         requires { IsOf self.old.strip (self.old.from + length self.old.items) token × IsWhole token.hold }
+        // The row begins as before, and what lies in the cell comes last.
         ensures row { (self.new.strip ≡ self.old.strip) × (self.new.from ≡ self.old.from) }
         ensures last { (x : T) × (token.hold ≡ whole x) × (self.new.items ≡ self.old.items ++ x ∷ []) }
     {

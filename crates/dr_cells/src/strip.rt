@@ -45,7 +45,9 @@ impl<T, A: Allocator> Strip<T, A> {
         items: Vec<T, B>,
     ) -> Result<(Strip<T, A>, Row<T>), AllocFailed<Vec<T, B>>>
         requires { 0 < length items.items }
+        // The row is all cells of the strip, which hold the items in order.
         ensures ok { IfOk result (λ r. IsAll r.0.cells.ptr r.0.len r.1 × (r.1.items ≡ items.items)) }
+        // Without memory the items come back.
         ensures err { IfErr result (λ e. e.value.items ≡ items.items) }
     {
         let len = items.len();
@@ -67,6 +69,7 @@ impl<T, A: Allocator> Strip<T, A> {
     /// The values, once each cell is whole again.
     pub fn close(self, row: Row<T>) -> Values<T, A>
         requires { IsAll self.cells.ptr self.len row }
+        // They are what the row says that its cells hold, in order.
         ensures { result ≡ row.items }
     {
         let Strip {

@@ -48,7 +48,9 @@ impl<T> Token<T> {
     /// The value in the cell, to be written. The token then holds what is written last.
     pub fn get_mut(&mut self, cells: Cells<T>, index: usize) -> &mut T
         requires { IsOf cells.ptr index self.old × IsWhole self.old.hold }
+        // What you write there last is what the token says then.
         ensures* writes_back { sem 𝓛 (lends_cell T.row self.entry result) }
+        // What you find there is what the token said.
         ensures value { self.old.hold ≡ whole result.now }
     {
         unsafe { &mut *cells.ptr.add(index) }

@@ -77,7 +77,9 @@ impl<E: Copy> Core<E> {
         limit: u64,
         blank: E,
     ) -> Result<Core<E>, OpenFault>
+        // A new core has this setup and the graph's names, and shows the machine's opening state.
         ensures opened { IfOk result (λ core. IsOpened core (setup_of graph.upstreams size mode limit) graph.names) }
+        // A bad number of producers and then a bad limit are refused; else only a lack of memory is.
         ensures answer { Answers OpenFault.NoMemory (open_fault mode limit) result }
     {
         if !mode.is_valid() {
@@ -138,6 +140,7 @@ impl<E: Copy> Core<E> {
 
     /// Who follows whom.
     pub fn graph(&self) -> &Graph
+        // It has the names and the upstreams of the graph that the core was opened over.
         ensures names { result.now.names ≡ self.now.names }
         ensures upstreams { result.now.upstreams ≡ self.now.setup.upstreams }
     {
@@ -160,6 +163,7 @@ impl<E: Copy> Core<E> {
 
     /// How many sequences are claimed.
     pub fn next(&self) -> u64
+        // It is the number of claimed sequences, which is never above the limit.
         ensures value { result ≡ self.now.next }
         ensures limit { result ≤ self.now.setup.limit }
 
@@ -202,6 +206,7 @@ impl<E: Copy> Core<E> {
     /// That whoever waits in this core, waits for one that can go on. It does nothing when it runs: its
     /// contract is the theorem.
     pub fn is_never_stuck(&self)
+        // It shows a state, to which a transcript leads: nobody is stuck there, and all claimed can finish.
         ensures { IsNeverStuck self.now }
     {
         let _next = self.next;

@@ -25,11 +25,15 @@ pub fn run<E: Copy>(
     core: &mut Core<E>,
     commands: &[Command<E>],
 ) -> Result<Ran<E>, AllocError>
+    // A transcript to a state shown before goes on by these commands to one shown after, with the five laws.
     ensures lawful { IfOk result (λ ran. (t : Transcript E) (m : State E) → LeadsTo core.old.setup t m → Shows core.old m → RunsTo core.old.setup (t ++ transcript_of commands.now ran.replies.items ran.values.items) core.new) }
+    // Each command has its reply, and the events are as many as the replies' batches count.
     ensures replies { IfOk result (λ ran. length ran.replies.items ≡ length commands.now) }
     ensures values { IfOk result (λ ran. length ran.values.items ≡ counts_of ran.replies.items) }
+    // The core keeps its setup and the names of its handlers.
     ensures setup { core.new.setup ≡ core.old.setup }
     ensures names { core.new.names ≡ core.old.names }
+    // If memory runs out, the core is as before.
     ensures refused { OnErr result (core.new ≡ core.old) }
 {
     let size = core.size().get() as usize;

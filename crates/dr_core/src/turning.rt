@@ -35,8 +35,11 @@ pub fn processor_turn<E: Copy, H: Handler<E>>(
     handler: &mut H,
     buf: &mut [E],
 ) -> Result<Polled, Refusal>
+    // The machine polls, the handler is shown each event of the batch in order, and the batch is completed.
     ensures turn { TakesTurn H.goes core.old h (length buf.old) result (polled result buf.new) core.new handler.old handler.new }
+    // The batch is in front in the buffer, and what lies behind it stays.
     ensures rest { buf.new ≡ polled result buf.new ++ drop (length (polled result buf.new)) buf.old }
+    // A refusal leaves the core as it was.
     ensures refused { OnErr result (core.new ≡ core.old) }
 {
     let answer = core.poll_into(h, buf)?;

@@ -19,6 +19,7 @@ pub trait Feed<E> {
         self,
         sender: &mut LiveSender<R, I>,
     ) -> Self::Answer
+        // It is the same ring's sender still, and what it sent and answers is as the feed says.
         ensures kept { I.kept sender.new ≡ I.kept sender.old }
         ensures gives { gives self result (I.sending sender.old).published (I.sending sender.new).published };
 }

@@ -145,10 +145,11 @@ fn wind_up<R: Threads + Wait + Copy, E: Drop, H: InPlaceHandler<E> + Drop>(
 /// for each handler, which stand in the graph's order, and calls `send` with the ring's sender. Then it closes the ring,
 /// waits until each handler has had all events, and hands back the handlers and the events. So each handler went through
 /// exactly what the closure left published, each event once, in sequence order from 0 on, in batches of at most as many
-/// as the way says. The closure may not put another ring's sender in the place of the one that it is given.
+/// as the way says (clause `ran`). The closure may not put another ring's sender in the place of the one that it is given.
 ///
-/// It is refused with `Handlers` where there are not as many handlers as the graph has, and with `Memory` where
-/// a thread could not be started: then nothing was sent. Where memory runs out after that, what was done is lost.
+/// It is refused with `Handlers` exactly where there are not as many handlers as the graph has, and else with `Memory`
+/// (clauses `many`, `refused`). Where a thread could not be started, nothing was sent. Where memory runs out after that,
+/// what was done is lost.
 pub fn run<
     R: Threads + Wait + Copy + Send + 'static,
     E: Drop + Send + Sync + 'static,

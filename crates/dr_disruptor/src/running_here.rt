@@ -73,9 +73,9 @@ pub fn run_here<
 ) -> Result<Ran<E, T, Settled<E>, A>, RunFault>
     requires events { length events.items ≡ size }
     requires batch { 0 < way.batch }
-    // It went over a new ring of this graph, size and events: the handler at each place went through exactly what the
-    // feed left published, each event once, in sequence order from 0 on, in batches of at most so many.
+    // Each handler of a new ring went through just what the feed published, in order, in batches.
     ensures ran { IfOk result (IsRanBy (λ (given : HereEnd E H) (answer : A) (back : HereEnd E H). F.gives send answer (sending_here given).published (sending_here back).published) (λ here. here.sender) H.goes T.listed T.went way.batch (shape_of graph.now.upstreams size) events.items handlers) }
+    // It takes as many handlers as the graph has; any other fault than that is `Memory`.
     ensures many { IfOk result (λ _. length (T.listed handlers) ≡ length graph.now.upstreams) }
     ensures refused { IfErr result (λ e. e ≡ refusal_of (length graph.now.upstreams) (length (T.listed handlers))) }
 {

@@ -193,12 +193,13 @@ fn wind_up<R: Threads, E: Drop, H: InPlaceHandler<E> + Drop, A: Drop>(
 
 /// As [`run`](crate::run), with several senders: each closure is given one of its own, on a thread of its own, and once
 /// all of them are back the ring is halted. All handlers have the same events in one order, in which those of each
-/// closure are in its own. Which merge of them it is may differ from run to run. The closures' answers stand in their
-/// order. No closure may put another ring's sender, or another sender, in the place of the one that it is given.
+/// closure are in its own (clause `ran`). Which merge of them it is may differ from run to run. The closures' answers
+/// stand in their order. No closure may put another ring's sender, or another sender, in the place of the one that it is
+/// given.
 ///
-/// It is refused with `Handlers` where there are not as many handlers as the graph has, with `Senders` where there are no
-/// closures or more than 16, and with `Memory` where a thread could not be started, or memory ran out: then what was
-/// done is lost.
+/// It is refused with `Handlers` exactly where there are not as many handlers as the graph has, then with `Senders` exactly
+/// where there are no closures or more than 16, and else with `Memory` (clauses `many`, `few`, `refused`). Where a thread
+/// could not be started, or memory ran out, what was done is lost.
 pub fn run_senders<
     R: Threads + Wait + Copy + Send + 'static,
     E: Drop + Send + Sync + 'static,

@@ -266,6 +266,7 @@ impl<R: Wait + Copy, I: InPlaceInlet> LiveSender<R, I> {
         ensures claims { OnOk result (ClaimedAtOnce I.kept I.sending (length (I.sending self.old).published) n self.old self.new) }
         // A refused claim sends nothing, and calls the closure for nothing.
         ensures refused { IfErr result (λ r. IsRefused I.kept I.sending I.refuses n r self.old self.new × (fill.new ≡ fill.old)) }
+        // You may call the closure again.
         ensures callable { F.IsAlwaysCallable fill.new }
         // A batch of none is refused.
         ensures some { OnOk result (0 < n) }
@@ -310,7 +311,9 @@ impl<R, E> LiveSender<R, several::Sender<E>> {
     /// Halts the ring of a run with several senders: nobody's claims succeed any more. What is published still comes to
     /// all handlers. It may be repeated.
     pub fn halt(&mut self)
+        // It stores a halt, and nothing else.
         ensures halts { HaltCall self.old self.new }
+        // It is still the same ring's sender, and what it sent stays.
         ensures kept { sender_place self.new ≡ sender_place self.old }
         ensures same { sending_of self.new ≡ sending_of self.old }
     {

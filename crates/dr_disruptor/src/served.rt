@@ -141,6 +141,7 @@ pub fn serve<R: Wait, O: InPlaceOutlet, H: InPlaceHandler<O::Event>>(
 ) -> Served<O, H>
     requires idle { IsIdle (O.received outlet) }
     requires batch { 0 < way.batch }
+    // The handler was shown just what the end handed out, all of it is completed, and it was told `Drained`.
     ensures { Serving O.kept O.received O.told O.saw O.does H.goes way.batch handler outlet result }
 {
     let mut waits = way.strategy.begin(rt, bell, way.batch);

@@ -73,6 +73,7 @@ pub fn start<
     requires many { length outlets.items ≡ length handlers.items }
     requires idle { All (λ o. IsIdle (O.received o)) outlets.items }
     requires batch { 0 < way.batch }
+    // Each worker has the end and the handler of its place, and takes batches of at most the way's.
     ensures ends { IfOk result (λ workers. map given_end workers.items ≡ outlets.items) }
     ensures starts { IfOk result (λ workers. map given_handler workers.items ≡ handlers.items) }
     ensures batches { IfOk result (λ workers. AreInBatches way.batch workers.items) }
@@ -97,6 +98,7 @@ pub fn join<R: Threads, O: InPlaceOutlet + Drop, H: InPlaceHandler<O::Event> + D
     rt: &R,
     workers: Vec<Worker<O, H>>,
 ) -> Result<Vec<Served<O, H>>, AllocError>
+    // Each worker gave back what it promised, in their order.
     ensures { IfOk result (λ served. GaveBack O.kept O.received O.told O.saw O.does H.goes workers.items served.items) }
 {
     match join_promised(rt, workers) {
@@ -120,6 +122,7 @@ pub fn apart<O: Drop, H: Drop>(
     alloc: Global,
     served: Vec<Served<O, H>>,
 ) -> Result<Back<O, H>, AllocError>
+    // Both lists are in the workers' order.
     ensures outlets { IfOk result (λ back. back.outlets.items ≡ map (λ s. s.outlet) served.items) }
     ensures handlers { IfOk result (λ back. back.handlers.items ≡ map (λ s. s.handler) served.items) }
 {

@@ -44,7 +44,9 @@ pub struct Ran<H> {
 impl<H: Drop> Ran<H> {
     /// The fault that is answered for the workers, if one of them has any.
     pub fn fault(&self) -> Option<WorkerFault>
+        // A lack of memory comes before a stop, that before a refusal; of one kind, the least number's comes.
         ensures first { result ≡ first_of self.now.endings.items }
+        // None is answered only if no worker has a fault.
         ensures none { result ≡ None → AreFine self.now.endings.items }
     {
         first_fault(self.endings.as_slice())
@@ -53,7 +55,9 @@ impl<H: Drop> Ran<H> {
     /// The handlers, and the list of events that all of them went through, where no worker has a fault and the
     /// history has that list. A worker's fault comes before one of the history.
     pub fn finished(self) -> Result<(Vec<H>, Vec<Event>), LockedFault>
+        // Handlers and list are answered only where no worker has a fault.
         ensures all { IfOk result (λ all. (all.0 ≡ self.handlers) × (self.list ≡ Ok all.1) × AreFine self.endings.items) }
+        // Else it is the first fault of the workers or, where they have none, that of the history.
         ensures fault { IfErr result (IsWhyNot self) }
     {
         if let Some(first) = self.fault() {
@@ -198,6 +202,7 @@ pub fn run_locked<R: Threads + Wait + Sync, H: InPlaceHandler<Event> + Drop + Se
     ensures whole { IfOk result (λ ran. IfOk ran.list (λ list. AreFine ran.endings.items → AllWentThroughMerge (AllWentThrough H.goes) 256 (map (λ s. s.items) scripts.items) list.items handlers.items ran.handlers.items)) }
     // It went over a new exchange of this graph and size, and the list is of what was sent of the scripts, whatever the faults.
     ensures run { IfOk result (IsRun H.goes graph.upstreams size (map (λ s. s.items) scripts.items) handlers.items) }
+    // It takes as many handlers as the graph has, and 1 to 16 scripts; any other fault is `Memory`.
     ensures many { IfOk result (λ _. length handlers.items ≡ length graph.upstreams) }
     ensures few { IfOk result (λ _. has_bad_producers (Multi (length scripts.items)) ≡ false) }
     ensures refused { IfErr result (λ e. e ≡ refusal_of (length graph.upstreams) (length handlers.items) (length scripts.items)) }

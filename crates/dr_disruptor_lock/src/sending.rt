@@ -29,6 +29,7 @@ pub struct SendsPromise<L: Ledger> {
 
 impl<L: Ledger> SendsPromise<L> {
     pub fn of(task: &Task<L>, size: Size) -> SendsPromise<L>
+        // It is of this task and this size.
         ensures task { result.task.value ≡ task.now }
         ensures size { result.size ≡ size }
     {
@@ -51,6 +52,7 @@ impl<L: Exchange<Event>> Promise<Sent<L>> for SendsPromise<L> {
 
 /// Sends a script in claims of a quarter of the slots, and rings the bell with each publication.
 pub fn send<L: Exchange<Event>, R: Wait>(around: &Around<'_, L, R>, task: Task<L>) -> Sent<L>
+    // By calls of this producer the script is sent, all of it where there is no fault.
     ensures { Sending L.begun around.now.size task result }
 {
     let Task {

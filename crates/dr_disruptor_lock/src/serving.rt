@@ -30,6 +30,7 @@ pub struct ServesPromise<L: Ledger, H> {
 
 impl<L: Ledger, H> ServesPromise<L, H> {
     pub fn of(job: &Job<L, H>) -> ServesPromise<L, H>
+        // It is of this job.
         ensures { result.job.value ≡ job.now }
     {
         ServesPromise {
@@ -53,6 +54,7 @@ pub fn serve<L: Exchange<Event>, R: Wait, H: InPlaceHandler<Event>>(
     around: &Around<'_, L, R>,
     job: Job<L, H>,
 ) -> Served<L, H>
+    // By calls of this handler it was shown just what its end handed out; the fault is theirs.
     ensures { Serving L.begun H.goes job result }
 {
     let Job {

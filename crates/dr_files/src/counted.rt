@@ -20,6 +20,7 @@ pub struct Counted<T> {
 impl<T> Counted<T> {
     /// Wraps a reader or a writer of which no call failed yet.
     pub fn new(inner: T) -> Counted<T>
+        // It has this reader or writer, of which no call failed yet.
         ensures inner { inner_of result ≡ inner }
         ensures none { faults_of result ≡ 0 }
     {
@@ -61,8 +62,10 @@ impl<R: Read> Read for Counted<R> {
     ghost remaining = { λ c. R.remaining (inner_of c) };
 
     fn read(&mut self, buf: &mut [u8]) -> io::Result<usize>
+        // A read gives at most as much as fits, and of known bytes the next ones.
         ensures bound { ReadsAtMost result buf.new }
         ensures bytes { ReadConsumes (R.remaining (inner_of self.old)) (R.remaining (inner_of self.new)) result buf.new }
+        // One that failed counts, and once one did the reader is left alone.
         ensures counted { CountsCall result (faults_of self.old) (faults_of self.new) }
         ensures spent { 0 < faults_of self.old → inner_of self.new ≡ inner_of self.old }
     {
@@ -83,8 +86,10 @@ impl<W: Write> Write for Counted<W> {
     ghost contents = { λ c. W.contents (inner_of c) };
 
     fn write(&mut self, buf: &[u8]) -> io::Result<usize>
+        // A write takes at most the piece, and adds what it takes to known contents.
         ensures bound { WritesAtMost result buf.now }
         ensures bytes { WriteAppends (W.contents (inner_of self.old)) (W.contents (inner_of self.new)) result buf.now }
+        // One that failed, or took nothing of a piece, counts, and once one did the writer is left alone.
         ensures counted { CountsWrite result buf.now (faults_of self.old) (faults_of self.new) }
         ensures spent { 0 < faults_of self.old → inner_of self.new ≡ inner_of self.old }
     {
@@ -106,6 +111,7 @@ impl<W: Write> Write for Counted<W> {
     }
 
     fn flush(&mut self) -> io::Result<()>
+        // A flush writes nothing more. One that failed counts, and once one did the writer is left alone.
         ensures bytes { Keeps (W.contents (inner_of self.old)) (W.contents (inner_of self.new)) }
         ensures counted { CountsCall result (faults_of self.old) (faults_of self.new) }
         ensures spent { 0 < faults_of self.old → inner_of self.new ≡ inner_of self.old }

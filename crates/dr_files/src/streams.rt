@@ -46,7 +46,9 @@ impl fmt::Display for WriteFault {
 /// All bytes that a reader has left, read to its end.
 pub fn read_all<R: Read>(alloc: Global, reader: &mut Counted<R>) -> Result<Vec<u8>, ReadFault>
     requires { faults_of reader.old < 2 ^ 64 - 1 }
+    // If the reader's bytes are known, the text is all of them.
     ensures whole { IfOk result (λ text. IfSome (R.remaining (inner_of reader.old)) (λ input. text.items ≡ input)) }
+    // A failed read is answered where one read failed, and nowhere else.
     ensures none { OnOk result (faults_of reader.new ≡ faults_of reader.old) }
     ensures failed { IfErr result (λ e. ReadFaultTells e (faults_of reader.old) (faults_of reader.new)) }
 {
@@ -69,6 +71,7 @@ pub fn read_all<R: Read>(alloc: Global, reader: &mut Counted<R>) -> Result<Vec<u
 /// Writes a text. After an error a beginning of it is written.
 pub fn write_text<W: Write>(writer: &mut Counted<W>, text: &[u8]) -> Result<(), WriteFault>
     requires { faults_of writer.old < 2 ^ 64 - 1 }
+    // The text is written whole; or one write failed, and a beginning of it is written.
     ensures { WriteTells result (W.contents (inner_of writer.old)) (W.contents (inner_of writer.new)) text.now (faults_of writer.old) (faults_of writer.new) }
 {
     let mut at = 0;

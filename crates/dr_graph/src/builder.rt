@@ -42,6 +42,7 @@ impl Model for GraphBuilder {
 impl GraphBuilder {
     /// A builder with no handlers. It keeps the allocator for the calls that grow it.
     pub fn new(alloc: Global) -> Self
+        // Nothing is declared yet.
         ensures names { result.names ≡ [] }
         ensures edges { result.edges ≡ [] }
     {
@@ -55,9 +56,12 @@ impl GraphBuilder {
     /// Declares handlers without upstreams: each of them receives every published event.
     #[tactic(auto, using(crate::proofs::Answering::answering))]
     pub fn handle_with(&mut self, names: &[&str]) -> Result<Group, GraphFault>
+        // The group has the given names in order, and they are declared after all before, without an edge.
         ensures group { IfOk result (λ group. group ≡ given names.now) }
         ensures declared { OnOk result (self.new ≡ record self.old { names = self.old.names ++ given names.now }) }
+        // The first fault of the names is answered; where they have none, only a lack of memory is.
         ensures answer { Answers GraphFault.NoMemory (declaring_fault self.old.names (given names.now)) result }
+        // A fault leaves the declaration as it was.
         ensures unchanged { OnErr result (self.new ≡ self.old) }
     {
         check_new(self.alloc, &self.names, names)?;
@@ -70,9 +74,12 @@ impl GraphBuilder {
     /// it.
     #[tactic(auto, using(crate::proofs::Answering::answering))]
     pub fn then(&mut self, group: &Group, names: &[&str]) -> Result<Group, GraphFault>
+        // The new group has the given names, and each of them follows every handler of the group.
         ensures group { IfOk result (λ followers. followers ≡ given names.now) }
         ensures declared { OnOk result (self.new ≡ followed_by self.old group.now (given names.now)) }
+        // An undeclared name of the group is refused, then the names' first fault; else memory may run out.
         ensures answer { Answers GraphFault.NoMemory (following_fault self.old.names group.now (given names.now)) result }
+        // A fault leaves the declaration as it was.
         ensures unchanged { OnErr result (self.new ≡ self.old) }
     {
         check_group(&self.names, group.names())?;
@@ -89,7 +96,9 @@ impl GraphBuilder {
     /// The group of some declared handlers. A name that stands twice counts once.
     #[tactic(auto, using(crate::proofs::Answering::answering, std::proofs::lemmas::Grind::common_steps))]
     pub fn after(&self, names: &[&str]) -> Result<Group, GraphFault>
+        // The group has the names in the order given, each once.
         ensures group { IfOk result (λ group. group ≡ new_names [] (given names.now)) }
+        // No names at all are refused, then one that is not declared; else only memory may run out.
         ensures answer { Answers GraphFault.NoMemory (grouping_fault self.now.names (given names.now)) result }
     {
         if names.is_empty() {
@@ -102,7 +111,9 @@ impl GraphBuilder {
     /// Both groups as one: the first's names, then those of the second that the first lacks.
     #[tactic(auto, using(crate::proofs::Answering::answering, std::proofs::lemmas::Grind::common_steps))]
     pub fn and(&self, first: &Group, second: &Group) -> Result<Group, GraphFault>
+        // It has the first's names, then those that the second has more, each once.
         ensures group { IfOk result (λ group. group ≡ first.now ++ new_names first.now second.now) }
+        // A name that is not declared is refused; else only memory may run out.
         ensures answer { Answers GraphFault.NoMemory (stranger_fault self.now.names (first.now ++ second.now)) result }
     {
         check_group(&self.names, first.names())?;
@@ -114,9 +125,13 @@ impl GraphBuilder {
     /// that is there never lacks memory.
     #[tactic(auto, using(crate::proofs::Answering::answering))]
     pub fn edge(&mut self, up: &str, down: &str) -> Result<(), GraphFault>
+        // The edge is declared, once, also where it was there before.
         ensures connected { OnOk result (self.new ≡ connected self.old up.now down.now) }
+        // A name that is not declared is refused; else only memory may run out.
         ensures answer { Answers GraphFault.NoMemory (stranger_fault self.old.names (up.now ∷ down.now ∷ [])) result }
+        // Memory runs out only for an edge that was not there.
         ensures memory { IsErrOf result GraphFault.NoMemory → is_upstream_of self.old.edges (index_of self.old.names up.now) (index_of self.old.names down.now) ≡ false }
+        // A fault leaves the declaration as it was.
         ensures unchanged { OnErr result (self.new ≡ self.old) }
     {
         check_declared(&self.names, &[up, down])?;
@@ -130,13 +145,18 @@ impl GraphBuilder {
 
     /// Builds the graph, which numbers the handlers in their built order. The builder is spent, at a refusal too.
     pub fn build(self) -> Result<Graph, GraphFault>
+        // It has the declared handlers in the built order, each with exactly its direct upstreams.
         ensures built { IfOk result (λ graph. IsGraphOf self graph) }
+        // It has 1 to 16 handlers, each after its upstreams; to wait for all finals is to wait for each.
         ensures lawful { IfOk result (λ graph. IsGraph graph.upstreams) }
 
-        // What holds of every declaration is said here.
+        // Of every declaration: it has at most 16 handlers, no two of one name, and edges between them alone.
         ensures declaration { IsDeclaration self }
+        // A graph is built only where there is no cycle.
         ensures acyclic { IsOk result → HasCycle self.edges → ⊥ }
+        // That there are no handlers is answered exactly where none is declared.
         ensures no_handlers { IsErrOf result GraphFault.NoHandlers ↔ (self.names ≡ []) }
+        // A cycle is answered only where there is one; any other fault is that memory ran out.
         ensures cycle { IsErrOf result GraphFault.Cycle → HasCycle self.edges }
         ensures refused { IfErr result (λ fault. (fault ≡ GraphFault.NoHandlers) ⊎ ((fault ≡ GraphFault.Cycle) ⊎ (fault ≡ GraphFault.NoMemory))) }
     {

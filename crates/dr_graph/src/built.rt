@@ -40,9 +40,12 @@ impl Model for Graph {
 impl Graph {
     /// How many handlers there are. The contract also says what holds of every graph.
     pub fn len(&self) -> usize
+        // Each handler has a list of upstreams, and a name.
         ensures handlers { result ≡ length self.now.upstreams }
         ensures names { result ≡ length self.now.names }
+        // No two handlers have the same name.
         ensures distinct { AreDistinct self.now.names }
+        // There are 1 to 16 handlers, each after its upstreams; to wait for all finals is to wait for each.
         ensures lawful { IsGraph self.now.upstreams }
     {
         self.upstreams.len()

@@ -9,8 +9,11 @@ ghost use Rattle.dr_graph.specs.Meaning.Placing.{FindsGraph};
 /// most its own, and so the finals' least count is at most every handler's. This is so of the handlers that are left,
 /// whichever are gone; and where more go and one is left, the least count does not fall.
 pub fn finals_gate()
+    // Each handler that is left has a final one, of those left, whose count is at most its own.
     ensures each { (graph : List (List ℕ)) → IsLayered graph → FinalsGate graph }
+    // The finals' least count is at most the count of each handler that is left.
     ensures least { (graph : List (List ℕ)) → IsGraph graph → LeastGates graph }
+    // Where more handlers go and one is left, the finals' least count does not fall.
     ensures rises { (graph : List (List ℕ)) → IsGraph graph → LeastRises graph }
 {}
 

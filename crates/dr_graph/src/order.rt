@@ -43,9 +43,12 @@ fn first_ready(count: usize, edges: &[Edge], placed: &[usize]) -> Option<usize>
 /// The built order, or that there is a cycle.
 pub fn place_all(alloc: Global, count: usize, edges: &[Edge]) -> Result<Vec<usize>, GraphFault>
     requires { AreWithin count edges.now }
+    // It has all handlers, each once, always the first declared one whose upstreams are all placed.
     ensures built { IfOk result (λ order. IsBuiltOrder count edges.now order.items) }
+    // There is an order only without a cycle, and a cycle is answered only where there is one.
     ensures acyclic { IsOk result → HasCycle edges.now → ⊥ }
     ensures cycle { result ≡ Err GraphFault.Cycle → HasCycle edges.now }
+    // Any other fault is that memory ran out.
     ensures refused { IfErr result (λ fault. (fault ≡ GraphFault.Cycle) ⊎ (fault ≡ GraphFault.NoMemory)) }
 {
     let mut placed = Vec::new(alloc);
@@ -83,6 +86,7 @@ pub fn all_upstreams(
     edges: &[Edge],
     order: &[usize],
 ) -> Result<Vec<Vec<usize>>, AllocError>
+    // There is a list for each handler of the order: exactly its direct upstreams before it, rising.
     ensures len { IfOk result (λ lists. length lists.items ≡ length order.now) }
     ensures each { IfOk result (λ lists. AreLists edges.now order.now (map (λ ups. ups.items) lists.items)) }
 {

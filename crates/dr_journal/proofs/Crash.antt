@@ -4,7 +4,7 @@ use Rattle.std.specs.Prelude.{replicate}
 use Rattle.std.proofs.lemmas.List.{length-replicate}
 use Rattle.dr_journal.specs.Meaning.Disk.{Mixed, Grown, Follows, Only, IsUntouched, written}
 use Rattle.dr_journal.specs.Meaning.Format.{header, behind_header, whole_length, whole_batches, records_from, recovered, frame}
-use Rattle.dr_journal.specs.Inside.Parts.{device_of, end_of, length_of}
+use Rattle.dr_journal.specs.Calls.Parts.{device_of, end_of, length_of}
 use Rattle.dr_journal.specs.Calls.Journals.{IsAtRest, StandsFor, IsBeforeOrAfter, file_of, records_of}
 use Rattle.dr_journal.specs.declared.journal.Journal.{Journal}
 use Rattle.dr_journal.proofs.Codes.{IsWhole, is_whole, length-kept}

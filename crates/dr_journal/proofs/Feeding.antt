@@ -8,7 +8,8 @@ use Rattle.std.proofs.Math.Seq.{split_at, take-append_seam, drop-append_seam}
 use Rattle.dr_journal.specs.Meaning.Format.{header, IsJournal, IsNew, IsForeign, behind_header, records_in, recovered}
 use Rattle.dr_journal.specs.Calls.Journals.{bytes_of}
 use Rattle.dr_journal.specs.Calls.Reading.{Reads, ReadsOn, IsForeignSoFar}
-use Rattle.dr_journal.specs.Inside.Reading.{HasRead, HasScanned, Takes, tail_of}
+use Rattle.dr_journal.specs.Calls.Readers.{HasRead}
+use Rattle.dr_journal.specs.Inside.Reading.{HasScanned, Takes, tail_of}
 use Rattle.dr_journal.specs.declared.recovery.Recovery.{Recovery}
 use Rattle.dr_journal.specs.declared.fault.OpenFault.{OpenFault}
 use Rattle.dr_journal.specs.declared.fault.OpenFault.TheVariants.{NotAJournal, InUse, Journal}

@@ -1,6 +1,7 @@
 mod Batches
 mod Codes
 mod Crash
+pub mod Crossing
 mod Feeding
 mod Frames
 mod Headers
@@ -12,6 +13,6 @@ mod Openings
 mod Reading
 mod Repairs
 mod Runs
-mod Shown
+pub mod Shown
 mod Values
 mod Words

@@ -24,7 +24,7 @@ pub struct Journaling<D: Device> {
 
 impl<D: Device> Journaling<D> {
     ghost use Rattle.dr_journal.specs.Calls.Handling.{Writer};
-    ghost use Rattle.dr_journal.specs.Inside.Handler.{writer_of};
+    ghost use Rattle.dr_journal.specs.Calls.Writers.{writer_of};
 
     /// A handler that goes on from a journal.
     pub fn new(alloc: Global, journal: Journal<D>) -> Journaling<D>
@@ -109,7 +109,7 @@ fn take_event<D: Device, E: AsRecord>(
 
 impl<D: Device, E: AsRecord> InPlaceHandler<E> for Journaling<D> {
     ghost use Rattle.dr_journal.specs.Calls.Handling.{Journals};
-    ghost use Rattle.dr_journal.specs.Inside.Handler.{writer_of};
+    ghost use Rattle.dr_journal.specs.Calls.Writers.{writer_of};
 
     ghost goes = { λ old event s end new. Journals D.seen D.may_leave D.moment D.left_since D.faults (writer_of old) (E.record_of (E.value event)) end (writer_of new) × ((writer_of new).fault ≡ None → E.value_in (E.record_of (E.value event)) ≡ Some (E.value event)) };
 

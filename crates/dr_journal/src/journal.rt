@@ -4,7 +4,7 @@ ghost use Rattle.std.specs.Prelude.{◌≡◌, ◌⊎◌, ◌≤◌, ◌<◌, �
 ghost use Rattle.dr_journal.specs.declared.fault.JournalFault.TheVariants.{NoMemory, Failed, Full};
 ghost use Rattle.dr_journal.specs.Meaning.Disk.{HasCause};
 ghost use Rattle.dr_journal.specs.Meaning.Format.{frame};
-ghost use Rattle.dr_journal.specs.Inside.Parts.{device_of, end_of, length_of};
+ghost use Rattle.dr_journal.specs.Calls.Parts.{device_of, end_of, length_of};
 ghost use Rattle.dr_journal.specs.Calls.Journals.{IsAtRest, StandsFor, IsBeforeOrAfter, HasBeginning, IsRefused, IsTooLarge, HasTooLarge, CrashLeaves, bytes_of, file_of, records_of, first_of, faults_of};
 
 use crate::coding::{frame_of, zeros};

@@ -2,7 +2,7 @@
 
 ghost use Rattle.std.specs.Prelude.{◌≡◌, ◌<◌, List, ℕ, [], ◌∷◌, ◌++◌, length, take};
 ghost use Rattle.dr_journal.specs.Meaning.Format.{whole_batches, records_in, frame};
-ghost use Rattle.dr_journal.specs.Calls.Handling.{KeepsAll};
+ghost use Rattle.dr_journal.specs.Calls.Handling.{KeepsAll, OnlyAdds};
 
 use crate::Device;
 
@@ -17,5 +17,8 @@ pub fn batches_come_back()
 /// What a handler was shown, up to an event that is marked as an end, is in its file, and each crash
 /// leaves it, as long as the handler has not failed.
 pub fn what_was_shown_is_kept<D: Device>()
-    ensures { KeepsAll D.seen D.may_leave D.moment D.left_since D.faults }
+    // Up to a mark all of it is stored.
+    ensures kept { KeepsAll D.seen D.may_leave D.moment D.left_since D.faults }
+    // Whatever comes later, a crash leaves what was stored before, and the first of what came since.
+    ensures any_moment { OnlyAdds D.seen D.may_leave D.moment D.left_since D.faults }
 {}

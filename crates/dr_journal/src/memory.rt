@@ -16,7 +16,7 @@ pub struct MemoryDevice {
 }
 
 impl MemoryDevice {
-    ghost use Rattle.dr_journal.specs.Inside.Memory.{memory_bytes};
+    ghost use Rattle.dr_journal.specs.Calls.Memory.{memory_bytes};
 
     /// A file with these bytes, all of them on the disk.
     pub fn new(alloc: Global, bytes: Vec<u8>) -> Self

@@ -3,9 +3,9 @@
 ghost use Rattle.std.specs.Prelude.{◌≡◌, ◌≤◌, ◌^◌, List, ℕ, length, IfOk, None};
 ghost use Rattle.dr_journal.specs.Inside.File.{seen_in, left_in, moment_in, faults_in};
 ghost use Rattle.dr_journal.specs.Meaning.Disk.{Only};
-ghost use Rattle.dr_journal.specs.Inside.Reading.{HasRead};
+ghost use Rattle.dr_journal.specs.Calls.Readers.{HasRead};
 ghost use Rattle.dr_journal.specs.Meaning.Format.{recovered};
-ghost use Rattle.dr_journal.specs.Inside.Parts.{device_of};
+ghost use Rattle.dr_journal.specs.Calls.Parts.{device_of};
 ghost use Rattle.dr_journal.specs.Calls.Journals.{IsAtRest, bytes_of, records_of};
 
 use crate::file::Calls;
@@ -46,8 +46,8 @@ pub struct Opening {
 }
 
 impl Opening {
-    ghost use Rattle.std.specs.Prelude.{[], OnOk};
-    ghost use Rattle.dr_journal.specs.Inside.Opened.{read_so_far, file_seen, file_left, file_left_since};
+    ghost use Rattle.std.specs.Prelude.{[], OnErr, OnOk};
+    ghost use Rattle.dr_journal.specs.Calls.Opened.{read_so_far, file_seen, file_left, file_left_since, file_faults};
     ghost use Rattle.dr_journal.specs.Calls.Reading.{AddsNext};
 
     /// Opens and locks the file of this path, of which nothing is read yet. A file that is missing is made;
@@ -76,6 +76,8 @@ impl Opening {
     pub fn next_records(&mut self, records: &mut Vec<Vec<u8>>) -> Result<bool, OpenFault>
         // The records added are those by which the file so far stands for more than before.
         ensures added { OnOk result (AddsNext (read_so_far self.old) (read_so_far self.new) records.old.items records.new.items) }
+        // A piece that is not read, or is no journal's, counts for nothing.
+        ensures stays { OnErr result (read_so_far self.new ≡ read_so_far self.old) }
     {
         if let Some(fault) = self.fault {
             return Err(fault);
@@ -109,6 +111,8 @@ impl Opening {
         ensures same { IfOk result (λ j. records_of file_seen j ≡ recovered (read_so_far self)) }
         // Since it was written back, a crash left the same records.
         ensures any_moment { IfOk result (λ j. (c : List ℕ) → file_left_since (device_of j) 0 c → recovered c ≡ recovered (read_so_far self)) }
+        // A failure of the disk is told.
+        ensures reliable { IfOk result (λ j. file_faults (device_of j) ≡ 0) }
     {
         if let Some(fault) = self.fault {
             return Err(fault);

@@ -5,7 +5,7 @@ ghost use Rattle.dr_journal.specs.declared.fault.JournalFault.TheVariants.{NoMem
 ghost use Rattle.dr_journal.specs.declared.fault.OpenFault.TheVariants.{NotAJournal, InUse, Journal as JournalFailed};
 ghost use Rattle.dr_journal.specs.Meaning.Disk.{Only, LeavesOnly, IsUntouched};
 ghost use Rattle.dr_journal.specs.Meaning.Format.{IsForeign, recovered};
-ghost use Rattle.dr_journal.specs.Inside.Parts.{device_of};
+ghost use Rattle.dr_journal.specs.Calls.Parts.{device_of};
 ghost use Rattle.dr_journal.specs.Calls.Journals.{IsAtRest, bytes_of, records_of};
 ghost use Rattle.dr_journal.specs.Calls.Opening.{StandsForTheSame};
 
@@ -26,7 +26,8 @@ pub struct Recovery {
 }
 
 impl Recovery {
-    ghost use Rattle.dr_journal.specs.Inside.Reading.{HasRead, count_of, unsure_from};
+    ghost use Rattle.dr_journal.specs.Calls.Readers.{HasRead, count_of};
+    ghost use Rattle.dr_journal.specs.Inside.Reading.{unsure_from};
     ghost use Rattle.dr_journal.specs.Calls.Reading.{Reads, ReadsOn, IsForeignSoFar};
 
     /// A reader of a file of which no byte came yet.

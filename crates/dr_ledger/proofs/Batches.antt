@@ -13,7 +13,7 @@ use Rattle.dr_workers.proofs.Along.{along}
 use Rattle.dr_meaning.specs.Calls.Handling.{GoesThrough, showings}
 use Rattle.dr_accounts.specs.declared.responder.Responder.{Responder}
 use Rattle.dr_journal.specs.Calls.Journals.{IsAtRest, records_of}
-use Rattle.dr_journal.specs.Inside.Parts.{device_of}
+use Rattle.dr_journal.specs.Calls.Parts.{device_of}
 use Rattle.dr_journal.specs.declared.journal.Journal.{Journal}
 use Rattle.dr_ledger.specs.Batches.{IsCopyAtRest, Replies, Stores, Takes}
 use Rattle.dr_ledger.specs.Serving.{AreAnswered, IsKept, Leaves, Written}

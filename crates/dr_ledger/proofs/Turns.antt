@@ -3,7 +3,7 @@ use Rattle.std.proofs.Common.{ℕ, Bool, true, false, List, [], ◌++◌, Option
 use Rattle.std.proofs.KnownBytes.{Appends-nil}
 use Rattle.dr_seq.specs.declared.event.Event.{Event}
 use Rattle.dr_journal.specs.Calls.Journals.{CrashLeaves}
-use Rattle.dr_journal.specs.Inside.Parts.{device_of}
+use Rattle.dr_journal.specs.Calls.Parts.{device_of}
 use Rattle.dr_operations.specs.declared.event_stream.EventStream.{EventStream}
 use Rattle.dr_ledger.specs.Batches.{Takes, Turned}
 use Rattle.dr_ledger.specs.Serving.{IsKept, Leaves, Served, Written}

@@ -10,7 +10,7 @@ use Rattle.dr_ledger.specs.declared.fault.LedgerFault.{LedgerFault}
 use Rattle.dr_ledger.specs.declared.fault.LedgerFault.TheVariants as fault
 use Rattle.dr_ledger.specs.declared.ledger.Ledger.{Ledger}
 use Rattle.dr_journal.specs.Calls.Journals.{CrashLeaves}
-use Rattle.dr_journal.specs.Inside.Parts.{device_of}
+use Rattle.dr_journal.specs.Calls.Parts.{device_of}
 use Rattle.dr_ledger.specs.Standing.{Holds, IsAtWork, IsBeginning, StandsForThem, journal_of}
 
 -- what the output has before and after

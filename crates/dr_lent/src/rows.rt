@@ -27,6 +27,7 @@ pub fn blanks<T>(alloc: Global, count: usize) -> Result<Vec<Token<T>>, AllocErro
 /// Puts one in place of another, which it gives.
 pub fn put_at<S>(row: &mut Vec<S>, place: usize, new: S) -> S
     requires { place < length row.old.items }
+    // The new one is at the place, and the one that was there comes out.
     ensures row { row.new.items ≡ slice_set row.old.items place new }
     ensures was { get_elem? row.old.items place ≡ some result }
 {
@@ -87,7 +88,9 @@ pub fn change_by<T, F: FnMut(&mut T, u64)>(
 )
     requires cell { IsOf cells.ptr place token.old × IsWhole token.old.hold }
     requires callable { F.IsAlwaysCallable fill.old }
+    // What lay in the cell was changed by a call of the closure, which is now what that call left of it.
     ensures changed { (was : T) × (now : T) × (token.old.hold ≡ whole was) × (token.new ≡ token_at cells.ptr place (whole now)) × CalledWithState F.FnMut fill.old was number tt fill.new now }
+    // You may call the closure again.
     ensures callable { F.IsAlwaysCallable fill.new }
 {
     fill(token.get_mut(cells, place), number);
@@ -103,6 +106,7 @@ pub fn at<S>(row: &Vec<S>, place: usize) -> &S
 
 /// As many empty rows of tokens.
 pub fn empty_hands<T>(alloc: Global, count: usize) -> Result<Vec<Vec<Token<T>>>, AllocError>
+    // There are so many, and each is empty.
     ensures count { IfOk result (λ hands. length hands.items ≡ count) }
     ensures empty { IfOk result (λ hands. All (λ hand. hand.items ≡ []) hands.items) }
 {
@@ -136,6 +140,7 @@ pub fn regain_at<T>(tokens: &mut Vec<Token<T>>, place: usize)
 /// The row of all cells of a strip, from their tokens.
 pub fn whole_row<T>(cells: Cells<T>, mut tokens: Vec<Token<T>>) -> Row<T>
     requires { AreAllWhole cells.ptr tokens.items }
+    // It is the row of all these cells, and holds what the tokens said, in their order.
     ensures all { IsAll cells.ptr (length tokens.items) result }
     ensures items { map (λ x. Some x) result.items ≡ cells_of tokens.items }
 {

@@ -39,6 +39,7 @@ pub fn take_slot<T, V, K, P: TableRule<Token<T>, V, K>>(
 ) -> Token<T>
     requires table { seat.old.table_id ≡ words.now.table_id }
     requires slot { (old : TokenValue T) × (seat.old.me.1 ≡ (slot, old) ∷ rest seat.old.me.1) }
+    // It comes out of the first slot in hand, which is empty then and goes behind the others.
     ensures seat { seat.new.table_id ≡ seat.old.table_id }
     ensures taken { (seat.old.me.1 ≡ (slot, result) ∷ rest seat.old.me.1) × (seat.new.me.1 ≡ rest seat.old.me.1 ++ (slot, no_token) ∷ []) }
 {
@@ -59,6 +60,7 @@ pub fn draw<T, V, K, P: TableRule<Token<T>, V, K>>(
     requires table { seat.old.table_id ≡ words.now.table_id }
     requires place { place < length parts.old.items }
     requires slot { MatchBool held ⊤ ((old : TokenValue T) × (seat.old.me.1 ≡ (slot, old) ∷ rest seat.old.me.1)) }
+    // It comes out of the hand, or else of the first slot, which is empty then and goes behind the others.
     ensures seat { seat.new.table_id ≡ seat.old.table_id }
     ensures drawn { MatchBool held ((get_elem? parts.old.items place ≡ some result) × (parts.new.items ≡ slice_set parts.old.items place no_token) × (seat.new.me.1 ≡ seat.old.me.1)) ((parts.new.items ≡ parts.old.items) × (seat.old.me.1 ≡ (slot, result) ∷ rest seat.old.me.1) × (seat.new.me.1 ≡ rest seat.old.me.1 ++ (slot, no_token) ∷ [])) }
 {

@@ -22,7 +22,9 @@ pub fn audit<E: Copy + Same>(
     recorded: &Recorded<E>,
     scripts: &[&[E]],
 ) -> Result<Vec<E>, AuditFault>
+    // All published events, a merge of the scripts, which each handler that is not retired received.
     ensures list { IfOk result (λ list. IsAudited (transcript recorded.now.history) (handlers recorded.now.history.core.setup) (scripts_of scripts.now) list.items) }
+    // The least producer that did not send its script, else the least handler left that lacks events.
     ensures fault { IfErr result (Faults (transcript recorded.now.history) (handlers recorded.now.history.core.setup) (scripts_of scripts.now)) }
 {
     every_transcript_tells_its_state::<E>();

@@ -7,6 +7,9 @@
 //! [`LockedInlet`] and [`LockedOutlet`] make an end a producer's or a handler's. [`halt`] halts the
 //! exchange. [`audit`] compares a history with what its producers were to send. Begin with
 //! `specs/Meaning/History`, then `Audit` beside it.
+//!
+//! Outside `end.rt` nothing but a call changes an end or the history under the lock. So what an end
+//! remembers is what was called through it, and what it got.
 #![tactic(auto)]
 
 pub mod audit_fault;

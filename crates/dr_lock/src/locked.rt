@@ -32,6 +32,7 @@ impl<'a, E: Copy, L: Exchange<E>, R: Wait> LockedInlet<'a, E, L, R> {
         end: End<E, L>,
         p: u64,
     ) -> LockedInlet<'a, E, L, R>
+        // It calls as this producer, through this end.
         ensures number { result.p ≡ p }
         ensures end { result.end ≡ end }
     {
@@ -59,6 +60,7 @@ impl<E: Copy, L: Exchange<E>, R: Wait> Inlet<E> for LockedInlet<'_, E, L, R> {
     fn try_claim(&mut self, n: u64) -> Result<Claimed, Trouble>
         ensures kept { self.new.p ≡ self.old.p }
         ensures answer { ClaimAnswers {E = E} None n result }
+        // As this producer it asks just this, and the machine answers so after some history that goes on.
         ensures asked { (self.new.p ≡ self.old.p) × IsAsked L.begun (Command.Claim self.old.p n) claim_reply (λ answer. []) self.old.end result self.new.end }
     {
         let command = Command::Claim { p: self.p, n };
@@ -74,6 +76,7 @@ impl<E: Copy, L: Exchange<E>, R: Wait> Inlet<E> for LockedInlet<'_, E, L, R> {
     fn write(&mut self, s: u64, event: E) -> Result<(), Trouble>
         ensures kept { self.new.p ≡ self.old.p }
         ensures answer { WriteAnswers {E = E} None s result }
+        // As this producer it asks just this, and the machine answers so after some history that goes on.
         ensures asked { (self.new.p ≡ self.old.p) × IsAsked L.begun (Command.Write self.old.p s event) (unit_reply Reply.Written) (λ answer. []) self.old.end result self.new.end }
     {
         let command = Command::Write {
@@ -95,6 +98,7 @@ impl<E: Copy, L: Exchange<E>, R: Wait> Inlet<E> for LockedInlet<'_, E, L, R> {
         requires limit { lo + length events.now ≤ 2 ^ 62 }
         ensures kept { self.new.p ≡ self.old.p }
         ensures answer { WriteAllAnswers {E = E} None lo (length events.now) result }
+        // As this producer it asks just these writes, and the machine answers each after some such history.
         ensures machine { AreWritten L.begun self.old.p lo events.now result }
         ensures counted { (self.new.end.calls ≡ self.old.end.calls + result.count) × (self.new.end.halts ≡ self.old.end.halts) }
         ensures end { self.new.end ≡ after_calls (writes_asked self.old.p lo events.now result) self.old.end }
@@ -108,6 +112,7 @@ impl<E: Copy, L: Exchange<E>, R: Wait> Inlet<E> for LockedInlet<'_, E, L, R> {
     fn publish(&mut self, lo: u64, hi: u64) -> Result<(), Trouble>
         ensures kept { self.new.p ≡ self.old.p }
         ensures answer { PublishAnswers {E = E} None lo hi result }
+        // As this producer it asks just this, and the machine answers so after some history that goes on.
         ensures asked { (self.new.p ≡ self.old.p) × IsAsked L.begun (Command.Publish self.old.p lo hi) (unit_reply Reply.Published) (λ answer. []) self.old.end result self.new.end }
     {
         let command = Command::Publish { p: self.p, lo, hi };
@@ -140,6 +145,7 @@ impl<'a, E: Copy, L: Exchange<E>, R: Wait> LockedOutlet<'a, E, L, R> {
         end: End<E, L>,
         h: usize,
     ) -> LockedOutlet<'a, E, L, R>
+        // It calls as this handler, through this end, and was not told yet that the exchange drained.
         ensures number { result.h ≡ h }
         ensures end { result.end ≡ end }
         ensures told { result.told ≡ false }
@@ -177,6 +183,7 @@ impl<E: Copy, L: Exchange<E>, R: Wait> Outlet<E> for LockedOutlet<'_, E, L, R> {
         ensures kept { self.new.h ≡ self.old.h }
         ensures answer { PollAnswers {E = E} None out.old out.new result }
         ensures told { self.new.told ≡ (self.old.told || is_drained result) }
+        // As this handler it asks just this, and the machine answers so after some history that goes on.
         ensures asked { (self.new.h ≡ self.old.h) × IsAsked L.begun (Command.Poll self.old.h (length out.old)) poll_reply (λ answer. polled answer out.new) self.old.end result self.new.end }
     {
         let command = Command::Poll {
@@ -202,6 +209,7 @@ impl<E: Copy, L: Exchange<E>, R: Wait> Outlet<E> for LockedOutlet<'_, E, L, R> {
         ensures kept { self.new.h ≡ self.old.h }
         ensures answer { CompleteAnswers {E = E} None upto result }
         ensures told { self.new.told ≡ self.old.told }
+        // As this handler it asks just this, and the machine answers so after some history that goes on.
         ensures asked { (self.new.h ≡ self.old.h) × IsAsked L.begun (Command.Complete self.old.h upto) (unit_reply Reply.Completed) (λ answer. []) self.old.end result self.new.end }
     {
         let command = Command::Complete { h: self.h, upto };

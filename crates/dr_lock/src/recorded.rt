@@ -55,9 +55,12 @@ impl<E: Copy> Recorded<E> {
         entries: usize,
         events: usize,
     ) -> Result<Recorded<E>, OpenFault>
+        // The new core has this setup and the graph's names, and shows the machine's opening state.
         ensures opened { IfOk result (λ recorded. IsOpened recorded.history.core (setup_of graph.upstreams size mode limit) graph.names) }
+        // Nothing is kept yet, and there is room for so many entries and events.
         ensures empty { IfOk result (λ recorded. (recorded.history.entries ≡ []) × (recorded.history.values ≡ [])) }
         ensures room { IfOk result (λ recorded. (recorded.entry_room ≡ entries) × (recorded.value_room ≡ events)) }
+        // A bad number of producers and then a bad limit are refused; else only memory may run out.
         ensures answer { Answers OpenFault.NoMemory (open_fault mode limit) result }
     {
         every_transcript_is_lawful::<E>();
@@ -73,6 +76,7 @@ impl<E: Copy> Recorded<E> {
 
     /// Who follows whom.
     pub fn graph(&self) -> &Graph
+        // It has the names and the upstreams of the graph that the core was opened over.
         ensures names { result.now.names ≡ self.now.history.core.names }
         ensures upstreams { result.now.upstreams ≡ self.now.history.core.setup.upstreams }
     {
@@ -106,7 +110,9 @@ impl<E: Copy> Recorded<E> {
     /// `Idle`, which change nothing. With the events of their batches they lead from the opening to
     /// what the core shows, and so they have the five laws.
     pub fn history(&self) -> &[Entry<E>]
+        // They are the calls that were kept.
         ensures entries { result.now ≡ self.now.history.entries }
+        // With the events of their batches they lead to a state that the core shows, and have the five laws.
         ensures recorded { IsRecorded self.now.history }
     {
         &self.entries
@@ -123,7 +129,9 @@ impl<E: Copy> Recorded<E> {
 
     /// The events of the kept batches, joined in order.
     pub fn values(&self) -> &[E]
+        // They are the events of the kept batches.
         ensures values { result.now ≡ self.now.history.values }
+        // The history leads to a state that the core shows, and has the five laws.
         ensures recorded { IsRecorded self.now.history }
     {
         &self.values
@@ -135,15 +143,23 @@ impl<E: Copy> Recorded<E> {
     /// reply. Where an allocation fails nothing has changed.
     pub fn call(&mut self, command: Command<E>, out: &mut [E]) -> Result<Reply, AllocError>
         requires { asked command ≤ length out.old }
+        // On each state that the core shows the machine gives this reply and the events in front in `out`.
         ensures step { IfOk result (λ reply. IsStep self.old.history.core command reply (take (count_in reply) out.new) self.new.history.core) }
+        // The machine answers so after some history that goes on from this one.
         ensures answer { IfOk result (λ reply. IsAnswer self.old.history command reply (take (count_in reply) out.new)) }
+        // A batch fits into `out`.
         ensures fits { IfOk result (λ reply. count_in reply ≤ length out.new) }
+        // The call and its events are added to the history, unless it is refused, `Gating` or `Idle`.
         ensures entries { IfOk result (λ reply. self.new.history.entries ≡ entries_after self.old.history.entries (record { command = command; reply = reply })) }
         ensures values { IfOk result (λ reply. self.new.history.values ≡ self.old.history.values ++ take (count_in reply) out.new) }
+        // What lies in `out` behind the batch stays.
         ensures rest { IfOk result (λ reply. drop (count_in reply) out.new ≡ drop (count_in reply) out.old) }
+        // A refusal leaves the history as it was, and where memory ran out `out` stays too.
         ensures refused { (refusal : Refusal) → result ≡ Ok (Reply.Refused refusal) → self.new.history ≡ self.old.history }
         ensures unchanged { OnErr result ((self.new.history ≡ self.old.history) × (out.new ≡ out.old)) }
+        // Memory runs out only where room was missing for one entry more, or for the events of the reply.
         ensures memory { OnErr result ((m : State E) → Shows self.old.history.core m → (self.old.entry_room < length self.old.history.entries + 1) ⊎ (self.old.value_room < length self.old.history.values + length (step self.old.history.core.setup m command).values)) }
+        // It has fewer than 2^64 entries, and loses no room.
         ensures counted { length self.new.history.entries < 2 ^ 64 }
         ensures room { (self.old.entry_room ≤ self.new.entry_room) × (self.old.value_room ≤ self.new.value_room) }
     {

@@ -79,6 +79,7 @@ impl<E: Copy, L: Exchange<E>> Shared<E, L> {
         requires parts { blank.parts ≡ L.parts }
         requires ends { blank.parts ≡ 65 }
         requires begun { recorded.history ≡ L.begun }
+        // It remembers how long the history was, and gave out no end yet.
         ensures begun { result.begun ≡ length recorded.history.entries }
         ensures given { result.given ≡ 0 }
     {
@@ -109,6 +110,7 @@ impl<E: Copy, L: Exchange<E>> Shared<E, L> {
 
     /// An end for one thread, or `None` after [`MAX_ENDS`].
     pub fn end(&mut self) -> Option<End<E, L>>
+        // The end made no call yet; there is none once 64 are given out.
         ensures end { MatchOption result ((self.old.given ≡ 64) × (self.new ≡ self.old)) (λ end. (end ≡ no_calls) × (self.new ≡ record self.old { given = self.old.given + 1 })) }
     {
         if self.given == MAX_ENDS {
@@ -132,9 +134,12 @@ impl<E: Copy, L: Exchange<E>> Shared<E, L> {
         out: &mut [E],
     ) -> Result<Reply, AllocError>
         requires { asked command ≤ length out.old }
+        // The machine answers so after some history that goes on from the one that came behind the lock.
         ensures answer { IfOk result (λ reply. IsAnswer L.begun command reply (take (count_in reply) out.new)) }
+        // What lies in `out` behind the batch stays, and all of it where memory ran out.
         ensures rest { IfOk result (λ reply. drop (count_in reply) out.new ≡ drop (count_in reply) out.old) }
         ensures unchanged { OnErr result (out.new ≡ out.old) }
+        // The end remembers the call with its answer and its events, and counts it if it was kept.
         ensures end { end.new ≡ handed (handed_out (result_ok result) out.new) (after_call command (result_ok result) end.old) }
     {
         held(&self.locked, rt).call(end, command, out)
@@ -152,8 +157,11 @@ impl<E: Copy, L: Exchange<E>> Shared<E, L> {
         events: &[E],
     ) -> Wrote
         requires limit { lo + length events.now ≤ 2 ^ 62 }
+        // Each write is answered by the machine after some history that goes on, up to the first in trouble.
         ensures answer { AreWritten L.begun p lo events.now result }
+        // It counts as many calls as events were written, and no halt.
         ensures counts { (end.new.calls ≡ end.old.calls + result.count) × (end.new.halts ≡ end.old.halts) }
+        // It remembers each write with its answer, also the one in trouble.
         ensures end { end.new ≡ after_calls (writes_asked p lo events.now result) end.old }
     {
         held(&self.locked, rt).write_all(end, p, lo, events)
@@ -184,10 +192,14 @@ pub fn finish<E, L: Exchange<E>>(
     shared: Shared<E, L>,
     ends: Vec<End<E, L>>,
 ) -> Result<Recorded<E>, Unfinished<E, L>>
+    // It fails exactly where an end is missing.
     ensures missing { IsErr result ↔ (vec_len ends < shared.given) }
+    // The history goes on from the one that came behind the lock.
     ensures goes_on { IfOk result (λ recorded. GoesOn L.begun recorded.history) }
+    // It has as many entries more, and among them as many halts, as the ends counted.
     ensures entries { IfOk result (λ recorded. length recorded.history.entries ≡ shared.begun + sum_by (λ end. end.calls) ends.items) }
     ensures halts { IfOk result (λ recorded. halts_in (entries_since L.begun recorded.history) ≡ sum_by (λ end. end.halts) ends.items) }
+    // Where it fails, the history behind its lock and the ends come back.
     ensures back { IfErr result (λ unfinished. (unfinished.shared ≡ shared) × (unfinished.ends ≡ ends)) }
 {
     if ends.len() < shared.given {

@@ -13,6 +13,7 @@ pub trait Handler<E> {
     /// Handles the event of a sequence. `end` marks the last event that was available, so that a
     /// handler may put its work off until then, as LMAX's end of batch does.
     fn on_event(&mut self, event: E, s: u64, end: bool)
+        // The relation `goes` of its type leads from what it was, by this event, to what it is then.
         ensures { goes self.old event s end self.new };
 }
 
@@ -24,6 +25,7 @@ pub trait InPlaceHandler<E> {
 
     /// Handles the event of a sequence, as [`Handler::on_event`] does.
     fn on_event_in_place(&mut self, event: &E, s: u64, end: bool)
+        // The relation `goes` of its type leads from what it was, by this event, to what it is then.
         ensures { goes self.old event.now s end self.new };
 }
 

@@ -38,9 +38,12 @@ pub trait InPlaceInlet {
     /// Claims the next `n` sequences. It waits for nothing.
     fn try_claim(&mut self, n: u64) -> Result<Claimed, ClaimFault>
         requires closed { (sending self.old).pending ≡ [] }
+        // It stays the same end.
         ensures kept { kept self.new ≡ kept self.old }
+        // An accepted claim gives `n` sequences, which are open then, none of them filled.
         ensures stretch { IfOk result (IsStretch n) }
         ensures opens { IfOk result (λ c. Opens c.lo n (sending self.old) (sending self.new)) }
+        // A refusal changes nothing that it shows, and is as its type says.
         ensures refused { IfErr result (λ fault. refuses self.old n fault self.new × (sending self.new ≡ sending self.old)) };
 
     /// Fills the event of a sequence that it claimed and did not publish, where it lies. What `change` finds there
@@ -48,6 +51,7 @@ pub trait InPlaceInlet {
     fn update<F: FnOnce(&mut Self::Event) + Drop>(&mut self, s: u64, change: F)
         requires callable { F.IsAlwaysCallable change }
         requires within { IsOpen (sending self.old) s }
+        // It stays the same end, and the sequence has what `change` left of what it found there.
         ensures kept { kept self.new ≡ kept self.old }
         ensures changes { Changes (λ was now. FnOnceReturnsAtMut F.FnOnce change was tt now) s (sending self.old) (sending self.new) };
 
@@ -55,6 +59,7 @@ pub trait InPlaceInlet {
     fn update_at<F: Fn(&mut Self::Event, u64)>(&mut self, s: u64, fill: &F, number: u64)
         requires callable { F.IsAlwaysCallable fill.now }
         requires within { IsOpen (sending self.old) s }
+        // It stays the same end, and the sequence has what `fill` left of what it found there.
         ensures kept { kept self.new ≡ kept self.old }
         ensures changes { Changes (FillsOne F.Fn fill.now number) s (sending self.old) (sending self.new) };
 
@@ -62,15 +67,19 @@ pub trait InPlaceInlet {
     fn update_by<F: FnMut(&mut Self::Event, u64)>(&mut self, s: u64, fill: &mut F, number: u64)
         requires callable { F.IsAlwaysCallable fill.old }
         requires within { IsOpen (sending self.old) s }
+        // It stays the same end, and the sequence has what `fill` left of what it found there.
         ensures kept { kept self.new ≡ kept self.old }
         ensures changes { Changes (λ was now. FillsFrom F.FnMut fill.old number was fill.new now) s (sending self.old) (sending self.new) }
+        // You may call `fill` again.
         ensures callable { F.IsAlwaysCallable fill.new };
 
     /// Publishes the stretch that it claimed, from its first sequence `lo` to its last `hi`, all of which is filled.
     fn publish(&mut self, lo: u64, hi: u64)
         requires whole { IsWhole lo hi (sending self.old) }
+        // It stays the same end; what was open is published in order, after all before, and nothing is open.
         ensures kept { kept self.new ≡ kept self.old }
         ensures publishes { Publishes (sending self.old) (sending self.new) }
+        // What its type says of such a publication holds too.
         ensures stores { stores self.old lo hi self.new };
 }
 
@@ -105,10 +114,15 @@ pub trait InPlaceOutlet {
     /// them until it completes them.
     fn poll(&mut self, room: u64) -> Polled
         requires room { 0 < room }
+        // It stays the same end.
         ensures kept { kept self.new ≡ kept self.old }
+        // It was told that the exchange drained if it was told so before, or is by this answer.
         ensures told { told self.new ≡ (told self.old || tells_drained result) }
+        // It still saw as many events published as it saw before.
         ensures saw { SawMore (saw self.old) (saw self.new) }
+        // A batch has the next events: all that were offered, and its end says so, or as many as fit.
         ensures taken { TakesUpTo room (offered self.new) (saw self.new) result (received self.old) (received self.new) }
+        // What its type says of such a call holds too.
         ensures called { does self.old (Polls room result) self.new };
 
     /// An event that it took and did not complete, where it lies: so a handler is shown an event before it is
@@ -122,10 +136,13 @@ pub trait InPlaceOutlet {
     fn complete(&mut self, upto: u64)
         requires low { (received self.old).completed ≤ upto }
         requires high { upto ≤ length (received self.old).events }
+        // It stays the same end, and what it was told, saw and found offered stays.
         ensures kept { kept self.new ≡ kept self.old }
         ensures told { told self.new ≡ told self.old }
         ensures saw { SawMore (saw self.old) (saw self.new) }
         ensures offered { offered self.new ≡ offered self.old }
+        // All below `upto` is completed, and what it received stays.
         ensures completed { received self.new ≡ with_completed (received self.old) upto }
+        // What its type says of such a call holds too.
         ensures called { does self.old (CompletesUpTo upto) self.new };
 }

@@ -29,40 +29,54 @@ pub fn every_transcript_is_lawful<E>()
 /// what is claimed already, or that passes a sequence over, or after a halt; and `Drained` before a
 /// halt, before what is published was taken, or over a claim that is not published.
 pub fn laws_refuse_a_step_too_far()
+    // Too far is an event that is not the published one, also one that was written before it.
     ensures other_event { IsTooFar pair published (receipt_of 0 6) }
     ensures other_event_after_an_upstream { IsTooFar pair completed (receipt_of 1 6) }
     ensures event_written_over { IsTooFar pair written_again (receipt_of 0 6) }
+    // An event that is not published, the first or a later one.
     ensures unpublished { IsTooFar pair written (receipt_of 0 5) }
     ensures unpublished_later { IsTooFar join first_taken (second_receipt 0 6) }
+    // An event that comes again, or before an earlier one, also after both upstreams.
     ensures received_again { IsTooFar join (two_published ++ first_receipt 0 5 ∷ []) (second_receipt 0 5) }
     ensures out_of_order { IsTooFar join two_published (first_receipt 1 6) }
     ensures out_of_order_after_both_upstreams { IsTooFar join completed_by_both (first_receipt 2 6) }
     ensures received_again_after_both_upstreams { IsTooFar join (completed_by_both ++ first_receipt 2 5 ∷ []) (second_receipt 2 5) }
+    // A completion that is taken back.
     ensures taken_back { IsTooFar pair completed (completion_of 0 0) }
     ensures taken_back_later { IsTooFar join completed_by_both (completion_of 0 1) }
+    // A completion of what was not taken.
     ensures untaken { IsTooFar pair published (completion_of 0 1) }
     ensures untaken_later { IsTooFar join (completed_beside 0) (completion_of 0 2) }
+    // An event that an upstream did not complete, whichever of two, the first or a later one.
     ensures before_upstream { IsTooFar pair taken (receipt_of 1 5) }
     ensures before_first_upstream { IsTooFar join (completed_beside 1) (first_receipt 2 5) }
     ensures before_second_upstream { IsTooFar join (completed_beside 0) (first_receipt 2 5) }
     ensures before_upstream_later { IsTooFar join (taken_beside ++ receipt_of 2 5 ∷ []) (second_receipt 2 6) }
+    // A claim of a slot whose event a final handler did not complete, also one that a retirement left final.
     ensures no_room { IsTooFar pair taken_by_both (claim_of 1) }
     ensures no_room_a_round_later { IsTooFar pair (taken_by_both ++ completion_of 1 1 ∷ claim_of 1 ∷ []) (claim_of 2) }
     ensures no_room_for_the_last { IsTooFar pair [] (claim_up_to 0 1) }
     ensures no_room_after_retirement { IsTooFar pair (published ++ retirement_of 1 ∷ []) (claim_of 1) }
     ensures no_room_for_first_final { IsTooFar join (completed_beside 1 ++ retirement_of 2 ∷ []) (claim_of 2) }
     ensures no_room_for_second_final { IsTooFar join (completed_beside 0 ++ retirement_of 2 ∷ []) (claim_of 2) }
+    // A claim of what is claimed already, or of some of it.
     ensures claimed_twice { IsTooFar pair (claim_of 0 ∷ []) (claim_of 0) }
     ensures claimed_twice_later { IsTooFar join (claim_up_to 0 1 ∷ []) (claim_of 1) }
     ensures claimed_twice_in_part { IsTooFar join (claim_of 0 ∷ []) (claim_up_to 0 1) }
+    // A claim that passes a sequence over.
     ensures passed_over { IsTooFar join [] (claim_of 1) }
+    // A claim after a halt.
     ensures claimed_late { IsTooFar pair (halt ∷ []) (claim_of 0) }
     ensures claimed_late_after_a_claim { IsTooFar join (claim_of 0 ∷ halt ∷ []) (claim_of 1) }
+    // `Drained` before a halt.
     ensures drained_before_halt { IsTooFar pair [] drain }
     ensures drained_before_halt_later { IsTooFar pair taken drain }
+    // `Drained` before all that is published was taken.
     ensures drained_early { IsTooFar pair (published ++ halt ∷ []) drain }
     ensures drained_early_later { IsTooFar join (two_published ++ first_receipt 0 5 ∷ halt ∷ []) drain }
+    // `Drained` over a claim that is not published.
     ensures drained_over_a_claim { IsTooFar pair (written ++ halt ∷ []) drain }
+    // And each of these where the poll has room for two events.
     ensures drained_before_halt_with_room { IsTooFar pair taken (drain_with_room 0) }
     ensures drained_early_with_room { IsTooFar join (two_published ++ first_receipt 0 5 ∷ halt ∷ []) (drain_with_room 0) }
     ensures drained_over_a_claim_with_room { IsTooFar pair (written ++ halt ∷ []) (drain_with_room 0) }
@@ -71,18 +85,25 @@ pub fn laws_refuse_a_step_too_far()
 /// The laws refuse such steps with two producers too, of whom the second one publishes first, most
 /// of them at a second event, or of a handler that follows others.
 pub fn laws_refuse_a_step_too_far_of_two_producers()
+    // Too far is an event that comes again, or before an earlier one.
     ensures received_again { IsTooFar shared (each_published ++ first_receipt 1 5 ∷ []) (second_receipt 1 5) }
     ensures out_of_order_after_both_upstreams { IsTooFar shared (each_completed 2) (first_receipt 2 6) }
     ensures received_again_after_both_upstreams { IsTooFar shared (each_completed 2 ++ first_receipt 2 5 ∷ []) (second_receipt 2 5) }
+    // The event of a sequence that is not published, though the one after it is.
     ensures unpublished { IsTooFar shared second_published (receipt_of 1 5) }
+    // A completion that is taken back, or of what was not taken.
     ensures taken_back { IsTooFar shared (third_completed 2) (completion_of 2 1) }
     ensures untaken { IsTooFar shared (each_completed 2 ++ first_receipt 2 5 ∷ []) (completion_of 2 2) }
+    // An event that one of two upstreams did not complete.
     ensures before_upstream { IsTooFar shared (each_completed 1 ++ receipt_of 2 5 ∷ []) (second_receipt 2 6) }
+    // A claim of a slot whose event the final handler did not complete.
     ensures no_room { IsTooFar shared each_claimed (claim_by 1 2 2) }
     ensures no_room_for_the_last { IsTooFar shared (third_completed 1) (claim_by 1 2 3) }
+    // A claim of what is claimed already, one that passes a sequence over, and one after a halt.
     ensures claimed_twice { IsTooFar shared each_claimed (claim_by 0 1 1) }
     ensures passed_over { IsTooFar shared (third_completed 2) (claim_by 1 3 3) }
     ensures claimed_late { IsTooFar shared (third_completed 2 ++ halt ∷ drain_of 2 ∷ []) (claim_by 1 2 3) }
+    // `Drained` before a halt, before all was taken, and over a claim that is not published.
     ensures drained_before_halt { IsTooFar shared (each_completed 2 ++ receipt_of_both 2 ∷ []) (drain_of 2) }
     ensures drained_early { IsTooFar shared (each_completed 2 ++ first_receipt 2 5 ∷ halt ∷ []) (drain_of 2) }
     ensures drained_over_a_claim { IsTooFar shared (first_published ++ halt ∷ []) (drain_of 1) }
@@ -138,18 +159,23 @@ pub fn what_nobody_is_stuck_says<E>()
 /// a poll with room for two. Nor does a handler go on that follows a retired one, nor is a sequence
 /// published whose producer is none of those that there are.
 pub fn a_circle_is_stuck()
+    // In a circle it is false that nobody is stuck.
     ensures whole { IsFalseAfter circle one_completed (λ m. NobodyIsStuck circle m) }
+    // A handler of the circle is stuck, and so is one that follows it, or that follows a retired one.
     ensures of_the_circle { IsFalseAfter circle one_completed (λ m. CompletesAll circle m 0) }
     ensures of_the_circle_at_first { IsFalseAfter circle two_published (λ m. CompletesAll circle m 1) }
     ensures behind_the_circle { IsFalseAfter circle one_completed (λ m. CompletesAll circle m 4) }
     ensures behind_one_retired { CompletesAll line left_behind 2 → ⊥ }
+    // So is a claim that it gates, also of two sequences, of a second producer, and after a retirement.
     ensures claim { IsFalseAfter circle one_completed (λ m. ClaimsRound circle m 0 1) }
     ensures claim_of_two { IsFalseAfter circle two_completed (λ m. ClaimsRound circle m 0 2) }
     ensures claim_of_the_second_producer { IsFalseAfter shared_circle one_completed (λ m. ClaimsRound shared_circle m 1 1) }
     ensures claim_after_a_retirement { IsFalseAfter circle one_retired (λ m. ClaimsRound circle m 0 2) }
+    // After a halt none of these handlers is told `Drained`, or waits for one that can go on.
     ensures after_a_halt { IsFalseAfter circle halted (λ m. Drains circle m 0 1) }
     ensures after_a_halt_with_room { IsFalseAfter circle halted (λ m. Drains circle m 1 2) }
     ensures after_a_halt_behind { IsFalseAfter circle halted (λ m. Drains circle m 4 1) }
+    // Nor can the first sequence be published where its producer is none of those that there are.
     ensures claimed_by_nobody { PublishesFront circle claimed_by_nobody → ⊥ }
 {}
 

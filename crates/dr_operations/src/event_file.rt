@@ -123,7 +123,9 @@ pub fn read_events<R: Read>(
     reader: &mut Counted<R>,
 ) -> Result<Vec<Event>, FileFault<Cause>>
     requires { faults_of reader.old < 2 ^ 64 - 1 }
+    // If the bytes are known, they are all records' events, and a bad record that is told is the first one.
     ensures file { IfSome (R.remaining (inner_of reader.old)) (λ input. FileIs result (events_in input)) }
+    // A failed read is answered where one failed, and nowhere else.
     ensures counted { CountsFaults result (faults_of reader.old) (faults_of reader.new) 0 0 }
 {
     let text = read_all(alloc, reader)?;

@@ -47,6 +47,7 @@ impl EventStream {
 
     /// A stream of which no byte came yet.
     pub fn new(alloc: Global) -> EventStream
+        // What it is to give is what the bytes that come say.
         ensures { (text : List ℕ) → read_of (to_come result text) ≡ events_of text }
     {
         EventStream {
@@ -82,7 +83,9 @@ impl EventStream {
     /// Takes the next piece, and adds the event of each record that is whole now. An error is the
     /// first bad record, counted from the stream's start, or that memory ran out.
     pub fn feed(&mut self, piece: &[u8], events: &mut Vec<Event>) -> Result<(), FileFault<Cause>>
+        // What is given, and then what is yet to come, is what was to come; a bad record ends it.
         ensures feeds { Feeds result self.old self.new piece.now events.old.items events.new.items }
+        // If all events before are such as a file can say, all after are.
         ensures filed { AreOfFile events.old.items → AreOfFile events.new.items }
     {
         for byte in piece {
@@ -94,7 +97,9 @@ impl EventStream {
     /// Ends the stream, and adds the event of a last record, which needs no line's end. Errors are
     /// those of `feed`.
     pub fn finish(&mut self, events: &mut Vec<Event>) -> Result<(), FileFault<Cause>>
+        // All that was to come is given, up to a bad record or until memory runs out.
         ensures finishes { Finishes result self.old events.old.items events.new.items }
+        // If all events before are such as a file can say, all after are.
         ensures filed { AreOfFile events.old.items → AreOfFile events.new.items }
     {
         let found = self.records.end()?;
@@ -112,8 +117,11 @@ impl EventStream {
         events: &mut Vec<Event>,
     ) -> Result<bool, FileFault<Cause>>
         requires { faults_of reader.old < 2 ^ 64 - 1 }
+        // If the bytes are known, some came, or all did and it ended, or the read failed and nothing came.
         ensures read { ReadsOn result self.old self.new (R.remaining (inner_of reader.old)) (R.remaining (inner_of reader.new)) events.old.items events.new.items }
+        // A failed read is answered where one failed, and nowhere else.
         ensures counted { CountsFaults result (faults_of reader.old) (faults_of reader.new) 0 0 }
+        // If all events before are such as a file can say, all after are.
         ensures filed { AreOfFile events.old.items → AreOfFile events.new.items }
     {
         let mut piece = [0u8; 16384];

@@ -52,6 +52,7 @@ impl Operation {
     /// The event that carries an operation. The places in its words are this project's own.
     pub fn event(self) -> Event
         requires { IsOperation self }
+        // The event carries the operation, and gives it back.
         ensures event { result ≡ event_in self }
         ensures back { operation_in result ≡ self }
     {

@@ -57,6 +57,7 @@ pub fn push_operation(text: &mut String, operation: Operation) -> Result<(), All
 
 /// Adds the event file of events: a line for the operation of each. It reads as these events.
 pub fn push_event_file(text: &mut String, events: &[Event]) -> Result<(), AllocError>
+    // The lines are added behind the text, and events such as a file can say are read back from them.
     ensures file { OnOk result (string_bytes text.new ≡ string_bytes text.old ++ file_of events.now) }
     ensures back { AreOfFile events.now → events_of (file_of events.now) ≡ Ok events.now }
 {

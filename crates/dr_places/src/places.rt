@@ -101,6 +101,7 @@ impl<L: Belongs<K>, K> Places<L, K> {
 impl<L: Belongs<K> + Drop, K> Places<L, K> {
     /// All that was left, by the order of the places, where something lies in each of them.
     pub fn close(self) -> Option<Gathered<L>>
+        // There is a thing for each place, of which it is known that it belongs there.
         ensures { IfSome result (λ all. (length all ≡ self.count) × ((i : ℕ) (l : L) → get_elem? all i ≡ some l → L.belongs self.key i l)) }
     {
         let Places { table } = self;

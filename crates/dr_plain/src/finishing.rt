@@ -157,13 +157,19 @@ pub fn settle_all<T: Drop>(
     halter: Halter<T>,
 ) -> (Settled<T>, Values<T>)
     requires { AreAllEnds sender receivers.items halter }
+    // It remembers these ends.
     ensures ends { (result.0.sender.value ≡ sender) × (result.0.receivers.value.items ≡ receivers.items) × (result.0.halter.value ≡ halter) }
+    // It counts what was claimed and published, and what each handler took and completed.
     ensures claimed { result.0.claimed ≡ claimed_of sender.knows }
     ensures published { result.0.published ≡ length sender.knows.published }
     ensures handlers { result.0.handlers.items ≡ map (λ e. handler_counts e.knows) receivers.items }
+    // Each receiver has the beginning of what was published, all if told `Drained`, behind its upstreams.
     ensures lists { Settles sender.knows (map (λ e. e.knows) receivers.items) }
+    // Where the halter never halted, the sender found no halt before its own.
     ensures unhalted { halter.knows.halted ≡ false → FoundUnhalted sender.knows }
+    // One lawful run came to what these ends know, in which each stored just what it did.
     ensures run { HasRun sender receivers.items halter }
+    // Of each cell comes what was last written there, or what the ring began with.
     ensures events { map (λ event. Some event) result.1 ≡ sender.cells }
 {
     let sent = Snapshot::of(&sender);

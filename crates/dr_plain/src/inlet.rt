@@ -25,6 +25,7 @@ impl<T: Copy + Drop> Inlet<T> for Sender<T> {
         ensures kept { sender_place self.new ≡ sender_place self.old }
         ensures answer { ClaimAnswers (Some (sent_of self.old)) n result }
         ensures sent { Claims n result (sent_of self.old) (sent_of self.new) }
+        // It is the sender's own claim, and memory never runs out.
         ensures own { IsEndsAnswer (ClaimCall self.old n self.new) result }
     {
         Ok(Sender::try_claim(self, n)?)
@@ -34,6 +35,7 @@ impl<T: Copy + Drop> Inlet<T> for Sender<T> {
         ensures kept { sender_place self.new ≡ sender_place self.old }
         ensures answer { WriteAnswers (Some (sent_of self.old)) s result }
         ensures sent { Writes s event result (sent_of self.old) (sent_of self.new) }
+        // It is the sender's own write, and memory never runs out.
         ensures own { IsEndsAnswer (WriteCall self.old s event self.new) result }
     {
         Ok(Sender::write(self, s, event)?)
@@ -45,6 +47,7 @@ impl<T: Copy + Drop> Inlet<T> for Sender<T> {
         ensures kept { sender_place self.new ≡ sender_place self.old }
         ensures answer { WriteAllAnswers (Some (sent_of self.old)) lo (length events.now) result }
         ensures sent { WritesAll lo (take result.count events.now) (sent_of self.old) (sent_of self.new) }
+        // It answers each write by what it has, changes the cells of the events written, and stores nothing.
         ensures own { WriteAllCall self.old lo events.now self.new result }
         ensures called { WritesBy self.old self.new sender_does lo events.now result }
     {
@@ -69,6 +72,7 @@ impl<T: Copy + Drop> Inlet<T> for Sender<T> {
         ensures kept { sender_place self.new ≡ sender_place self.old }
         ensures answer { PublishAnswers (Some (sent_of self.old)) lo hi result }
         ensures sent { Publishes lo hi result (sent_of self.old) (sent_of self.new) }
+        // It is the sender's own publication, and memory never runs out.
         ensures own { IsEndsAnswer (PublishCall self.old lo hi self.new) result }
     {
         Ok(Sender::publish(self, lo, hi)?)

@@ -65,16 +65,27 @@ pub type RingSeat<T> = Seat<Token<T>, View<T>>;
 /// of a claim without room finds was so already at its first. Once a ring is halted, nothing more is
 /// claimed. It does nothing when it runs: the contract is the theorem.
 pub fn moments<T>()
+    // Between any two steps the ring's rule holds.
     ensures rule { (k : Shape) (steps : List (Step T)) (entries : Transcript T) (w : World T) → IsShape k → Runs k steps entries (new_world k) w → KeepsRule k w }
+    // The entries of the steps' events lead the machine to the ring's picture.
     ensures leads { (k : Shape) (steps : List (Step T)) (entries : Transcript T) (w : World T) → IsShape k → Runs k steps entries (new_world k) w → LeadsTo (ring_setup k) entries (picture_of k w) }
+    // Writes besides, to sequences claimed and not published, lead it on to the picture with them.
     ensures writes { (k : Shape) (steps : List (Step T)) (entries : Transcript T) (w : World T) → IsShape k → Runs k steps entries (new_world k) w → (wrote : List (Option T)) → length wrote ≡ w.sender.pending → LeadsTo (ring_setup k) (entries ++ open_writes (length w.sender.published) wrote) (picture_with k w wrote) }
+    // This transcript has the five laws.
     ensures laws { (k : Shape) (steps : List (Step T)) (entries : Transcript T) (w : World T) → IsShape k → Runs k steps entries (new_world k) w → Laws (ring_setup k) entries }
+    // Nobody is stuck in the picture.
     ensures progress { (k : Shape) (steps : List (Step T)) (entries : Transcript T) (w : World T) → IsShape k → Runs k steps entries (new_world k) w → NobodyIsStuck (ring_setup k) (picture_of k w) }
+    // Who was told that the ring drained was told so by a poll of the transcript.
     ensures told { (k : Shape) (steps : List (Step T)) (entries : Transcript T) (w : World T) → IsShape k → Runs k steps entries (new_world k) w → WereTold w entries }
+    // What an end answers is what the machine then replies on the picture, at the look that decides.
     ensures replies { (k : Shape) (steps : List (Step T)) (entries : Transcript T) (w : World T) → IsShape k → Runs k steps entries (new_world k) w → RepliesAsAnswered k w }
+    // A receiver that looked at all that its barrier goes by is offered at least what was there before.
     ensures offers { (k : Shape) (steps more : List (Step T)) (entries rest : Transcript T) (w u : World T) → IsShape k → Runs k steps entries (new_world k) w → Runs k more rest w u → OffersWhatWasThere k w u }
+    // As far as there is room, a poll hands over what was there at any moment since its receiver's last step.
     ensures hands { (k : Shape) (steps more : List (Step T)) (entries rest : Transcript T) (w u : World T) → IsShape k → Runs k steps entries (new_world k) w → Runs k more rest w u → HandsWhatWasThere k w u }
+    // No word falls.
     ensures rises { (k : Shape) (steps more : List (Step T)) (entries rest : Transcript T) (w u : World T) → IsShape k → Runs k steps entries (new_world k) w → Runs k more rest w u → NothingFalls w u }
+    // Once halt is 1, nothing more is claimed.
     ensures halted { (k : Shape) (steps more : List (Step T)) (entries rest : Transcript T) (w u : World T) → IsShape k → Runs k steps entries (new_world k) w → Runs k more rest w u → slice_index w.words halt_word ≡ 1 → claimed u.sender ≡ claimed w.sender }
 {
     every_transcript_is_lawful::<T>();

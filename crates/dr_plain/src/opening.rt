@@ -202,8 +202,10 @@ pub fn ring<T: Drop>(
     events: Vec<T>,
 ) -> Result<(Sender<T>, Vec<Receiver<T>>, Halter<T>), OpenFault>
     requires events { length events.items ≡ size }
+    // They are all ends of a new ring of this shape, in which nothing is claimed, taken or halted.
     ensures made { IfOk result (λ made. (strip : Ptr) × AreFreshEnds (record { upstreams = graph.now.upstreams; size = size; limit = limit; strip = strip }) events.items made.0 made.1.items made.2) }
     ensures all { IfOk result (λ made. AreAllEnds made.0 made.1.items made.2) }
+    // A limit of 0 or above 2^62 is refused; where none is, the fault is that memory ran out.
     ensures fits { IsOk result → is_bad_limit limit ≡ false }
     ensures refused { IfErr result (λ fault. fault ≡ fault_of limit) }
 {

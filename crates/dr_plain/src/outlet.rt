@@ -43,6 +43,7 @@ impl<T: Copy> Outlet<T> for Receiver<T> {
         ensures answer { PollAnswers (Some (received_of self.old.knows)) out.old out.new result }
         ensures told { self.new.knows.told ≡ (self.old.knows.told || is_drained result) }
         ensures received { Takes out.new result (received_of self.old.knows) (received_of self.new.knows) }
+        // It is the receiver's own poll, copied to the front of the buffer, and memory never runs out.
         ensures own { IsEndsAnswer (PollIntoCall self.old out.old self.new out.new) result }
     {
         let _taken = &self.taken;
@@ -59,6 +60,7 @@ impl<T: Copy> Outlet<T> for Receiver<T> {
         ensures answer { CompleteAnswers (Some (received_of self.old.knows)) upto result }
         ensures told { self.new.knows.told ≡ self.old.knows.told }
         ensures received { Completes upto result (received_of self.old.knows) (received_of self.new.knows) }
+        // It is the receiver's own completion, and memory never runs out.
         ensures own { IsEndsAnswer (CompleteCall self.old upto self.new) result }
     {
         Ok(Receiver::complete(self, upto)?)

@@ -79,6 +79,7 @@ impl<T> Plan<T> {
 
     /// How many handlers there are.
     pub fn handlers(&self) -> usize
+        // It is the number of handlers, of which there are at most 16.
         ensures count { result ≡ handlers_of self.now }
         ensures few { result ≤ 16 }
     {
@@ -110,6 +111,7 @@ impl<T> Plan<T> {
     /// The slot of a handler's part of a sequence.
     pub fn slot(&self, handler: usize, sequence: u64) -> usize
         requires { handler < handlers_of self.now }
+        // It is the place of the sequence's cell in the handler's lane, one of the ring's slots.
         ensures place { result ≡ slot_of self.now handler sequence }
         ensures inside { result < slots_of self.now }
     {

@@ -47,7 +47,9 @@ impl<T> Receiver<T> {
     /// It is refused with `BadCount`, and changes nothing, where there is no room.
     #[tactic(auto, using(dr_runs::proofs::Beginnings::begins_same, dr_runs::proofs::Beginnings::begins_on))]
     pub fn poll(&mut self, room: u64) -> Result<Polled, Refusal>
+        // By what its looks find it takes the next events, or says why there are none, and stores nothing.
         ensures call { PollCall self.old room self.new result }
+        // It took fewer than 2^64 events in all.
         ensures fits { length self.new.knows.received < 2 ^ 64 }
     {
         let first = self.taken;
@@ -95,8 +97,10 @@ impl<T> Receiver<T> {
     /// An event that it took and did not complete, where it lies. Of any other sequence it gives
     /// nothing.
     pub fn event(&self, sequence: u64) -> Option<&T>
+        // It gives the event of the sequence, if it is taken and not completed, and else nothing.
         ensures some { IfSome result (λ event. ReadsInHand self.now.knows sequence event.now) }
         ensures none { IfNone result (IsNotInHand self.now.knows sequence) }
+        // It took fewer than 2^64 events in all.
         ensures fits { length self.now.knows.received < 2 ^ 64 }
     {
         let upto = self.taken;

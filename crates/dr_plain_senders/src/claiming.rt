@@ -21,9 +21,13 @@ impl<T> SenderStation<T> {
     /// stored what was there; it changes nothing else.
     #[tactic(auto, using(dr_runs::proofs::Beginnings::begins_same, dr_runs::proofs::Beginnings::begins_on))]
     pub fn try_claim(&mut self, n: u64) -> Result<Claimed, ClaimFault>
+        // By its looks and its exchange of the claim word it claims the next sequences, or says why not.
         ensures call { ClaimCall self.old n self.new result }
+        // The slots of their cells, with what lay there, come first in hand; if it is refused, none do.
         ensures hand { ClaimTakes self.old n self.new result }
+        // All sequences that it had are earlier, and none that is not published loses its cell to these.
         ensures own { IfOk result (λ c. ClaimsApart self.old c.lo n) }
+        // They are at least one and at most as many as the cells, and all of them are below 2^62.
         ensures fits { IfOk result (λ c. (c.lo + n ≤ 2 ^ 62) × IsCount self.old.plan n) }
     {
         let size = self.plan().size().get();

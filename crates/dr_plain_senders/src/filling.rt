@@ -21,8 +21,11 @@ impl<T> Sender<T> {
         number: u64,
     ) -> Result<(), Refusal>
         requires { F.IsAlwaysCallable fill.old }
+        // One call of the closure changes what lies in the cell, or it is refused as a write is.
         ensures call { UpdateCall (λ was now. CalledWithState F.FnMut fill.old was number tt fill.new now) self.old sequence self.new result }
+        // If it is refused, the closure is as it was.
         ensures refused { OnErr result (fill.new ≡ fill.old) }
+        // You may call the closure again.
         ensures callable { F.IsAlwaysCallable fill.new }
     {
         if sequence >= self.station.plan().limit() {

@@ -196,16 +196,18 @@ pub(crate) fn reclaim_all<T>(
 }
 
 /// Brings all ends of a ring together, and gives its events back, one for each cell, whatever the ends
-/// had in hand: where the cell's last sequence is published what was published, and where it is
-/// claimed alone what its sender has there. They may be used, and are dropped with the answer. It
-/// takes no memory, looks once at the claim word, and never fails.
+/// had in hand: where the cell's last sequence is published what was published, where it is claimed
+/// alone what its sender has there, and else what the ring began with (clause `events`). They may be
+/// used, and are dropped with the answer. It takes no memory, looks once at the claim word, and never
+/// fails. It remembers the ends (clause `ends`), and counts what each handler took and completed
+/// (clause `handlers`).
 ///
-/// There is one run of all ends that came to what they know, in which each end stored exactly what
-/// it did, and its transcript is lawful. Each claimed sequence is in its sender's record. Each
-/// receiver has the first of the published events in the order of their sequences, each from the
-/// sender of its sequence, and all that is claimed where it was told that the ring drained. No
-/// handler took more than its upstreams completed, and no more is claimed than a round beyond what
-/// each final handler completed.
+/// There is one run of all ends that came so far and to what they know, in which each end stored
+/// exactly what it did, and its transcript is lawful (clause `run`). Each claimed sequence is in its
+/// sender's record. Each receiver has the first of the published events in the order of their
+/// sequences, each from the sender of its sequence, and all that is claimed where it was told that the
+/// ring drained. No handler took more than its upstreams completed, and no more is claimed than a round
+/// beyond what each final handler completed.
 pub fn settle_all<T: Drop>(
     senders: Vec<Sender<T>>,
     receivers: Vec<Receiver<T>>,

@@ -26,6 +26,7 @@ impl<T: Copy + Drop> Inlet<T> for Sender<T> {
     fn try_claim(&mut self, n: u64) -> Result<Claimed, Trouble>
         ensures kept { sender_place self.new ≡ sender_place self.old }
         ensures answer { ClaimAnswers {E = T} None n result }
+        // It is the sender's own claim, with `NoRoom` for `Contended` too, and memory never runs out.
         ensures own { ClaimsAsEnd self.old n self.new result }
     {
         match Sender::try_claim(self, n) {
@@ -38,6 +39,7 @@ impl<T: Copy + Drop> Inlet<T> for Sender<T> {
     fn write(&mut self, s: u64, event: T) -> Result<(), Trouble>
         ensures kept { sender_place self.new ≡ sender_place self.old }
         ensures answer { WriteAnswers {E = T} None s result }
+        // It is the sender's own write, and memory never runs out.
         ensures own { IsEndsAnswer (WriteCall self.old s event self.new) result }
     {
         Ok(Sender::write(self, s, event)?)
@@ -47,6 +49,7 @@ impl<T: Copy + Drop> Inlet<T> for Sender<T> {
         requires limit { lo + length events.now ≤ 2 ^ 62 }
         ensures kept { sender_place self.new ≡ sender_place self.old }
         ensures answer { WriteAllAnswers {E = T} None lo (length events.now) result }
+        // It is one write after another, up to the first that is refused.
         ensures own { WriteAllCall self.old lo events.now self.new result.count result.trouble }
         ensures called { WritesBy self.old self.new sender_does lo events.now result }
     {
@@ -70,6 +73,7 @@ impl<T: Copy + Drop> Inlet<T> for Sender<T> {
     fn publish(&mut self, lo: u64, hi: u64) -> Result<(), Trouble>
         ensures kept { sender_place self.new ≡ sender_place self.old }
         ensures answer { PublishAnswers {E = T} None lo hi result }
+        // It is the sender's own publication, and memory never runs out.
         ensures own { IsEndsAnswer (PublishCall self.old lo hi self.new) result }
     {
         Ok(Sender::publish(self, lo, hi)?)

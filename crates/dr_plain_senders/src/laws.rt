@@ -87,18 +87,31 @@ impl<T> Names<T> for Brand {
 /// falls, and no claim is taken back. Once a ring is halted, nothing more is claimed. It does
 /// nothing when it runs: the contract is the theorem.
 pub fn moments<T>()
+    // Between any two steps the ring's rule holds.
     ensures rule { (k : Shape T) (steps : List (Step T)) (entries : Transcript T) (w : World T) → IsShape k → Runs k steps entries (new_world k) w → KeepsRule k w }
+    // The entries of the steps' events lead the machine to the ring's picture.
     ensures leads { (k : Shape T) (steps : List (Step T)) (entries : Transcript T) (w : World T) → IsShape k → Runs k steps entries (new_world k) w → LeadsTo (ring_setup k) entries (picture_of k w) }
+    // Writes besides, to sequences claimed and not published, lead it on to the picture with them.
     ensures writes { (k : Shape T) (steps : List (Step T)) (entries : Transcript T) (w : World T) → IsShape k → Runs k steps entries (new_world k) w → (wrote : List (ℕ × T)) → AreOpen w wrote → LeadsTo (ring_setup k) (entries ++ open_writes w wrote) (picture_with k w wrote) }
+    // This transcript has the five laws.
     ensures laws { (k : Shape T) (steps : List (Step T)) (entries : Transcript T) (w : World T) → IsShape k → Runs k steps entries (new_world k) w → Laws (ring_setup k) entries }
+    // Nobody is stuck in the picture.
     ensures progress { (k : Shape T) (steps : List (Step T)) (entries : Transcript T) (w : World T) → IsShape k → Runs k steps entries (new_world k) w → NobodyIsStuck (ring_setup k) (picture_of k w) }
+    // Who was told that the ring drained was told so by a poll of the transcript.
     ensures told { (k : Shape T) (steps : List (Step T)) (entries : Transcript T) (w : World T) → IsShape k → Runs k steps entries (new_world k) w → WereTold w entries }
+    // The claim word and the mark of a sequence tell exactly whether it is published.
     ensures marks { (k : Shape T) (steps : List (Step T)) (entries : Transcript T) (w : World T) → IsShape k → Runs k steps entries (new_world k) w → (s : ℕ) → (picture_of k w).published s ≡ is_out_now k w s }
+    // So they tell why the machine refuses a write to a sequence published or not the sender's own.
     ensures refused { (k : Shape T) (steps : List (Step T)) (entries : Transcript T) (w : World T) → IsShape k → Runs k steps entries (new_world k) w → (p s : ℕ) (event : T) → p < k.senders → IsShut w p s → RefusesByWords k w p s event }
+    // Looks at the claim word, the mark and the claim word again tell it as it was at one of them.
     ensures sees { (k : Shape T) (steps more later : List (Step T)) (entries rest last : Transcript T) (w u v : World T) → IsShape k → Runs k steps entries (new_world k) w → Runs k more rest w u → Runs k later last u v → ToldByLooks k w u v }
+    // What an end answers is what the machine then replies on the picture, at the look that decides.
     ensures replies { (k : Shape T) (steps : List (Step T)) (entries : Transcript T) (w : World T) → IsShape k → Runs k steps entries (new_world k) w → RepliesAsAnswered k w }
+    // As far as there is room, a poll hands over what was there at any moment since its receiver's last step.
     ensures hands { (k : Shape T) (steps more : List (Step T)) (entries rest : Transcript T) (w u : World T) → IsShape k → Runs k steps entries (new_world k) w → Runs k more rest w u → HandsWhatWasThere k w u }
+    // No handler's count falls, and no claim is taken back.
     ensures rises { (k : Shape T) (steps more : List (Step T)) (entries rest : Transcript T) (w u : World T) → IsShape k → Runs k steps entries (new_world k) w → Runs k more rest w u → NothingFalls k w u }
+    // Once the ring is halted, nothing more is claimed.
     ensures halted { (k : Shape T) (steps more : List (Step T)) (entries rest : Transcript T) (w u : World T) → IsShape k → Runs k steps entries (new_world k) w → Runs k more rest w u → is_halted (slice_index w.words claim_word) ≡ true → length u.stages ≡ length w.stages }
 {
     every_transcript_is_lawful::<T>();

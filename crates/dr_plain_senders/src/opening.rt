@@ -223,8 +223,10 @@ pub fn ring<T: Drop>(
     events: Vec<T>,
 ) -> Result<(Vec<Sender<T>>, Vec<Receiver<T>>, Halter<T>), OpenFault>
     requires events { length events.items ≡ size }
+    // They are all ends of a new ring of this shape, in which nothing is claimed, taken or halted.
     ensures made { IfOk result (λ made. (strip : Ptr) × AreFreshEnds (record { upstreams = graph.now.upstreams; size = size; limit = limit; senders = senders; strip = strip; begun = events.items }) made.0.items made.1.items made.2) }
     ensures all { IfOk result (λ made. AreAllEnds made.0.items made.1.items made.2) }
+    // 0 or over 16 senders, then a limit of 0 or above 2^62 are refused; else the fault is of memory.
     ensures fits { IsOk result → (has_bad_producers (Multi senders) ≡ false) × (is_bad_limit limit ≡ false) }
     ensures refused { IfErr result (λ fault. fault ≡ fault_of senders limit) }
 {

@@ -106,6 +106,7 @@ impl<T> Plan<T> {
 
     /// How many sequences may be claimed in all.
     pub fn limit(&self) -> u64
+        // It is the greatest number of claimed sequences, which is at most 2^62.
         ensures limit { result ≡ self.now.limit }
         ensures small { result ≤ 2 ^ 62 }
     {
@@ -114,6 +115,7 @@ impl<T> Plan<T> {
 
     /// How many handlers there are.
     pub fn handlers(&self) -> usize
+        // It is the number of handlers, of which there are at most 16.
         ensures count { result ≡ handlers_of self.now }
         ensures few { result ≤ 16 }
     {
@@ -122,6 +124,7 @@ impl<T> Plan<T> {
 
     /// How many senders there are.
     pub fn senders(&self) -> usize
+        // It is the number of senders, of which there are at most 16.
         ensures count { result ≡ self.now.senders }
         ensures few { result ≤ 16 }
     {
@@ -152,6 +155,7 @@ impl<T> Plan<T> {
 
     /// The place of the word that has the mark in a sequence's cell.
     pub fn mark_word(&self, sequence: u64) -> usize
+        // It is the place of the word with the sequence's mark, which is one of the ring's words.
         ensures place { result ≡ mark_word_of self.now sequence }
         ensures inside { result < words_of self.now }
     {
@@ -168,6 +172,7 @@ impl<T> Plan<T> {
 
     /// How many sequences from one on have their marks in the same word, one after the other.
     pub fn in_word(&self, sequence: u64) -> u64
+        // As many as bits are left in the word and cells in the ring, from the sequence's on: 1 to 64.
         ensures count { result ≡ in_word_of self.now sequence }
         ensures some { 0 < result }
         ensures few { result ≤ 64 }
@@ -189,6 +194,7 @@ impl<T> Plan<T> {
     /// How many sequences from one on are published, one after the other, as far as the word tells
     /// that has the mark of the first, and was found so.
     pub fn marked(&self, sequence: u64, found: u64) -> u64
+        // As many as have their marks in this word, up to the first that has not: at most 64.
         ensures count { result ≡ marked_from self.now sequence found }
         ensures few { result ≤ 64 }
     {
@@ -208,6 +214,7 @@ impl<T> Plan<T> {
     /// The slot of a lane for a sequence.
     pub fn slot(&self, lane: usize, sequence: u64) -> usize
         requires { lane < lanes_of self.now }
+        // It is the place of the sequence's cell in this lane, which is one of the ring's slots.
         ensures place { result ≡ slot_of self.now lane sequence }
         ensures inside { result < slots_of self.now }
     {

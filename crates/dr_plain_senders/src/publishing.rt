@@ -111,7 +111,9 @@ impl<T> Sender<T> {
     /// of the first sequence that is refused `AlreadyPublished`, `NotClaimed` (another sender's) or
     /// `NotWritten`. They change nothing but what the sender remembers of its looks.
     pub fn publish(&mut self, lo: u64, hi: u64) -> Result<(), Refusal>
+        // By what it has and finds it publishes what is written, or says why not and stores nothing.
         ensures call { PublishCall self.old lo hi self.new result }
+        // A stretch that ends at 2^62 or beyond is refused as not claimed.
         ensures beyond { lo ≤ hi → 2 ^ 62 ≤ hi → result ≡ Err NotClaimed }
     {
         if lo > hi {

@@ -54,7 +54,9 @@ impl<T: Drop> Sender<T> {
     /// Refusals in their order: `NotClaimed` (nobody's), `AlreadyPublished`, `NotClaimed` (another
     /// sender's). They change nothing but what the sender remembers of its looks.
     pub fn write(&mut self, sequence: u64, event: T) -> Result<(), Refusal>
+        // By what it has and finds it writes the event into the cell, or says why not; it stores no word.
         ensures call { WriteCall self.old sequence event self.new result }
+        // A sequence of 2^62 or beyond is refused as not claimed.
         ensures beyond { 2 ^ 62 ≤ sequence → result ≡ Err NotClaimed }
     {
         if sequence >= self.station.plan().limit() {

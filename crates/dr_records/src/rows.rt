@@ -55,6 +55,7 @@ impl<'a> Rows<'a> {
 
     /// The next record, if one is left. An error is that memory ran out, and leaves none.
     pub fn next(&mut self) -> Result<Option<&ByteRecord>, AllocError>
+        // It is the first record that was left, then the others are left; none comes only where none was.
         ensures* gives { sem 𝓛 (Lends self.entry result) }
     {
         if self.advance()? {

@@ -36,6 +36,7 @@ pub struct HandledBy<G> {
 
 impl<G> HandledBy<G> {
     pub fn of(gate: &G, who: usize) -> HandledBy<G>
+        // It keeps the gate and the worker's number.
         ensures gate { result.gate.value ≡ gate.now }
         ensures who { result.who ≡ who }
     {
@@ -67,6 +68,7 @@ pub struct SentBy<'a, G> {
 
 impl<'a, G> SentBy<'a, G> {
     pub fn of(gate: &G, p: usize, script: &'a [Event], cut: u64) -> SentBy<'a, G>
+        // It keeps the gate, the producer's number, its script and its cut.
         ensures gate { result.gate.value ≡ gate.now }
         ensures number { result.p ≡ p }
         ensures script { result.script.now ≡ script.now }

@@ -116,9 +116,12 @@ pub fn make_ends<L: Exchange<Event>>(
     shared: &mut Shared<Event, L>,
     producers: usize,
 ) -> Result<Ends<L>, AllocError>
+    // An end more of the same history is given out for each worker and for the halter.
     ensures begun { IfOk result (λ ends. shared.new.begun ≡ shared.old.begun) }
     ensures given { IfOk result (λ ends. shared.new.given ≡ shared.old.given + 4 + length ends.producers.items) }
+    // There is an end for each producer.
     ensures producers { IfOk result (λ ends. length ends.producers.items ≡ producers) }
+    // Nobody called through any of them.
     ensures unused { IfOk result (λ ends. AreUnused ends.halter ends.journal ends.replica ends.business ends.producers.items) }
 {
     let halter = new_end(shared)?;

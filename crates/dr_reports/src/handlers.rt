@@ -32,6 +32,7 @@ pub struct Handlers {
 impl Handlers {
     /// Handlers that were shown nothing yet.
     pub fn new(alloc: Global) -> Handlers
+        // None of them was shown anything yet, and none failed.
         ensures shown { AreShown result [] }
         ensures well { AreWell result }
     {
@@ -50,6 +51,7 @@ impl Handlers {
 
     /// Whether one of them found no memory.
     pub fn is_failed(&self) -> bool
+        // It is true if and only if one of them failed.
         ensures well { result ≡ false → AreWell self.now }
         ensures failed { AreWell self.now → result ≡ false }
     {
@@ -60,6 +62,7 @@ impl Handlers {
 
     /// One turn of each, which is given all that there is.
     pub fn turn(&mut self, core: &mut Core<Event>) -> Result<(), Refusal>
+        // If events are there for them, no turn is refused, and each is shown all that was sent.
         ensures { (size : ℕ) (events : List Event) (at sent : ℕ) → AreOffered size events at sent core.old → AreShown self.old (take at events) → Turns result size events sent core.new self.new }
     {
         core.turn_in_place(JOURNAL, &mut self.journal)?;
@@ -71,6 +74,7 @@ impl Handlers {
     /// The report of the events that they were shown.
     pub fn report(self, alloc: Global) -> Result<Report, AllocError>
         requires { AreWell self }
+        // It is the report of the events that they were shown, in three parts, each its handler's.
         ensures text { (events : List Event) → AreShown self events → IfOk result (λ report. text_of report ≡ report_of events) }
         ensures parts { (events : List Event) → AreShown self events → IfOk result (HasParts events) }
     {

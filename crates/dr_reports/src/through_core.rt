@@ -53,8 +53,10 @@ fn pass(core: &mut Core<Event>, handlers: &mut Handlers, events: &[Event]) -> Re
 /// The report of events that went through a core of this size, on one thread. An error is that memory
 /// ran out, which more events than there are sequences are answered with too.
 pub fn report_by_core(alloc: Global, events: &[Event], size: Size) -> Result<Report, AllocError>
+    // It is the report of these events, in three parts, each its handler's.
     ensures text { IfOk result (λ report. text_of report ≡ report_of events.now) }
     ensures parts { IfOk result (HasParts events.now) }
+    // These events went through a core of this size to three handlers, none of which failed.
     ensures through { IfOk result (λ _. WentThrough size events.now) }
 {
     if events.len() as u64 > MAX_LIMIT {

@@ -15,6 +15,7 @@ use std::alloc::{AllocError, Global};
 /// The graph of the replay's handlers. An error is that memory ran out: the names are good and differ,
 /// and there is no cycle.
 pub fn graph(alloc: Global) -> Result<Graph, AllocError>
+    // Journal and replica have no upstreams, and business follows both.
     ensures graph { IfOk result (λ graph. graph.upstreams ≡ replay_graph) }
     ensures names { IfOk result (λ graph. graph.names ≡ replay_names) }
 {
@@ -35,6 +36,7 @@ pub fn graph(alloc: Global) -> Result<Graph, AllocError>
 /// Opens the exchange with one producer and as many sequences as there may be. An error is that
 /// memory ran out.
 pub fn open(alloc: Global, size: Size) -> Result<Core<Event>, AllocError>
+    // It has these handlers and one producer, and shows the machine's opening state.
     ensures setup { IfOk result (λ core. core.setup ≡ replay_setup size) }
     ensures opening { IfOk result (λ core. Shows core (opening (replay_setup size))) }
 {

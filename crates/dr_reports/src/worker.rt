@@ -43,6 +43,7 @@ pub struct PartOf<P, G> {
 
 impl<P, G> PartOf<P, G> {
     pub fn of(end: &Receiver, gate: &G, who: usize) -> PartOf<P, G>
+        // It keeps the end, the gate and the worker's number.
         ensures end { result.end.value ≡ end.now }
         ensures gate { result.gate.value ≡ gate.now }
         ensures who { result.who ≡ who }
@@ -83,6 +84,7 @@ pub fn work<R: Wait, G: Gate, P: Reporter>(
     alloc: Global,
     bell: &Bell,
 ) -> Worked
+    // A text is the part of all that the end received; a fault is what its calls came to, or of memory.
     ensures { Keeps P.goes P.is_new P.failed P.part_of (G.may_stop gate.now who) (G.must_stop gate.now who) receiver result }
 {
     let handler = P::begin(alloc);

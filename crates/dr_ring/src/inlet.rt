@@ -26,6 +26,7 @@ impl Inlet<Event> for Sender {
         ensures kept { sender_place self.new ≡ sender_place self.old }
         ensures answer { ClaimAnswers (Some self.old.knows.sent) n result }
         ensures sent { Claims n result self.old.knows.sent self.new.knows.sent }
+        // It is the sender's own claim, and memory never runs out.
         ensures own { IsEndsAnswer (ClaimCall self.old n self.new) result }
     {
         Ok(Sender::try_claim(self, n)?)
@@ -35,6 +36,7 @@ impl Inlet<Event> for Sender {
         ensures kept { sender_place self.new ≡ sender_place self.old }
         ensures answer { WriteAnswers (Some self.old.knows.sent) s result }
         ensures sent { Writes s event result self.old.knows.sent self.new.knows.sent }
+        // It is the sender's own write, and memory never runs out.
         ensures own { IsEndsAnswer (WriteCall self.old s event self.new) result }
     {
         Ok(Sender::write(self, s, event)?)
@@ -46,6 +48,7 @@ impl Inlet<Event> for Sender {
         ensures kept { sender_place self.new ≡ sender_place self.old }
         ensures answer { WriteAllAnswers (Some self.old.knows.sent) lo (length events.now) result }
         ensures sent { WritesAll lo (take result.count events.now) self.old.knows.sent self.new.knows.sent }
+        // It answers each write by what it sent, stores both words of each event written, and nothing else.
         ensures own { WriteAllCall self.old lo events.now self.new result }
         ensures called { WritesBy self.old self.new sender_does lo events.now result }
     {
@@ -70,6 +73,7 @@ impl Inlet<Event> for Sender {
         ensures kept { sender_place self.new ≡ sender_place self.old }
         ensures answer { PublishAnswers (Some self.old.knows.sent) lo hi result }
         ensures sent { Publishes lo hi result self.old.knows.sent self.new.knows.sent }
+        // It is the sender's own publication, and memory never runs out.
         ensures own { IsEndsAnswer (PublishCall self.old lo hi self.new) result }
     {
         Ok(Sender::publish(self, lo, hi)?)

@@ -71,14 +71,23 @@ pub(crate) struct RingBody {
 /// last look of a claim without room finds was so already at its first. Once a ring is halted,
 /// nothing more is claimed. It does nothing when it runs: the contract is the theorem.
 pub fn moments()
+    // Between any two steps the ring's rule holds.
     ensures rule { (k : Shape) (steps : List Step) (entries : Transcript Event) (w : World) → IsShape k → Runs k steps entries (new_world k) w → KeepsRule k w }
+    // The entries of the steps' events lead the machine to the ring's picture.
     ensures leads { (k : Shape) (steps : List Step) (entries : Transcript Event) (w : World) → IsShape k → Runs k steps entries (new_world k) w → LeadsTo (ring_setup k) entries (picture_of k w) }
+    // This transcript has the five laws.
     ensures laws { (k : Shape) (steps : List Step) (entries : Transcript Event) (w : World) → IsShape k → Runs k steps entries (new_world k) w → Laws (ring_setup k) entries }
+    // Nobody is stuck in the picture.
     ensures progress { (k : Shape) (steps : List Step) (entries : Transcript Event) (w : World) → IsShape k → Runs k steps entries (new_world k) w → NobodyIsStuck (ring_setup k) (picture_of k w) }
+    // Who was told that the ring drained was told so by a poll of the transcript.
     ensures told { (k : Shape) (steps : List Step) (entries : Transcript Event) (w : World) → IsShape k → Runs k steps entries (new_world k) w → WereTold w entries }
+    // What an end answers is what the machine then replies on the picture, at the look that decides.
     ensures replies { (k : Shape) (steps : List Step) (entries : Transcript Event) (w : World) → IsShape k → Runs k steps entries (new_world k) w → RepliesAsAnswered k w }
+    // As far as there is room, a poll hands over what was there at any moment since its receiver's last step.
     ensures hands { (k : Shape) (steps more : List Step) (entries rest : Transcript Event) (w u : World) → IsShape k → Runs k steps entries (new_world k) w → Runs k more rest w u → HandsWhatWasThere k w u }
+    // No handler's count falls.
     ensures rises { (k : Shape) (steps more : List Step) (entries rest : Transcript Event) (w u : World) → IsShape k → Runs k steps entries (new_world k) w → Runs k more rest w u → NothingFalls k w u }
+    // Once halt is 1, nothing more is claimed.
     ensures halted { (k : Shape) (steps more : List Step) (entries rest : Transcript Event) (w u : World) → IsShape k → Runs k steps entries (new_world k) w → Runs k more rest w u → slice_index w.words halt_word ≡ 1 → claimed u.sender ≡ claimed w.sender }
 {
     every_transcript_is_lawful::<Event>();

@@ -101,8 +101,10 @@ pub fn ring(
     size: Size,
     limit: u64,
 ) -> Result<(Sender, Vec<Receiver>, Halter), RingFault>
+    // They are all ends of a new ring of this shape, in which nothing is claimed, taken or halted.
     ensures made { IfOk result (λ made. AreFreshEnds (record { upstreams = graph.now.upstreams; size = size; limit = limit }) made.0 made.1.items made.2) }
     ensures all { IfOk result (λ made. AreAllEnds made.0 made.1.items made.2) }
+    // A limit of 0 or above 2^62 is refused; where none is, the fault is that memory ran out.
     ensures fits { IsOk result → is_bad_limit limit ≡ false }
     ensures refused { IfErr result (λ fault. fault ≡ fault_of limit) }
 {

@@ -28,6 +28,7 @@ impl Outlet<Event> for Receiver {
         ensures answer { PollAnswers (Some (received_of self.old.knows)) out.old out.new result }
         ensures told { self.new.knows.told ≡ (self.old.knows.told || is_drained result) }
         ensures received { Takes out.new result (received_of self.old.knows) (received_of self.new.knows) }
+        // It is the receiver's own poll, and memory never runs out.
         ensures own { IsEndsAnswer (PollCall self.old out.old self.new out.new) result }
     {
         Ok(Receiver::poll_into(self, out)?)
@@ -38,6 +39,7 @@ impl Outlet<Event> for Receiver {
         ensures answer { CompleteAnswers (Some (received_of self.old.knows)) upto result }
         ensures told { self.new.knows.told ≡ self.old.knows.told }
         ensures received { Completes upto result (received_of self.old.knows) (received_of self.new.knows) }
+        // It is the receiver's own completion, and memory never runs out.
         ensures own { IsEndsAnswer (CompleteCall self.old upto self.new) result }
     {
         Ok(Receiver::complete(self, upto)?)

@@ -75,6 +75,7 @@ impl Plan {
 
     /// How many handlers there are.
     pub fn handlers(&self) -> usize
+        // It is the number of handlers, of which there are at most 16.
         ensures count { result ≡ handlers_of self.now }
         ensures few { result ≤ 16 }
     {
@@ -99,6 +100,7 @@ impl Plan {
     /// The place of the first word (part 0) or the second (part 1) of the event in a sequence's slot.
     pub fn payload_word(&self, sequence: u64, part: usize) -> usize
         requires { part < 2 }
+        // It is the place of this part in the slot of the sequence, which is one of the ring's words.
         ensures place { result ≡ payload_word_of self.now sequence part }
         ensures inside { result < words_of self.now }
     {

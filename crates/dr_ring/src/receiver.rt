@@ -37,7 +37,9 @@ impl Receiver {
     /// It is refused with `BadCount`, and changes nothing, where `out` is empty.
     #[tactic(auto, using(dr_runs::proofs::Beginnings::begins_same, dr_runs::proofs::Beginnings::begins_on))]
     pub fn poll_into(&mut self, out: &mut [Event]) -> Result<Polled, Refusal>
+        // By what its looks find it takes the next events, or says why there are none, and stores nothing.
         ensures call { PollCall self.old out.old self.new out.new result }
+        // It took fewer than 2^64 events in all.
         ensures fits { length self.new.knows.received < 2 ^ 64 }
     {
         let first = self.taken;
@@ -67,6 +69,7 @@ impl Receiver {
     /// Refusals in their order: `Behind` (more are completed), `NotTaken`. They change nothing.
     #[tactic(auto, using(dr_runs::proofs::Beginnings::begins_same, dr_runs::proofs::Beginnings::begins_on))]
     pub fn complete(&mut self, upto: u64) -> Result<(), Refusal>
+        // It answers by what it took and completed, and stores its count; a refused call stores nothing.
         ensures { CompleteCall self.old upto self.new result }
     {
         if upto < self.completed {
@@ -102,7 +105,8 @@ impl Receiver {
         self.station.looks
     }
 
-    /// The receiver's steps, one a function, for who writes a loop of their own.
+    /// The receiver's steps, one a function, for who writes a loop of their own. [`settle`](crate::settle)
+    /// takes no station.
     pub fn into_station(self) -> ReceiverStation
         ensures { result ≡ self }
     {

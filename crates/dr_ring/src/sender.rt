@@ -44,6 +44,7 @@ impl Sender {
     /// nothing else.
     #[tactic(auto, using(dr_runs::proofs::Beginnings::begins_same, dr_runs::proofs::Beginnings::begins_on))]
     pub fn try_claim(&mut self, n: u64) -> Result<Claimed, Refusal>
+        // By what its looks find it claims the next sequences, or says why it does not, and stores nothing.
         ensures { ClaimCall self.old n self.new result }
     {
         let size = self.station.plan().size().get();
@@ -78,6 +79,7 @@ impl Sender {
     /// Refusals in their order: `NotClaimed`, `AlreadyPublished`. They change nothing.
     #[tactic(auto, using(dr_runs::proofs::Beginnings::begins_same, dr_runs::proofs::Beginnings::begins_on))]
     pub fn write(&mut self, sequence: u64, event: Event) -> Result<(), Refusal>
+        // It answers by what it sent, and stores both words of the event; a refused call stores nothing.
         ensures { WriteCall self.old sequence event self.new result }
     {
         if sequence >= self.claimed {
@@ -101,6 +103,7 @@ impl Sender {
     /// `NotWritten`, `OutOfOrder`. They change nothing.
     #[tactic(auto, using(dr_runs::proofs::Beginnings::begins_same, dr_runs::proofs::Beginnings::begins_on))]
     pub fn publish(&mut self, lo: u64, hi: u64) -> Result<(), Refusal>
+        // It answers by what it sent, and stores the cursor; a refused call stores nothing.
         ensures { PublishCall self.old lo hi self.new result }
     {
         if lo > hi {
@@ -130,7 +133,9 @@ impl Sender {
     /// It is refused with `OpenClaim`, and changes nothing, while a claimed sequence is unpublished.
     #[tactic(auto, using(dr_runs::proofs::Beginnings::begins_same, dr_runs::proofs::Beginnings::begins_on))]
     pub fn close(&mut self) -> Result<(), Refusal>
+        // It stores halt and then closed where all that it claimed is published; else it stores nothing.
         ensures call { CloseCall self.old self.new result }
+        // Whatever it answers, what it sent stays, and without an open claim the ring is closed.
         ensures done { ClosesOnceDone self.old self.new }
     {
         if self.published != self.claimed {
@@ -162,7 +167,8 @@ impl Sender {
         self.station.looks
     }
 
-    /// The sender's steps, one a function, for who writes a loop of their own.
+    /// The sender's steps, one a function, for who writes a loop of their own. [`settle`](crate::settle)
+    /// takes no station.
     pub fn into_station(self) -> SenderStation
         ensures { result ≡ self }
     {

@@ -147,11 +147,15 @@ fn bring_together(sender: Sender, receivers: Vec<Receiver>, halter: Option<Halte
 /// ends know, in it each of them stored exactly what it did, and its transcript is lawful.
 pub fn settle(sender: Sender, receivers: Vec<Receiver>) -> Settled
     requires { AreReceiversOf sender receivers.items }
+    // It remembers these ends.
     ensures ends { (result.sender.value ≡ sender) × (result.receivers.value.items ≡ receivers.items) × (result.halter.value ≡ None) }
+    // It counts what was claimed and published, and what each handler took and completed.
     ensures claimed { result.claimed ≡ claimed_of sender.knows }
     ensures published { result.published ≡ length sender.knows.sent.published }
     ensures handlers { result.handlers.items ≡ map (λ e. handler_counts e.knows) receivers.items }
+    // Each receiver has the beginning of what was published, all if told `Drained`, behind its upstreams.
     ensures lists { Settles sender.knows (map (λ e. e.knows) receivers.items) }
+    // One lawful run came to what these ends know, in which each stored just what it did.
     ensures run { AreOfOneRun sender receivers.items }
 {
     bring_together(sender, receivers, None)
@@ -161,12 +165,17 @@ pub fn settle(sender: Sender, receivers: Vec<Receiver>) -> Settled
 /// halted the ring, the sender found no halt but its own.
 pub fn settle_all(sender: Sender, receivers: Vec<Receiver>, halter: Halter) -> Settled
     requires { AreAllEnds sender receivers.items halter }
+    // It remembers these ends.
     ensures ends { (result.sender.value ≡ sender) × (result.receivers.value.items ≡ receivers.items) × (result.halter.value ≡ Some halter) }
+    // It counts what was claimed and published, and what each handler took and completed.
     ensures claimed { result.claimed ≡ claimed_of sender.knows }
     ensures published { result.published ≡ length sender.knows.sent.published }
     ensures handlers { result.handlers.items ≡ map (λ e. handler_counts e.knows) receivers.items }
+    // Each receiver has the beginning of what was published, all if told `Drained`, behind its upstreams.
     ensures lists { Settles sender.knows (map (λ e. e.knows) receivers.items) }
+    // Where the halter never halted, the sender found no halt before its own.
     ensures unhalted { halter.knows.halted ≡ false → FoundUnhalted sender.knows }
+    // One lawful run came to what these ends know, in which each stored just what it did.
     ensures run { HasRun sender receivers.items halter }
 {
     bring_together(sender, receivers, Some(halter))

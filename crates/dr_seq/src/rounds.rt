@@ -42,6 +42,7 @@ impl Rounds {
     #[inline]
     pub fn mark(&mut self, s: u64)
         requires { s < 2 ^ 62 }
+        // Its slot has the sequence's round plus 1, and the other slots stay.
         ensures { self.new ≡ slice_set self.old (s % length self.old) (entry_of (length self.old) s) }
     {
         let slot = self.size.slot(s);

@@ -37,8 +37,10 @@ impl Size {
 
     /// A size of `n` slots.
     pub fn new(n: u64) -> Result<Size, SizeFault>
+        // It has `n` slots, which is a power of two from 1 to 65,536.
         ensures ok { IfOk result (λ size. size ≡ n) }
         ensures accepted { IsOk result → IsSize n }
+        // No such number is refused.
         ensures refused { IsErr result → IsSize n → ⊥ }
     {
         if n == 0 || n > Size::MAX {
@@ -53,6 +55,7 @@ impl Size {
     /// How many slots there are.
     #[inline]
     pub fn get(&self) -> u64
+        // It is the size, a power of two from 1 to 65,536.
         ensures value { result ≡ self.now }
         ensures size { IsSize result }
     {

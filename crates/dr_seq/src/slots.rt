@@ -40,6 +40,7 @@ impl<E: Copy> Slots<E> {
     /// Puts an event into the slot of a sequence, in place of what lay there.
     #[inline]
     pub fn put(&mut self, s: u64, event: E)
+        // The slot of the sequence has the event, and the other slots stay.
         ensures { self.new ≡ slice_set self.old (s % length self.old) event }
     {
         let slot = self.size.slot(s);
@@ -51,6 +52,7 @@ impl<E: Copy> Slots<E> {
     #[inline]
     pub fn slices(&self, first: u64, count: usize) -> (&[E], &[E])
         requires { count ≤ length self.now }
+        // Both pieces together are the events of these sequences in order, and as many as asked.
         ensures events { (d : E) → result.0.now ++ result.1.now ≡ map (λ s. event_at d self.now s) (range_with_len first count) }
         ensures count { length result.0.now + length result.1.now ≡ count }
     {

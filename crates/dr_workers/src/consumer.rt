@@ -89,15 +89,18 @@ pub fn consume_with<E: Copy, R: Wait, O: Outlet<E>, G: Gate, H: InPlaceHandler<E
     buf: &mut [E],
     patience: &mut P,
 ) -> Option<WorkFault>
+    // It stays the same end.
     ensures kept { O.kept outlet.new ≡ O.kept outlet.old }
     // The handler was shown all events that the end handed out, in order, batch by batch, with the
     // marks that it gave, each poll had the whole buffer's room, and the answer is that of the last call, or
     // that the gate stopped the worker.
     ensures serves { SomeCalls O.does outlet.old outlet.new (Serves (length buf.old) H.goes handler.old handler.new (O.received outlet.old) (O.received outlet.new) (G.may_stop gate.now who) (G.must_stop gate.now who) result) }
-    // And after each poll the patience was told what came, or was asked to wait.
+    // After each poll the patience was told what came, or was asked to wait.
     ensures bides { SomeCalls (Attends O.does P.waits P.finds) (record { end = outlet.old; patience = patience.old }) (record { end = outlet.new; patience = patience.new }) (Serves (length buf.old) H.goes handler.old handler.new (O.received outlet.old) (O.received outlet.new) (G.may_stop gate.now who) (G.must_stop gate.now who) result) }
+    // Without a fault the end was told `Drained`, and where it shows what it took all that came is completed.
     ensures done { IfNone result (WhereShown IsDone (O.received outlet.old) (O.received outlet.new)) }
     ensures drained { IfNone result (O.told outlet.new ≡ true) }
+    // It waits where memory runs out, and answers a stop only if its gate may stop it.
     ensures waits { result ≢ Some Memory }
     ensures stopped { result ≡ Some Stopped → MayStop G.may_stop gate.now who }
 {
@@ -121,10 +124,14 @@ pub fn consume<E: Copy, R: Wait, O: Outlet<E>, G: Gate, H: Handler<E>>(
     handler: &mut H,
     buf: &mut [E],
 ) -> Option<WorkFault>
+    // It stays the same end.
     ensures kept { O.kept outlet.new ≡ O.kept outlet.old }
+    // The handler was shown just the batches of the polls, in order, each completed before the next poll.
     ensures serves { SomeCalls O.does outlet.old outlet.new (Serves (length buf.old) H.goes handler.old handler.new (O.received outlet.old) (O.received outlet.new) (G.may_stop gate.now who) (G.must_stop gate.now who) result) }
+    // Without a fault the end was told `Drained`, and where it shows what it took all that came is completed.
     ensures done { IfNone result (WhereShown IsDone (O.received outlet.old) (O.received outlet.new)) }
     ensures drained { IfNone result (O.told outlet.new ≡ true) }
+    // It waits where memory runs out, and answers a stop only if its gate may stop it.
     ensures waits { result ≢ Some Memory }
     ensures stopped { result ≡ Some Stopped → MayStop G.may_stop gate.now who }
 {
@@ -144,12 +151,16 @@ pub fn serve<R: Wait, O: Outlet<Event>, G: Gate, H: InPlaceHandler<Event>, B: Ri
     bell: B,
     patience: &mut P,
 ) -> (O, Option<WorkFault>)
+    // It stays the same end.
     ensures kept { O.kept result.0 ≡ O.kept outlet }
-    // Each poll had room for 256 events.
+    // The handler was shown just the batches of the polls, each of which had room for 256 events.
     ensures serves { SomeCalls O.does outlet result.0 (Serves 256 H.goes handler.old handler.new (O.received outlet) (O.received result.0) (G.may_stop gate.now who) (G.must_stop gate.now who) result.1) }
+    // After each poll the patience was told what came, or was asked to wait.
     ensures bides { SomeCalls (Attends O.does P.waits P.finds) (record { end = outlet; patience = patience.old }) (record { end = result.0; patience = patience.new }) (Serves 256 H.goes handler.old handler.new (O.received outlet) (O.received result.0) (G.may_stop gate.now who) (G.must_stop gate.now who) result.1) }
+    // Without a fault the end was told `Drained`, and where it shows what it took all that came is completed.
     ensures done { IfNone result.1 (WhereShown IsDone (O.received outlet) (O.received result.0)) }
     ensures drained { IfNone result.1 (O.told result.0 ≡ true) }
+    // It waits where memory runs out, and answers a stop only if its gate may stop it.
     ensures waits { result.1 ≢ Some Memory }
     ensures stopped { result.1 ≡ Some Stopped → MayStop G.may_stop gate.now who }
 {

@@ -39,7 +39,9 @@ fn lesser_of(first: Option<WorkerFault>, found: WorkerFault) -> WorkerFault
 /// a stop before a refusal; of several of one kind, that of the worker with the least number. The
 /// order is this project's own.
 pub fn first_fault(ended: &[Ended]) -> Option<WorkerFault>
+    // A lack of memory comes before a stop, that before a refusal; of one kind, the least number's comes.
     ensures first { result ≡ first_of ended.now }
+    // None is answered only if no worker has a fault.
     ensures none { IfNone result (All (λ e. e.fault ≡ None) ended.now) }
 {
     let mut memory = None;

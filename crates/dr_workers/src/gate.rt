@@ -26,6 +26,7 @@ pub trait Gate {
     /// Lets a worker pass. `who` is the worker's number, and `passage` counts its passages from 0, up to
     /// `u64::MAX`.
     fn pass(&self, who: usize, passage: u64) -> GateAnswer
+        // It stops a worker only where it may, and always where it must.
         ensures may { result ≡ Stop → may_stop self.now who passage }
         ensures must { must_stop self.now who passage → result ≡ Stop };
 }

@@ -29,6 +29,7 @@ pub struct Parking<'a, R> {
 impl<'a, R: Wait> Parking<'a, R> {
     /// For a thread that has room for so many events at once. No look found nothing yet.
     pub fn new(rt: &'a R, bell: &'a Bell, room: u64) -> Parking<'a, R>
+        // It begins as one that pauses and yields, with no look counted, and does not listen yet.
         ensures waiting { result.waiting ≡ begun room }
         ensures looks { result.looks ≡ 0 }
         ensures heard { result.heard ≡ None }

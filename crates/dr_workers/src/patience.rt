@@ -15,10 +15,12 @@ pub trait Patience {
 
     /// Waits, after a look that found nothing.
     fn wait(&mut self)
+        // What its type says of a wait holds.
         ensures waits { waits self.old self.new };
 
     /// Begins anew, after a wait that let so many events come, or room for so many.
     fn found(&mut self, count: u64)
+        // What its type says of a wait that found so many holds.
         ensures finds { finds self.old count self.new };
 }
 

@@ -81,13 +81,17 @@ pub fn produce_with<E: Copy, R: Wait, I: Inlet<E>, G: Gate, P: Patience>(
     requires cut { 0 < cut }
     // At each claim without room the patience was told how many events found room since the last one, and asked to wait.
     ensures bides { (room : ℕ) × SomeCalls (Provides I.does P.waits P.finds) (record { end = inlet.old; patience = patience.old; room = 0 }) (record { end = inlet.new; patience = patience.new; room = room }) (Sends cut script.now (G.may_stop gate.now who) (G.must_stop gate.now who) result) }
+    // It stays the same end, and where it shows what it sent, just the script's first events are added.
     ensures kept { I.kept inlet.new ≡ I.kept inlet.old }
     ensures sent { WhereShown (Adds (take result.sent script.now)) (I.sent inlet.old) (I.sent inlet.new) }
-    // Whatever the answer, each claim that an end shows was published.
+    // Whatever the answer, if no claim was open that the end shows, none is.
     ensures open { WhereShown LeavesNothingOpen (I.sent inlet.old) (I.sent inlet.new) }
+    // It says how many of the script's events it sent: all of them, without a fault.
     ensures within { result.sent ≤ length script.now }
     ensures all { IfNone result.fault (result.sent ≡ length script.now) }
+    // It answers a stop only if its gate may stop it.
     ensures stopped { result.fault ≡ Some Stopped → MayStop G.may_stop gate.now who }
+    // It made just the calls of the script, part after part, until all was sent or a call failed for good.
     ensures sends { SomeCalls I.does inlet.old inlet.new (Sends cut script.now (G.may_stop gate.now who) (G.must_stop gate.now who) result) }
 {
     let mut passages = Passages::new(who);
@@ -115,12 +119,17 @@ pub fn produce<E: Copy, R: Wait, I: Inlet<E>, G: Gate>(
     cut: u64,
 ) -> Produced
     requires cut { 0 < cut }
+    // It stays the same end, and where it shows what it sent, just the script's first events are added.
     ensures kept { I.kept inlet.new ≡ I.kept inlet.old }
     ensures sent { WhereShown (Adds (take result.sent script.now)) (I.sent inlet.old) (I.sent inlet.new) }
+    // Whatever the answer, if no claim was open that the end shows, none is.
     ensures open { WhereShown LeavesNothingOpen (I.sent inlet.old) (I.sent inlet.new) }
+    // It says how many of the script's events it sent: all of them, without a fault.
     ensures within { result.sent ≤ length script.now }
     ensures all { IfNone result.fault (result.sent ≡ length script.now) }
+    // It answers a stop only if its gate may stop it.
     ensures stopped { result.fault ≡ Some Stopped → MayStop G.may_stop gate.now who }
+    // It made just the calls of the script, part after part, until all was sent or a call failed for good.
     ensures sends { SomeCalls I.does inlet.old inlet.new (Sends cut script.now (G.may_stop gate.now who) (G.must_stop gate.now who) result) }
 {
     let mut waiting = Waiting::new(cut);

@@ -46,7 +46,9 @@ impl<E: Copy> Core<E> {
 
     /// How many events a poll could give a handler now.
     pub fn ready(&self, h: usize) -> Result<u64, Refusal>
+        // It is what the barrier lets through and the handler did not take; first come the two refusals.
         ensures answer { result ≡ ready_for self.now h }
+        // On each state that the core shows a poll hands out so many events, or its maximum if less.
         ensures gives { IfOk result (λ n. (m : State E) (max : ℕ) → Shows self.now m → length (step self.now.setup m (Command.Poll h max)).values ≡ min n max) }
     {
         if h >= self.graph.len() {
@@ -63,10 +65,14 @@ impl<E: Copy> Core<E> {
     /// Takes what the barrier of a handler lets through, at most as much as `out` holds, and puts
     /// it at the front of `out`. `end` is LMAX's end of batch, unless `out` was too small for all.
     pub fn poll_into(&mut self, h: usize, out: &mut [E]) -> Result<Polled, Refusal>
+        // The machine polls with the buffer's room, and answers so with the events in front in the buffer.
         ensures step { IsStep self.old (Command.Poll h (length out.old)) (poll_reply result) (polled result out.new) self.new }
+        // What lies in the buffer behind the batch stays, and a batch fits into the buffer.
         ensures rest { out.new ≡ polled result out.new ++ drop (length (polled result out.new)) out.old }
         ensures fits { count_in (poll_reply result) ≤ length out.old }
+        // After a batch the handler has taken it to its end, is not retired, and completed none of it.
         ensures takes { TakesIfBatch h result self.new }
+        // A refusal leaves the core as it was.
         ensures refused { OnErr result (self.new ≡ self.old) }
     {
         if h >= self.graph.len() {
@@ -101,8 +107,11 @@ impl<E: Copy> Core<E> {
         h: usize,
         handler: &mut H,
     ) -> Result<Polled, Refusal>
+        // The machine polls with a ring's room, the handler goes through the batch, and it is completed.
         ensures turn { (values : List E) × TakesTurn H.goes self.old h self.old.setup.size result values self.new handler.old handler.new }
+        // A batch is all that was available, so its last event is marked.
         ensures all { (first : ℕ) (count : ℕ) (end : Bool) → result ≡ Ok (Polled.Batch first count end) → end ≡ true }
+        // A refusal leaves the core as it was.
         ensures refused { OnErr result (self.new ≡ self.old) }
     {
         if h >= self.graph.len() {
@@ -143,8 +152,11 @@ impl<E: Copy> Core<E> {
     /// A handler has done with its first `upto` events, so that its followers may take them, and
     /// after a final handler their slots may be claimed again.
     pub fn complete(&mut self, h: usize, upto: u64) -> Result<(), Refusal>
+        // The machine's completion, with its refusals in their order.
         ensures step { IsStep self.old (Command.Complete h upto) (unit_reply Reply.Completed result) [] self.new }
+        // A handler may complete up to what it took, if it is not retired and takes no completion back.
         ensures accepted { CanComplete self.old h upto → IsOk result }
+        // A refusal leaves the core as it was.
         ensures refused { OnErr result (self.new ≡ self.old) }
     {
         if h >= self.graph.len() {

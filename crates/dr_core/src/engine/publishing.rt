@@ -87,6 +87,7 @@ impl<E: Copy> Core<E> {
     /// completed by every final handler that is left, as LMAX's sequencers do by their gating
     /// sequences.
     pub fn claim(&mut self, p: u64, n: u64) -> Result<Claimed, Refusal>
+        // The machine's claim, with its refusals in order; a refused one leaves the core as it was.
         ensures step { IsStep self.old (Command.Claim p n) (claim_reply result) [] self.new }
         ensures refused { OnErr result (self.new ≡ self.old) }
     {
@@ -107,6 +108,7 @@ impl<E: Copy> Core<E> {
 
     /// Writes the event of a claimed sequence. Until it is published it may be written again.
     pub fn write(&mut self, p: u64, s: u64, event: E) -> Result<(), Refusal>
+        // The machine's write, with its refusals in order; a refused one leaves the core as it was.
         ensures step { IsStep self.old (Command.Write p s event) (unit_reply Reply.Written result) [] self.new }
         ensures refused { OnErr result (self.new ≡ self.old) }
     {
@@ -136,6 +138,7 @@ impl<E: Copy> Core<E> {
     // one thread would take many more instructions.
     #[inline(always)]
     pub fn publish(&mut self, p: u64, lo: u64, hi: u64) -> Result<(), Refusal>
+        // The machine's publication, with its refusals in order; a refused one leaves the core as it was.
         ensures step { IsStep self.old (Command.Publish p lo hi) (unit_reply Reply.Published result) [] self.new }
         ensures refused { OnErr result (self.new ≡ self.old) }
     {

@@ -14,8 +14,10 @@ impl<E: Copy> Core<E> {
     /// A handler takes no more events, and claims no longer wait for it. All its followers are
     /// retired before, and some other handler is left. Its counts stay as they are.
     pub fn retire(&mut self, h: usize) -> Result<(), Refusal>
+        // The machine's retirement, with its refusals in order; a refused one leaves the core as it was.
         ensures step { IsStep self.old (Command.Retire h) (unit_reply Reply.Retired result) [] self.new }
         ensures refused { OnErr result (self.new ≡ self.old) }
+        // The least count for which claims wait does not fall.
         ensures room { gate_of self.old ≤ gate_of self.new }
     {
         if h >= self.graph.len() {

@@ -1,6 +1,6 @@
 -- What the handler does with an event: `seen`, `may_leave`, `moment`, `left_since` and `faults` are its device's.
 use Rattle.std.specs.Prelude.{◌≡◌, ◌<◌, ℕ, map, Bool, true, false, Option, Some, None, IsSome, List, [], ◌∷◌, ◌++◌}
-use Rattle.dr_journal.specs.Calls.Journals.{IsAtRest, IsBeforeOrAfter, IsTooLarge, CrashLeaves, file_of, records_of, faults_of}
+use Rattle.dr_journal.specs.Calls.Journals.{IsAtRest, IsBeforeOrAfter, IsTooLarge, StandsFor, CrashLeaves, file_of, records_of, faults_of}
 use Rattle.dr_meaning.specs.Calls.Handling.{GoesThrough, Showing}
 use Rattle.dr_journal.specs.declared.journal.Journal.{Journal}
 use Rattle.dr_journal.specs.declared.fault.JournalFault.{JournalFault}
@@ -11,6 +11,10 @@ pub record Writer (D : Type 0) : Type 0 where
   pub journal : Journal D
   pub waiting : List (List ℕ)
   pub fault : Option JournalFault
+
+-- a file stands for the records from before and, behind them, the first of those that came
+abbrev pub HasFirst : List (List ℕ) → List (List ℕ) → List ℕ → Type 0
+HasFirst past came file = (first later : List (List ℕ)) × (came ≡ first ++ later) × StandsFor (past ++ first) file
 
 module _ {D : Type 0} (seen : D → List ℕ) (may_leave : D → List ℕ → Type 0) (moment : D → ℕ) (left_since : D → ℕ → List ℕ → Type 0) (faults : D → ℕ) where
   -- a handler that had not failed is shown an event of this record
@@ -46,3 +50,9 @@ module _ {D : Type 0} (seen : D → List ℕ) (may_leave : D → List ℕ → Ty
   abbrev pub KeepsAll : Type 0
   KeepsAll = (shown : List (Showing (List ℕ))) (marked : Showing (List ℕ)) (first last : Writer D) → marked.end ≡ true → GoesThrough journaled first (shown ++ marked ∷ []) last → last.fault ≡ None
       → IsAtRest seen may_leave last.journal × (records_of seen last.journal ≡ records_of seen first.journal ++ (first.waiting ++ (map (λ x. x.event) shown ++ marked.event ∷ [])))
+
+  -- while a handler that had not failed is shown any events, a crash leaves what its file stood for and, behind that, the first of
+  -- what waited and of what it was shown: nothing is lost, and nothing skipped
+  abbrev pub OnlyAdds : Type 0
+  OnlyAdds = (shown : List (Showing (List ℕ))) (first last : Writer D) → first.fault ≡ None → IsAtRest seen may_leave first.journal → GoesThrough journaled first shown last
+      → CrashLeaves moment left_since first.journal last.journal (HasFirst (records_of seen first.journal) (first.waiting ++ map (λ x. x.event) shown))

@@ -4,7 +4,7 @@ use Rattle.std.specs.List.{flat_map, Contains}
 use Rattle.std.specs.declared.alloc.Global.{Global}
 use Rattle.dr_journal.specs.Meaning.Disk.{Only, LeavesOnly}
 use Rattle.dr_journal.specs.Meaning.Format.{header, IsJournal, behind_header, whole_batches, recovered, frame}
-use Rattle.dr_journal.specs.Inside.Parts.{device_of, end_of, length_of}
+use Rattle.dr_journal.specs.Calls.Parts.{device_of, end_of, length_of}
 use Rattle.dr_journal.specs.declared.journal.Journal.{Journal}
 use Rattle.dr_journal.specs.declared.fault.JournalFault.{JournalFault}
 use Rattle.dr_journal.specs.declared.fault.JournalFault.TheVariants.{NoMemory, Full}

@@ -3,7 +3,7 @@ use Rattle.std.specs.Prelude.{◌≡◌, ℕ, List, ◌++◌, Vec}
 use Rattle.std.specs.declared.alloc.Global.{Global}
 use Rattle.dr_journal.specs.Meaning.Format.{IsForeign, recovered}
 use Rattle.dr_journal.specs.Calls.Journals.{bytes_of}
-use Rattle.dr_journal.specs.Inside.Reading.{HasRead}
+use Rattle.dr_journal.specs.Calls.Readers.{HasRead}
 use Rattle.dr_journal.specs.declared.recovery.Recovery.{Recovery}
 
 -- to the records from before those are added that the piece completes: the file so far stands for as many more

@@ -1,10 +1,9 @@
--- What is known of a journal's file of which only a beginning was read.
+-- What is known of the bytes behind a header of which only a beginning was read.
 use Rattle.std.specs.Prelude.{◌≡◌, ◌<◌, ℕ, ◌+◌, ◌-◌, List, [], ◌∷◌, ◌++◌, length, take, drop, Bool, true, false, Vec, if◌then◌else◌, ◌==◌}
 use Rattle.std.specs.declared.alloc.Global.{Global}
-use Rattle.dr_journal.specs.Meaning.Format.{header, behind_header, whole_length, records_from, records_in}
+use Rattle.dr_journal.specs.Meaning.Format.{behind_header, whole_length, records_from, records_in}
 use Rattle.dr_journal.specs.Calls.Journals.{bytes_of}
 use Rattle.dr_journal.specs.declared.scan.Scan.{Scan}
-use Rattle.dr_journal.specs.declared.recovery.Recovery.{Recovery}
 
 -- what stands behind the batches that are there whole
 abbrev pub tail_of : List ℕ → List ℕ
@@ -34,16 +33,6 @@ Completes body bytes before after = (more : List (Vec ℕ Global)) × (after ≡
 -- one byte more
 abbrev pub Takes : Scan → Scan → ℕ → List (Vec ℕ Global) → List (Vec ℕ Global) → Type 0
 Takes old new byte before after = (body : List ℕ) → HasScanned old body → HasScanned new (body ++ byte ∷ []) × Completes body (byte ∷ []) before after
-
--- these bytes of a file were read, and as far as they go they begin with the header
-pub record HasRead (recovery : Recovery) (file : List ℕ) : Type 0 where
-  pub begins : take 8 file ≡ take (length file) header
-  pub matched : recovery.matched ≡ length (take 8 file)
-  pub scanned : HasScanned recovery.scan (behind_header file)
-
--- how many they are
-abbrev pub count_of : Recovery → ℕ
-count_of recovery = recovery.matched + recovery.scan.len
 
 -- what of a file is perhaps not on the disk: its last whole batch, and all behind it; of a file without batches all
 abbrev pub unsure_from : List ℕ → ℕ

@@ -63,6 +63,7 @@ impl<T> Halter<T> {
 
     /// How many handlers the ring has.
     pub fn handlers(&self) -> usize
+        // It is the number of handlers, of which there are at most 16.
         ensures count { result ≡ handlers_of self.now.knows.plan }
         ensures few { result ≤ 16 }
     {

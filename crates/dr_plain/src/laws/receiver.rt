@@ -51,6 +51,7 @@ impl<T> ReceiverStation<T> {
 
     /// A receiver looks at closed.
     pub fn look_at_closed(&mut self) -> u64
+        // It has looked once, and finds 0 or 1: no less than before, and 1 where it was told `Drained`.
         ensures step { HasLoaded self.old (closed_looked self.old.knows result) self.old.hand self.new }
         ensures finds { FindsClosed self.old.knows closed_word result }
     {
@@ -63,7 +64,10 @@ impl<T> ReceiverStation<T> {
     /// what its barrier then lets through, as far as it saw, at most `room` events.
     pub fn look_at_cursor<J: Names>(&mut self, room: u64) -> u64
         requires named { room ≡ J.number }
+        // It has looked once, may be told `Drained`, and took what its barrier and `room` let through.
         ensures step { (lents : List (Lent T)) × (length lents ≡ taken_at self.old.knows cursor_word result room) × HasLoaded self.old (cursor_looked self.old.knows result lents) (taken_by_poll self.old.knows lents ++ self.old.hand) self.new }
+        // It finds no less than before or than it took, and at most a round beyond what it completed; no more
+        // than it took if it was told `Drained`.
         ensures finds { FindsEvents self.old.knows cursor_word result }
     {
         self.looks = self.looks.saturating_add(1);
@@ -75,7 +79,10 @@ impl<T> ReceiverStation<T> {
     pub fn look_at_count<J: Names>(&mut self, upstream: usize, room: u64) -> u64
         requires named { room ≡ J.number }
         requires upstream { Contains (upstreams_of self.old.knows.plan.upstreams self.old.knows.number) upstream }
+        // It has looked once, and took what its barrier and `room` let through, which is first in hand.
         ensures step { (lents : List (Lent T)) × (length lents ≡ taken_at self.old.knows (count_word_of upstream) result room) × HasLoaded self.old (receiver_looked self.old.knows (count_word_of upstream) result lents) (taken_by_poll self.old.knows lents ++ self.old.hand) self.new }
+        // It finds no less than before or than it took, and at most a round beyond what it completed; no more
+        // than it took if it was told `Drained`.
         ensures finds { FindsEvents self.old.knows (count_word_of upstream) result }
     {
         self.looks = self.looks.saturating_add(1);

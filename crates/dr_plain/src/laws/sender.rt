@@ -46,6 +46,7 @@ impl<T> Model for SenderStation<T> {
 impl<T> SenderStation<T> {
     /// What the ring was made for.
     pub fn plan(&self) -> &Plan<T>
+        // It is the ring's plan: of a graph of at most 16 handlers, a size, and a limit of at most 2^62.
         ensures plan { result.now ≡ self.now.knows.plan }
         ensures made { IsPlan result.now }
     {
@@ -55,6 +56,7 @@ impl<T> SenderStation<T> {
     /// The sender looks at a final handler's count.
     pub fn look_at_count(&mut self, handler: usize) -> u64
         requires { Contains (finals self.old.knows.plan.upstreams) handler }
+        // It has looked once, and finds no less than before, and no more than is published.
         ensures step { HasLoaded self.old (sender_looked self.old.knows (count_word_of handler) result) self.old.hand self.new }
         ensures finds { FindsCompleted self.old.knows (count_word_of handler) result }
     {
@@ -68,7 +70,9 @@ impl<T> SenderStation<T> {
     pub fn look_at_halt<J: Names>(&mut self, more: u64) -> u64
         requires named { more ≡ J.number }
         requires room { 0 < more → SeesRoom self.old.knows.plan self.old.knows more }
+        // It has looked once, and claimed so many where it finds 0, with their cells' parts first in hand.
         ensures step { HasLoaded self.old (halt_looked self.old.knows more result) (taken_by_claim self.old.knows more result ++ self.old.hand) self.new }
+        // It finds 0 or 1: no less than before, and 1 where it halted.
         ensures finds { FindsHalt self.old.knows result }
     {
         self.looks = self.looks.saturating_add(1);

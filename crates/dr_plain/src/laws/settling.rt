@@ -42,6 +42,7 @@ impl<T, J: Plans> Play<Token<T>, View<T>> for TakesAll<J> {
 /// A seat takes in what another stands for. What slots that other has in hand stay in no seat.
 pub fn unite<T>(words: &Words<T>, seat: &mut RingSeat<T>, mut other: RingSeat<T>)
     requires table { (seat.old.table_id ≡ words.now.table_id) × (other.table_id ≡ words.now.table_id) × (0 < words.now.table_id.words) }
+    // The seat stays this seat, and stands for the ends of both.
     ensures seat { (seat.new.table_id ≡ seat.old.table_id) × (seat.new.id ≡ seat.old.id) }
     ensures view { seat.new.me ≡ (both_views seat.old.me.0 other.me.0, seat.old.me.1) }
 {
@@ -56,8 +57,11 @@ pub fn take_all<T, J: Plans>(words: &Words<T>, seat: &mut RingSeat<T>)
     requires table { (seat.old.table_id ≡ words.now.table_id) × (0 < words.now.table_id.words) }
     requires plan { words.now.key ≡ J.plan }
     requires ends { (s : SenderEnd T) × (es : List (ReceiverEnd T)) × (t : HalterEnd T) × HasAllEnds seat.old.me.0 s es t }
+    // The seat stays one of this ring.
     ensures seat { seat.new.table_id ≡ seat.old.table_id }
+    // One run came to what all ends know that the seat stands for.
     ensures ran { ViewRan (exchange J.plan) seat.old.me.0 }
+    // What lay in the slots is in hand, before what was there.
     ensures hand { (s : SenderEnd T) (es : List (ReceiverEnd T)) (t : HalterEnd T) → HasAllEnds seat.old.me.0 s es t → seat.new.me.1 ≡ left_of s es ++ seat.old.me.1 }
 {
     words.load::<TakesAll<J>>(seat, CURSOR_WORD);

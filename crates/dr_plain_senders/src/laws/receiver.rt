@@ -59,7 +59,9 @@ impl<T> ReceiverStation<T> {
     /// A receiver looks at the claim word, and is told that the ring drained where the ring is
     /// halted and it took all that is claimed.
     pub fn look_at_claims(&mut self) -> u64
+        // It has looked once, and is told `Drained` if the ring is halted and it took all that is claimed.
         ensures step { HasLoaded self.old (claims_looked self.old.knows result) self.old.hand self.new }
+        // It finds no less than before or than it took; once told `Drained`, halt and just what it took.
         ensures finds { FindsClaims self.old.knows result }
     {
         self.looks = self.looks.saturating_add(1);
@@ -73,7 +75,9 @@ impl<T> ReceiverStation<T> {
         requires named { (self.old.plan ≡ J.plan) × (room ≡ J.number) }
         requires first { upstreams_of self.old.plan.upstreams self.old.knows.number ≡ [] }
         requires next { sequence ≡ length self.old.knows.received }
+        // It has looked once at marks, and took what they and `room` let through, which is first in hand.
         ensures step { (lents : List (Lent T)) × (length lents ≡ taken_at_mark self.old.plan self.old.knows result room) × HasLoaded self.old (mark_looked self.old.knows result lents) (taken_by_poll self.old.plan self.old.knows lents ++ self.old.hand) self.new }
+        // It finds no mark if it was told `Drained`, and none a round or more beyond what it completed.
         ensures finds { FindsNext self.old.plan self.old.knows result }
     {
         let plan = &self.ring.plan;
@@ -86,7 +90,10 @@ impl<T> ReceiverStation<T> {
     pub fn look_at_count<J: Names<T>>(&mut self, upstream: usize, room: u64) -> u64
         requires named { (self.old.plan ≡ J.plan) × (room ≡ J.number) }
         requires upstream { Contains (upstreams_of self.old.plan.upstreams self.old.knows.number) upstream }
+        // It has looked once, and took what all upstreams and `room` let through, which is first in hand.
         ensures step { (lents : List (Lent T)) × (length lents ≡ taken_at_count self.old.plan self.old.knows (count_word_of upstream) result room) × HasLoaded self.old (receiver_looked self.old.knows (count_word_of upstream) result lents) (taken_by_poll self.old.plan self.old.knows lents ++ self.old.hand) self.new }
+        // It finds no less than before or than it took, and at most a round beyond what it completed; no more
+        // than it took if it was told `Drained`.
         ensures finds { FindsEvents self.old.plan self.old.knows (count_word_of upstream) result }
     {
         self.looks = self.looks.saturating_add(1);

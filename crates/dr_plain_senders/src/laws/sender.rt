@@ -50,6 +50,7 @@ impl<T> Model for SenderStation<T> {
 impl<T> SenderStation<T> {
     /// What the ring was made for.
     pub fn plan(&self) -> &Plan<T>
+        // It is the ring's plan: at most 16 handlers, 1 to 16 senders, a size, a limit of at most 2^62.
         ensures plan { result.now ≡ self.now.plan }
         ensures made { IsPlan result.now }
     {
@@ -58,8 +59,10 @@ impl<T> SenderStation<T> {
 
     /// A sender looks at the claim word.
     pub fn look_at_claims(&mut self) -> u64
+        // It has looked once, and finds no less than before.
         ensures step { HasLoaded self.old (sender_looked self.old.knows claim_word result) self.old.hand self.new }
         ensures finds { FindsMore self.old.knows.looks claim_word result }
+        // All sequences that it has are among those claimed.
         ensures own { FindsOwn self.old.knows result }
     {
         self.looks = self.looks.saturating_add(1);
@@ -70,6 +73,7 @@ impl<T> SenderStation<T> {
     /// A sender looks at a final handler's count.
     pub fn look_at_count(&mut self, handler: usize) -> u64
         requires { Contains (finals self.old.plan.upstreams) handler }
+        // It has looked once, and finds no less than before.
         ensures step { HasLoaded self.old (sender_looked self.old.knows (count_word_of handler) result) self.old.hand self.new }
         ensures finds { FindsMore self.old.knows.looks (count_word_of handler) result }
     {
@@ -85,8 +89,11 @@ impl<T> SenderStation<T> {
         requires named { self.old.plan ≡ J.plan }
         requires some { 0 < count }
         requires room { SeesRoom self.old.plan self.old.knows found count }
+        // It claims if it finds `found`, and what lay in the slots is first in hand; else it has looked.
         ensures step { (laid : List (Laid T)) × LayIn self.old.plan found (exchanged found count result) laid × HasStored self.old (SenderClaims self.old.knows.number found count) (after_exchange self.old.knows found count result) (taken_by_claim self.old.plan found laid ++ self.old.hand) self.new × LayAsLent self.old.plan self.old.knows found laid }
+        // It finds no less than before.
         ensures finds { FindsMore self.old.knows.looks claim_word result }
+        // If it claims, all that it had is earlier, and none that is not published loses its cell.
         ensures own { result ≡ found → (s : ℕ) (t : Stage T) → Owns self.old.knows s t → IsEarlier self.old.plan found (found + count) s t }
     {
         self.looks = self.looks.saturating_add(1);

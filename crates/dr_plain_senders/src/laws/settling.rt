@@ -27,6 +27,7 @@ impl<T, J: Names<T>> Play<Token<T>, View<T>> for TakesAll<J> {
 /// A seat takes in what another stands for. What slots that other has in hand stay in no seat.
 pub fn unite<T>(words: &Words<T>, seat: &mut RingSeat<T>, mut other: RingSeat<T>)
     requires table { (seat.old.table_id ≡ words.now.table_id) × (other.table_id ≡ words.now.table_id) × (0 < words.now.table_id.words) }
+    // The seat stays this seat, and stands for the ends of both.
     ensures seat { (seat.new.table_id ≡ seat.old.table_id) × (seat.new.id ≡ seat.old.id) }
     ensures view { seat.new.me ≡ (both_views seat.old.me.0 other.me.0, seat.old.me.1) }
 {
@@ -41,7 +42,9 @@ pub fn take_all<T, J: Names<T>>(words: &Words<T>, seat: &mut RingSeat<T>) -> u64
     requires table { (seat.old.table_id ≡ words.now.table_id) × (0 < words.now.table_id.words) }
     requires plan { words.now.key ≡ J.plan }
     requires ends { (ss : List (SenderEnd T)) × (rs : List (ReceiverEnd T)) × (t : HalterEnd T) × HasAllEnds seat.old.me.0 ss rs t × (J.plan ≡ t.plan) }
+    // The seat stays one of this ring.
     ensures seat { seat.new.table_id ≡ seat.old.table_id }
+    // One run came to what the ends knew and to this claim word; what lay in the slots is in hand.
     ensures took { TookAll J.plan seat.old.me result seat.new.me }
 {
     words.load::<TakesAll<J>>(seat, CLAIM_WORD)

@@ -34,6 +34,7 @@ impl Halter {
     /// Halts the ring. It always succeeds, and may be repeated. Receivers are told `Drained` only
     /// once the sender has closed.
     pub fn halt(&mut self)
+        // It stores halt, and nothing else.
         ensures { HasStored self.old HalterHalts (halter_halted self.old.knows) self.new }
     {
         let words = &self.ring.table.shared;

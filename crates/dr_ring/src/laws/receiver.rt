@@ -48,6 +48,7 @@ impl ReceiverStation {
 
     /// A receiver looks at closed.
     pub fn look_at_closed(&mut self) -> u64
+        // It has looked once, and finds 0 or 1: no less than before, and 1 where it was told `Drained`.
         ensures step { HasLoaded self.old (receiver_looked self.old.knows closed_word result) self.new }
         ensures finds { FindsClosed self.old.knows closed_word result }
     {
@@ -58,6 +59,7 @@ impl ReceiverStation {
 
     /// A receiver looks at the cursor, by which it may be told that the ring drained.
     pub fn look_at_cursor(&mut self) -> u64
+        // It has looked once, and finds no less than before or than it took; so it may be told `Drained`.
         ensures step { HasLoaded self.old (cursor_looked self.old.knows result) self.new }
         ensures finds { FindsEvents self.old.knows cursor_word result }
     {
@@ -69,6 +71,7 @@ impl ReceiverStation {
     /// A receiver looks at the count of one of its upstreams.
     pub fn look_at_count(&mut self, upstream: usize) -> u64
         requires { Contains (upstreams_of self.old.knows.plan.upstreams self.old.knows.number) upstream }
+        // It has looked once, and finds no less than before or than it took.
         ensures step { HasLoaded self.old (receiver_looked self.old.knows (count_word_of upstream) result) self.new }
         ensures finds { FindsEvents self.old.knows (count_word_of upstream) result }
     {
@@ -94,6 +97,7 @@ impl ReceiverStation {
         requires place { word ≡ payload_word self.old.knows.plan (length self.old.knows.received) 1 }
         requires half { self.old.knows.half ≡ Some first }
         requires below { IsBelowBarrier self.old.knows.plan self.old.knows.number self.old.knows }
+        // It has taken the event, whose first word is the one that it loaded before.
         ensures step { HasLoaded self.old (took self.old.knows result) self.new }
         ensures first { result.first ≡ first }
     {

@@ -42,6 +42,7 @@ impl Model for SenderStation {
 impl SenderStation {
     /// What the ring was made for.
     pub fn plan(&self) -> &Plan
+        // It is the ring's plan: of a graph of at most 16 handlers, a size, and a limit of at most 2^62.
         ensures plan { result.now ≡ self.now.knows.plan }
         ensures made { IsPlan result.now }
     {
@@ -51,6 +52,7 @@ impl SenderStation {
     /// The sender looks at a final handler's count.
     pub fn look_at_count(&mut self, handler: usize) -> u64
         requires { Contains (finals self.old.knows.plan.upstreams) handler }
+        // It has looked once, and finds no less than before, and no more than is published.
         ensures step { HasLoaded self.old (sender_looked self.old.knows (count_word_of handler) result) self.new }
         ensures finds { FindsCompleted self.old.knows (count_word_of handler) result }
     {
@@ -64,6 +66,7 @@ impl SenderStation {
     pub fn look_at_halt<J: Names>(&mut self, more: u64) -> u64
         requires named { more ≡ J.number }
         requires room { 0 < more → SeesRoom self.old.knows.plan self.old.knows more }
+        // It has looked once, and claimed so many where it finds 0; where it found 1 or halted, it finds 1.
         ensures step { HasLoaded self.old (halt_looked self.old.knows more result) self.new }
         ensures finds { FindsHalt self.old.knows result }
     {

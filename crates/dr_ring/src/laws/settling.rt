@@ -13,6 +13,7 @@ use std::marker::Brand;
 pub fn unite(words: &Words, seat: &mut RingSeat, other: RingSeat)
     requires table { (seat.old.table_id ≡ words.now.table_id) × (other.table_id ≡ words.now.table_id) × (0 < words.now.table_id.words) }
     requires other { other.me.1 ≡ [] }
+    // The seat stays this seat, and stands for the ends of both.
     ensures seat { (seat.new.table_id ≡ seat.old.table_id) × (seat.new.id ≡ seat.old.id) }
     ensures view { seat.new.me ≡ (both_views seat.old.me.0 other.me.0, seat.old.me.1) }
 {
@@ -23,7 +24,9 @@ pub fn unite(words: &Words, seat: &mut RingSeat, other: RingSeat)
 /// nothing.
 pub fn compare(words: &Words, seat: &mut RingSeat)
     requires table { (seat.old.table_id ≡ words.now.table_id) × (0 < words.now.table_id.words) }
+    // The seat stays as it was.
     ensures seat { (seat.new.table_id ≡ seat.old.table_id) × (seat.new.me ≡ seat.old.me) }
+    // One run came to what all ends know that the seat stands for.
     ensures ran { ViewRan (exchange words.now.key) seat.old.me.0 }
 {
     words.load::<Brand>(seat, CURSOR_WORD);

@@ -2,6 +2,12 @@ use Rattle.std.proofs.Common.{arith}
 use Rattle.dr_c.proofs.UnwrittenOfSeveral.{never_unwritten}
 use Rattle.dr_c.proofs.in_place.publish_slots.Goals as goal
 
+pub returns-clause-call : goal.returns-clause-call
+returns-clause-call c =
+    let left = c.leave_all.ensures.left in
+    let sum = c.saturating_add.ensures in
+    (left.0, c.leave_all.new.sender, (let few = left.1 in omega arith), left.2, c.publish.ensures.call)
+
 pub returns-clause-written : goal.returns-clause-written
 returns-clause-written c =
     λ once below small.

@@ -2,7 +2,7 @@ use Rattle.std.proofs.Common.{◌≡◌, ◌++◌, ◌∙◌, [], Err, refl, sym
 use Rattle.std.proofs.lemmas.List.{append-nil}
 use Rattle.dr_journal.specs.Meaning.Format.{IsForeign, recovered}
 use Rattle.dr_journal.specs.Calls.Journals.{bytes_of}
-use Rattle.dr_journal.specs.Inside.Reading.{HasRead}
+use Rattle.dr_journal.specs.Calls.Readers.{HasRead}
 use Rattle.dr_journal.specs.Calls.Opening.{StandsForTheSame}
 use Rattle.dr_journal.proofs.Feeding.{no_foreign, only_foreign}
 use Rattle.dr_journal.proofs.Moments.{no_call}

@@ -1,5 +1,5 @@
 use Rattle.std.proofs.Common.{◌≡◌, take}
-use Rattle.dr_journal.specs.Inside.Reading.{HasRead, count_of}
+use Rattle.dr_journal.specs.Calls.Readers.{HasRead, count_of}
 use Rattle.dr_journal_tests.proofs.checks.opened_by_bytes.Given as goal
 
 abbrev pub invariant-loop-byte : goal.invariant-loop-byte

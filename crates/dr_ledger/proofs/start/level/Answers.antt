@@ -1,6 +1,6 @@
 use Rattle.std.proofs.Common.{[], drop, take, subst, sym}
 use Rattle.dr_journal.specs.Calls.Journals.{IsBeforeOrAfter, bytes_of, records_of}
-use Rattle.dr_journal.specs.Inside.Parts.{device_of}
+use Rattle.dr_journal.specs.Calls.Parts.{device_of}
 use Rattle.dr_ledger.specs.Serving.{IsKept}
 use Rattle.dr_ledger.specs.Standing.{Say}
 use Rattle.dr_ledger.proofs.Kept.{kept_batch}

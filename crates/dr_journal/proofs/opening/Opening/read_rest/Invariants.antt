@@ -1,4 +1,4 @@
-use Rattle.dr_journal.specs.Inside.Opened.{read_so_far}
+use Rattle.dr_journal.specs.Calls.Opened.{read_so_far}
 use Rattle.dr_journal.specs.Calls.Reading.{AddsNext}
 use Rattle.dr_journal.proofs.opening.Opening.read_rest.Given as goal
 

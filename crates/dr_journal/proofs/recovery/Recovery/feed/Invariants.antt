@@ -1,5 +1,5 @@
 use Rattle.std.proofs.Common.{◌≡◌, ◌+◌, take}
-use Rattle.dr_journal.specs.Inside.Reading.{count_of}
+use Rattle.dr_journal.specs.Calls.Readers.{count_of}
 use Rattle.dr_journal.specs.Calls.Reading.{Reads}
 use Rattle.dr_journal.proofs.recovery.Recovery.feed.Given as goal
 

@@ -1,7 +1,7 @@
 use Rattle.std.proofs.Common.{◌++◌, subst, sym}
 use Rattle.std.proofs.lemmas.Result.{err_from_is_err_and}
 use Rattle.dr_files.specs.Counting.{faults_of, inner_of}
-use Rattle.dr_journal.specs.Inside.Parts.{device_of}
+use Rattle.dr_journal.specs.Calls.Parts.{device_of}
 use Rattle.dr_ledger.specs.Standing.{Copies, HasBooked, Holds, journal_of}
 use Rattle.dr_ledger.proofs.Batches.{not_stored, replied}
 use Rattle.dr_ledger.proofs.Counts.{of_batch, of_no_disk, store_counts, store_in_batch}
