@@ -1,10 +1,10 @@
 mod Agreeing
-mod Answers
-mod Batches
+pub mod Answers
+pub mod Batches
 mod Counts
-mod Kept
-mod Moments
+pub mod Kept
+pub mod Moments
 mod Printings
-mod Runs
+pub mod Runs
 mod Starts
 mod Turns

@@ -18,5 +18,6 @@ mod start_fault;
 pub use fault::LedgerFault;
 pub use ledger::Ledger;
 pub use printing::print_journal;
+pub use reading::{Batch, read_batch};
 pub use start::{Opened, agree, begin, booked};
 pub use start_fault::StartFault;
