@@ -1,4 +1,4 @@
 -- What the functions inside promise one another.
 pub mod Faults
-pub mod Shows
+pub mod States
 pub mod Tells

@@ -3,4 +3,5 @@ pub mod Causes
 pub mod Setup
 pub mod Commands
 pub mod Lines
+pub mod StateLine
 pub mod DriveText

@@ -1,5 +1,5 @@
 -- What the parts of a run tell of the drive text.
-use Rattle.std.specs.Prelude.{◌≡◌, ◌+◌, ℕ, Result, Ok, Err, List, [], length, Option, Some, option_to_list}
+use Rattle.std.specs.Prelude.{◌≡◌, ◌+◌, ℕ, Bool, Result, Ok, Err, List, [], length, Option, Some, option_to_list}
 use Rattle.std.specs.Io.KnownBytes.{Appends, Keeps}
 use Rattle.dr_drive.specs.declared.tool.Opened.{Opened}
 use Rattle.dr_drive.specs.declared.exchange.Exchange.{Exchange}
@@ -11,7 +11,7 @@ use Rattle.dr_drive.specs.Meaning.Setup.{Empty}
 use Rattle.dr_drive.specs.Meaning.DriveText.{Phase, Preparing, Running, Taken, text_from}
 use Rattle.dr_files.specs.Lines.{joined}
 use Rattle.dr_files.specs.Outcome.{AppendsFront}
-use Rattle.dr_drive.specs.Inside.Shows.{ExchangeShows}
+use Rattle.dr_drive.specs.Calls.Shows.{ExchangeShows}
 
 -- an exchange shows a phase after the setup
 abbrev pub ShowsPhase : Exchange → Phase → Type 0
@@ -19,23 +19,23 @@ ShowsPhase e (Preparing stage) = ⊥
 ShowsPhase e (Running names c m) = ExchangeShows e names c m
 
 -- the setup's records wrote nothing, and what a file says is what the records that are left say from the opening on
-pub record IsSetUp (o : Opened) (rs left : List Record) : Type 0 where
+pub record IsSetUp (states : Bool) (o : Opened) (rs left : List Record) : Type 0 where
   pub phase : Phase
   pub counted : o.k + length left ≡ 1 + length rs
-  pub says : text_from 1 (Preparing Empty) rs ≡ text_from o.k phase left
+  pub says : text_from states 1 (Preparing Empty) rs ≡ text_from states o.k phase left
   pub shows : ShowsPhase o.exchange phase
 
 -- a setup that fails is at fault at a record, with nothing written, or memory ran out
-abbrev pub SetupFaultTells : FileFault Cause → List Record → Type 0
-SetupFaultTells (fault.Input k cause) rs = text_from 1 (Preparing Empty) rs ≡ record { lines = []; fault = Some (record { k = k; cause = cause }) }
-SetupFaultTells fault.Memory rs = Unit {0}
-SetupFaultTells fault.Read rs = ⊥
-SetupFaultTells fault.Write rs = ⊥
+abbrev pub SetupFaultTells : Bool → FileFault Cause → List Record → Type 0
+SetupFaultTells states (fault.Input k cause) rs = text_from states 1 (Preparing Empty) rs ≡ record { lines = []; fault = Some (record { k = k; cause = cause }) }
+SetupFaultTells states fault.Memory rs = Unit {0}
+SetupFaultTells states fault.Read rs = ⊥
+SetupFaultTells states fault.Write rs = ⊥
 
 -- a setup of all these records, and those that it leaves
-abbrev pub SetsUpAs : Result Opened (FileFault Cause) → List Record → List Record → Type 0
-SetsUpAs (Ok o) rs left = IsSetUp o rs left
-SetsUpAs (Err e) rs left = SetupFaultTells e rs
+abbrev pub SetsUpAs : Bool → Result Opened (FileFault Cause) → List Record → List Record → Type 0
+SetsUpAs states (Ok o) rs left = IsSetUp states o rs left
+SetsUpAs states (Err e) rs left = SetupFaultTells states e rs
 
 -- a command, the one of record k, fails by its record, since memory ran out, or by the write of its line
 abbrev pub CommandFaultTells : FileFault Cause → ℕ → Result Taken Cause → Option (List ℕ) → Option (List ℕ) → Type 0

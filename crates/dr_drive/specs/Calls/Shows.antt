@@ -1,10 +1,13 @@
--- Which phase of the drive text the tool's own state shows.
-use Rattle.std.specs.Prelude.{◌≡◌, ℕ, false, true, if◌then◌else◌, List, [], Some, Result, Ok, Err}
+-- Which phase of the drive text an exchange and a setup that has come so far show.
+use Rattle.std.specs.Prelude.{◌≡◌, ℕ, false, true, if◌then◌else◌, List, [], take, Some, Result, Ok, Err}
 use Rattle.std.specs.List.{list_all}
 use Rattle.std.specs.Str.{is_utf8}
 use Rattle.dr_seq.specs.declared.event.Event.{Event}
-use Rattle.dr_meaning.specs.Meaning.Machine.{Setup, State, opening, setup_of}
+use Rattle.dr_meaning.specs.declared.command.Reply.{Reply}
+use Rattle.dr_meaning.specs.Meaning.Machine.{Setup, State, Outcome, opening, setup_of}
+use Rattle.dr_meaning.specs.Meaning.Runs.{count_in}
 use Rattle.dr_meaning.specs.Calls.OpenFault.{has_bad_producers, is_bad_limit}
+use Rattle.dr_core.specs.Calls.CoreView.{CoreView}
 use Rattle.dr_core.specs.Calls.Shows.{Shows}
 use Rattle.dr_graph.specs.Meaning.Graph.{GraphView}
 use Rattle.dr_graph.specs.Meaning.Name.{Name, is_good_name}
@@ -54,6 +57,13 @@ IsPreparation at.Empty = Unit {0}
 IsPreparation (at.Ringed ring) = IsRing ring
 IsPreparation (at.Declaring ring d) = IsRing ring × AreNames d.builder.names
 
+-- what contracts see of an exchange: its core, and its room for a batch
+abbrev pub core_of : Exchange → CoreView Event
+core_of e = e.core
+
+abbrev pub batch_of : Exchange → List Event
+batch_of e = e.batch.items
+
 -- the exchange's core shows a state of the machine, and its handlers have these names
 pub record ExchangeShows (e : Exchange) (names : List Field) (c : Setup) (m : State Event) : Type 0 where
   pub names_are : names ≡ e.core.names
@@ -84,6 +94,12 @@ StepAs (does.Opens e) t = IsOpenedAs e t
 abbrev pub PreparesAs : Result Step RecordFault → Result Prepared Cause → Type 0
 PreparesAs (Ok step) t = StepAs step t
 PreparesAs (Err f) t = FaultAs f t
+
+-- a command came out as the machine's outcome: the reply, the events at the front of the batch, and the state that is shown now
+pub record Executes (e : Exchange) (names : List Field) (c : Setup) (o : Outcome Event) (reply : Reply) : Type 0 where
+  pub replies : o.reply ≡ reply
+  pub hands_out : o.values ≡ take (count_in reply) (batch_of e)
+  pub shows : ExchangeShows e names c o.state
 
 -- what a record did to an exchange that showed a state: its line, and the state that it shows now
 pub record IsObeyed (e : Exchange) (line : List ℕ) (t : Result Taken Cause) : Type 0 where

@@ -1,0 +1,3 @@
+-- What public calls cite.
+pub mod Shows
+pub mod Standing
