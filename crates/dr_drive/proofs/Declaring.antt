@@ -13,7 +13,7 @@ use Rattle.dr_drive.specs.declared.fault.Cause.{Cause}
 use Rattle.dr_drive.specs.Inside.Faults.{refused_by}
 use Rattle.dr_drive.specs.declared.fault.Cause.TheVariants.{Graph}
 use Rattle.dr_drive.specs.Meaning.Setup.{Declared, after_names, then_names, done_unless, edge_between, with_names}
-use Rattle.dr_drive.specs.Inside.Shows.{AreNames, FaultAs, legible}
+use Rattle.dr_drive.specs.Calls.Shows.{AreNames, FaultAs, legible}
 use Rattle.dr_drive.proofs.Legible.{accepted_names, known_names, legible_names, more_names, neither, same_declaring, same_stranger}
 
 -- what the builder refuses is the record's fault

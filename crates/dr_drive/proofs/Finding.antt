@@ -9,7 +9,7 @@ use Rattle.dr_graph.specs.Meaning.Name.{Name, given}
 use Rattle.dr_drive.specs.Meaning.Commands.{handler_of}
 use Rattle.dr_records.specs.Records.{Record, field}
 use Rattle.dr_drive.specs.Meaning.Setup.{names_after}
-use Rattle.dr_drive.specs.Inside.Shows.{legible}
+use Rattle.dr_drive.specs.Calls.Shows.{legible}
 
 same_some : {A : Type 0} (x y : A) → Some x ≡ Some y → x ≡ y
 same_some x y e = cc

@@ -16,7 +16,7 @@ use Rattle.dr_graph.specs.Meaning.Declaration.{declaring_fault, many_fault, name
 use Rattle.dr_graph.specs.declared.fault.GraphFault.TheVariants.{BadName, EmptyGroup, Stranger}
 use Rattle.dr_graph.specs.declared.name.TheConstants.{MAX_NAME_LEN}
 use Rattle.dr_graph.specs.Meaning.Name.{Name, is_good_name, is_name_byte, is_named}
-use Rattle.dr_drive.specs.Inside.Shows.{AreNames, legible}
+use Rattle.dr_drive.specs.Calls.Shows.{AreNames, legible}
 
 in_range : (lo hi c : ℕ) → hi < 128 → is_in_range lo hi c ≡ true → c < 128
 in_range lo hi c small h = let le = leb-true c hi (and_parts (nat_le lo c) (nat_le c hi) h).1 in omega arith

@@ -1,9 +1,12 @@
 pub mod Commanding
 pub mod Declaring
+pub mod Finals
 pub mod Finding
 pub mod Legible
+pub mod Pushing
 pub mod Runs
 pub mod SetUps
 pub mod Sizes
 pub mod Starting
+pub mod Telling
 pub mod Whole

@@ -13,7 +13,7 @@ use Rattle.dr_drive.specs.Inside.Faults.{refused_by}
 use Rattle.dr_drive.specs.declared.fault.Cause.TheVariants.{Graph}
 use Rattle.dr_drive.specs.declared.setup.ring_records.Ring.{Ring}
 use Rattle.dr_drive.specs.Meaning.Setup.{Opens, opened, started}
-use Rattle.dr_drive.specs.Inside.Shows.{FaultAs, ring_setup}
+use Rattle.dr_drive.specs.Calls.Shows.{FaultAs, ring_setup}
 use Rattle.dr_drive.proofs.Declaring.{at, refused_as}
 
 -- with handlers, the graph decides

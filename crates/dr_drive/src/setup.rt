@@ -6,7 +6,7 @@ pub mod ring_records;
 ghost use Rattle.std.specs.Prelude.{◌≡◌};
 ghost use Rattle.csv.specs.Records.{fields_of};
 ghost use Rattle.dr_drive.specs.Meaning.Setup.{goes_on_by, missing as missing_in, prepared, started};
-ghost use Rattle.dr_drive.specs.Inside.Shows.{AreNames, IsPreparation, IsRing, PreparesAs, declared_of, stage_of};
+ghost use Rattle.dr_drive.specs.Calls.Shows.{AreNames, IsPreparation, IsRing, PreparesAs, declared_of, stage_of};
 
 use crate::exchange::Exchange;
 use crate::fault::{Cause, RecordFault};

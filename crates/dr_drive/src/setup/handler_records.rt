@@ -4,7 +4,7 @@ ghost use Rattle.std.specs.Prelude.{◌≡◌, List, IfOk, map};
 ghost use Rattle.csv.specs.Records.{fields_of};
 ghost use Rattle.dr_graph.specs.Meaning.Name.{Name, given};
 ghost use Rattle.dr_drive.specs.Meaning.Setup.{after_names, declared_by, names_after, no_handlers, then_names, edge_between, with_names};
-ghost use Rattle.dr_drive.specs.Inside.Shows.{AreNames, DeclaresAs, declared_of, legible};
+ghost use Rattle.dr_drive.specs.Calls.Shows.{AreNames, DeclaresAs, declared_of, legible};
 
 use crate::fault::{Cause, RecordFault};
 use csv::ByteRecord;

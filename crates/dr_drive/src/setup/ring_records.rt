@@ -3,7 +3,7 @@
 ghost use Rattle.std.specs.Prelude.{◌≡◌, IfOk, MatchOption, false, true};
 ghost use Rattle.csv.specs.Records.{fields_of};
 ghost use Rattle.dr_drive.specs.Meaning.Setup.{is_size, limit_of as limit_in, mode_of as mode_in, ring_of as ring_in};
-ghost use Rattle.dr_drive.specs.Inside.Shows.{IsRing};
+ghost use Rattle.dr_drive.specs.Calls.Shows.{IsRing};
 
 use crate::fault::Cause;
 use csv::ByteRecord;

@@ -1,6 +1,6 @@
 use Rattle.std.proofs.Common.{ap, Err}
 use Rattle.std.proofs.lemmas.Result.{err_from_is_err_and}
-use Rattle.dr_drive.specs.Inside.Shows.{ring_setup}
+use Rattle.dr_drive.specs.Calls.Shows.{ring_setup}
 use Rattle.dr_drive.proofs.Starting.{same_fault, start_opens, start_refused, unlike}
 use Rattle.dr_drive.proofs.setup.start.Goals as goal
 

@@ -8,7 +8,7 @@ abbrev pub invariant-loop-line : goal.invariant-loop-line
 invariant-loop-line g l = record {
   counted : l.k + length (rows_left l.rows) ≡ l.fn.k + length (rows_left l.fn.rows);
   none : faults_of l.writer ≡ faults_of l.initial.writer;
-  come : HasCome l.fn.exchange l.fn.k (rows_left l.fn.rows) l.exchange l.k (rows_left l.rows) (g.W.Write.contents (inner_of l.initial.writer)) (g.W.Write.contents (inner_of l.writer));
+  come : HasCome l.states l.fn.exchange l.fn.k (rows_left l.fn.rows) l.exchange l.k (rows_left l.rows) (g.W.Write.contents (inner_of l.initial.writer)) (g.W.Write.contents (inner_of l.writer));
 }
 
 abbrev pub decreases-loop-line : goal.decreases-loop-line

@@ -1,6 +1,6 @@
 use Rattle.std.proofs.Common.{◌∙◌, ap, arith}
 use Rattle.csv.specs.Records.{fields_of}
-use Rattle.dr_drive.specs.Inside.Shows.{legible}
+use Rattle.dr_drive.specs.Calls.Shows.{legible}
 use Rattle.dr_drive.proofs.Finding.{name_added}
 use Rattle.dr_drive.proofs.setup.handler_records.names_of.Goals as goal
 

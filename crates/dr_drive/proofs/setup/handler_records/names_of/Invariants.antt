@@ -2,7 +2,7 @@ use Rattle.std.proofs.Common.{◌≡◌, ◌-◌, ◌≤◌, map, take}
 use Rattle.csv.specs.Records.{fields_of}
 use Rattle.dr_graph.specs.Meaning.Name.{given}
 use Rattle.dr_drive.specs.Meaning.Setup.{names_after}
-use Rattle.dr_drive.specs.Inside.Shows.{legible}
+use Rattle.dr_drive.specs.Calls.Shows.{legible}
 use Rattle.dr_drive.proofs.setup.handler_records.names_of.Given as goal
 
 abbrev pub invariant-loop-place : goal.invariant-loop-place
