@@ -35,7 +35,7 @@ LINES = {
     ("ledger", "--by", ""): {"plain"},
     ("ledger", "--journal", "README"): {"README.md"},
     ("journal", "README"): {"README.md"},
-    ("drive", "-"): {"--output", "--help"},
+    ("drive", "-"): {"--state", "--output", "--help"},
     ("drive", "--output", "README"): {"README.md"},
     ("drive", "README"): {"README.md"},
 }

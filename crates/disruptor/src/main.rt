@@ -15,7 +15,7 @@ use crate::progress::Progress;
 use crate::watched::{Input, Output};
 use dr_check::{CheckFault, check_drive, check_replay};
 use dr_command_line::{By, LineFault, Plan, Tool, plan};
-use dr_drive::{DriveFault, drive};
+use dr_drive::{DriveFault, drive_telling};
 use dr_ledger::{LedgerFault, StartFault};
 use dr_replay::{Counted, ReplayFault, replay_lock, replay_plain, replay_ring};
 use dr_seq::Size;
@@ -103,7 +103,7 @@ fn read_plan(rt: &HostRuntime) -> Result<Plan, LineFault> {
 /// What is run over a file.
 #[derive(Drop)]
 enum Task {
-    Drive,
+    Drive { states: bool },
     Replay { size: Size, by: By },
 }
 
@@ -123,7 +123,9 @@ fn run_over<R: Read + Drop, W: Write + Drop, T: Threads + Wait + Sync>(
     let mut reader = Counted::new(input);
     let mut writer = Counted::new(output);
     let ran = match task {
-        Task::Drive => drive(alloc, &mut reader, &mut writer).map_err(Fault::Drive),
+        Task::Drive { states } => {
+            drive_telling(alloc, &mut reader, &mut writer, states).map_err(Fault::Drive)
+        }
         Task::Replay { size, by } => match by {
             By::Plain => replay_plain(alloc, &mut reader, &mut writer, size),
             By::Lock => replay_lock(workers, alloc, &mut reader, &mut writer, size, &OpenGate),
@@ -261,7 +263,11 @@ fn run<T: Threads + Wait + Sync>(rt: &HostRuntime, workers: &T) -> Result<(), Fa
         Plan::Check { tool, file } => return check_file(rt, tool, file.as_str()),
         Plan::Ledger { journal, replica } => return live::serve(rt, journal.as_str(), replica),
         Plan::Journal { file } => return live::print(rt, file.as_str()),
-        Plan::Drive { file, output } => (file, output, Task::Drive),
+        Plan::Drive {
+            file,
+            states,
+            output,
+        } => (file, output, Task::Drive { states }),
         Plan::Replay {
             file,
             size,

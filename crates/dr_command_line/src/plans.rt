@@ -39,9 +39,11 @@ pub enum Plan {
         tool: Tool,
         file: String,
     },
-    /// Run the commands of a file, and write to the named file or else to standard output.
+    /// Run the commands of a file, and write their replies to the named file or else to standard output,
+    /// each followed by the state after it where that is told.
     Drive {
         file: String,
+        states: bool,
         output: Option<String>,
     },
     /// Replay the operations of a file, through a ring of this size, and write likewise.

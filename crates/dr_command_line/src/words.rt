@@ -2,7 +2,7 @@
 
 use crate::plans::{By, LineFault, Plan, Tool};
 use clap::error::ErrorKind;
-use clap::{Arg, ArgMatches, Command, Error, value_parser};
+use clap::{Arg, ArgAction, ArgMatches, Command, Error, value_parser};
 use dr_seq::Size;
 use std::alloc::{AllocError, Global};
 
@@ -21,6 +21,8 @@ const DRIVE: &str = "Run a file of commands, and print one line a command";
 const FILE: &str = "The file of commands, one record a line; - is standard input";
 
 const OUTPUT: &str = "Write to this file, whole or not at all, and not to standard output";
+
+const STATE: &str = "Print after each reply how the exchange stands";
 
 const EXAMPLE: &str = "\
 A file sets up a ring, its limit and its handlers, and then gives commands. This
@@ -69,6 +71,14 @@ Its records, in turn:
   complete,a,1        handler a has done with the first 1 event
   retire,c            handler c takes no more, and claims do not wait for it
   halt                no more claims
+
+With --state a line follows each of these lines, as after `retired`
+
+state next 1 front 1 room 3 a 0 1 b 1 0 d 1 0 c 0 0
+
+It has how many sequences are claimed, the least that is not published and the
+most that a claim is given, and of each handler how many events a poll gives it
+and how many it completed.
 
 It ends with 0 where all is done, 1 where the command line is at fault, 2 where
 the file is at fault, 3 if memory runs out and 4 where reading or writing failed.";
@@ -230,10 +240,18 @@ fn by_option<'a>(alloc: Global) -> Arg<'a> {
         .default_value("plain")
 }
 
+fn state_flag<'a>(alloc: Global) -> Arg<'a> {
+    Arg::new(alloc, "state")
+        .long("state")
+        .help(STATE)
+        .action(ArgAction::SetTrue)
+}
+
 fn drive_command<'a>(alloc: Global) -> Result<Command<'a>, AllocError> {
     Command::new(alloc, "drive")
         .about(DRIVE)
         .after_help(EXAMPLE)
+        .arg(state_flag(alloc))?
         .arg(output_option(alloc))?
         .arg(file_word(alloc, FILE))
 }
@@ -389,8 +407,13 @@ fn check_plan(alloc: Global, matches: &ArgMatches<'_>) -> Result<Plan, AllocErro
 
 fn drive_plan(alloc: Global, matches: &ArgMatches<'_>) -> Result<Plan, AllocError> {
     let file = file_of(alloc, matches)?;
+    let states = matches.get_flag("state");
     let output = word_of(alloc, matches, "output")?;
-    Ok(Plan::Drive { file, output })
+    Ok(Plan::Drive {
+        file,
+        states,
+        output,
+    })
 }
 
 fn ledger_plan(alloc: Global, matches: &ArgMatches<'_>) -> Result<Plan, AllocError> {
@@ -424,6 +447,7 @@ fn plan_of(alloc: Global, matches: &ArgMatches<'_>) -> Result<Plan, LineFault> {
         Some(matches) => Ok(drive_plan(alloc, matches)?),
         None => Ok(Plan::Drive {
             file: String::new(alloc),
+            states: false,
             output: None,
         }),
     }

@@ -9,6 +9,7 @@ complete -c disruptor -n __fish_use_subcommand -s V -l version -d 'Print the ver
 complete -c disruptor -s h -l help -d 'Print help'
 complete -c disruptor -n '__fish_seen_subcommand_from replay' -l size -x -d 'Slots of the ring' \
     -a '1 2 4 8 16 32 64 128 256 512 1024 2048 4096 8192 16384 32768 65536'
+complete -c disruptor -n '__fish_seen_subcommand_from drive' -l state -d 'Print after each reply how the exchange stands'
 complete -c disruptor -n '__fish_seen_subcommand_from drive replay' -l output -r -d 'Write to this file'
 complete -c disruptor -n '__fish_seen_subcommand_from replay' -l by -x -d 'By which exchange' -a 'plain lock ring'
 complete -c disruptor -n '__fish_seen_subcommand_from ledger' -l journal -r -d 'The journal of all movements'
