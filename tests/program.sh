@@ -175,6 +175,7 @@ run 1 '' $'error: a word of the command line is not UTF-8\n' $'\xff'
 # Faults of the input, each cause once, after the lines of the commands before it.
 run_text drive '' 2 '' $'record 1: no ring\n'
 run_text drive $'ring,4,single\nwith,a\nstart\nclaim,0,1\njump\n' 2 $'claimed 0 0\n' $'record 5: bad record\n'
+run_text 'drive --state' $'ring,4,single\nwith,a\nstart\nclaim,0,1\njump\n' 2 $'claimed 0 0\nstate next 1 front 0 room 3 a 0 0\n' $'record 5: bad record\n'
 run_text drive $'ring,3,single\n' 2 '' $'record 1: bad-size\n'
 run_text drive $'ring,4,multi,17\n' 2 '' $'record 1: bad-producers\n'
 run_text drive $'ring,4,single\nlimit,0\n' 2 '' $'record 2: bad-limit\n'

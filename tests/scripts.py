@@ -24,6 +24,7 @@ EACH = (
     "tests/hostile/refused.py disruptor disruptor_hostile",
     "tests/hostile/run.py disruptor",
     "tests/rows.py disruptor",
+    "tests/states.py disruptor",
     "tests/checks.py disruptor",
     "tests/program.sh disruptor",
     "tests/examples.py disruptor",

@@ -162,14 +162,14 @@ def answer(exchange, fields):
         return str(refused)
 
 
-def drive(text):
-    """What `disruptor drive` does with a file of this text."""
+def drive(text, state_line=lambda exchange: ""):
+    """What `disruptor drive` does with a file of this text; `state_line` is what it tells after each reply."""
     setup = exchange = None
     lines, k, err = [], 1, ""
     try:
         for k, fields in enumerate(records(text), 1):
             if exchange:
-                lines.append(answer(exchange, fields) + "\n")
+                lines.append(answer(exchange, fields) + "\n" + state_line(exchange))
             elif setup:
                 exchange = setup.take(fields)
             else:
