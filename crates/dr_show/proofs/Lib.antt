@@ -1,0 +1,5 @@
+pub mod Courses
+pub mod Pages
+pub mod Seeing
+pub mod Shows
+pub mod Tracking
