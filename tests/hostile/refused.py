@@ -181,13 +181,13 @@ def kind_of_calls(ran, whole):
 
 
 def refuse_in_drive(refusing, program):
-    for name, text in (("the diamond", DIAMOND), ("every record", EVERY_RECORD)):
-        file = refusing.file("drive.csv", text)
-        for tool in (["drive"], ["drive", "--state"]):
-            told = f"{' '.join(tool)} of {name}"
-            kinds = refusing.refuse_each(told, [program, *tool, file], kind_of_drive)
-            both = kinds["before lines"] and kinds["after lines"]
-            refusing.judge(f"{told}, out of memory before lines and after some", both, kinds)
+    for tool in (["drive"], ["drive", "--state"]):
+        told, kinds = " ".join(tool), Counter()
+        for name, text in (("the diamond", DIAMOND), ("every record", EVERY_RECORD)):
+            words = [program, *tool, refusing.file("drive.csv", text)]
+            kinds += refusing.refuse_each(f"{told} of {name}", words, kind_of_drive)
+        both = kinds["before lines"] and kinds["after lines"]
+        refusing.judge(f"{told}, out of memory before lines and after some", both, kinds)
 
 
 def refuse_in_replays(refusing, program):
