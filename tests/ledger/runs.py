@@ -254,6 +254,8 @@ def serve_many(runs):
 
 
 def main():
+    # What a background job of a shell ignores its programs would ignore too.
+    signal.signal(signal.SIGINT, signal.default_int_handler)
     with tempfile.TemporaryDirectory(prefix="ledger-") as folder:
         runs = Runs(os.path.abspath(sys.argv[1]), folder)
         for part in (serve_rows, refuse_rows, refuse_files, cut_files, level_files, level_long_files, fail_outputs, interrupt, refuse_second, serve_many):
