@@ -25,6 +25,7 @@ EACH = (
     "tests/hostile/run.py disruptor",
     "tests/rows.py disruptor",
     "tests/states.py disruptor",
+    "tests/show.py disruptor",
     "tests/checks.py disruptor",
     "tests/program.sh disruptor",
     "tests/examples.py disruptor",

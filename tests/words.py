@@ -21,7 +21,7 @@ FISH = os.path.join(TOP, "share", "fish", "vendor_completions.d", "disruptor.fis
 SIZES = {str(2**k) for k in range(17)}
 # Command lines of which the last word is to be completed, and what bash makes of them.
 LINES = {
-    ("",): {"drive", "replay", "check", "ledger", "journal", "help", "--help", "--version"},
+    ("",): {"drive", "show", "replay", "check", "ledger", "journal", "help", "--help", "--version"},
     ("re",): {"replay"},
     ("check", ""): {"drive", "replay", "--help"},
     ("check", "-"): {"--help"},
@@ -36,6 +36,9 @@ LINES = {
     ("ledger", "--journal", "README"): {"README.md"},
     ("journal", "README"): {"README.md"},
     ("drive", "-"): {"--state", "--output", "--help"},
+    ("show", "--"): {"--from", "--steps", "--output", "--help"},
+    ("show", "--steps", ""): set(),
+    ("show", "README"): {"README.md"},
     ("drive", "--output", "README"): {"README.md"},
     ("drive", "README"): {"README.md"},
 }
@@ -47,7 +50,7 @@ def said(*words):
 
 def words_of_help(program):
     """The commands, the long options, and the ways of a replay."""
-    texts = [said(program, *words, "--help") for words in ([], ["drive"], ["replay"], ["check"], ["ledger"], ["journal"])]
+    texts = [said(program, *words, "--help") for words in ([], ["drive"], ["replay"], ["check"], ["show"], ["ledger"], ["journal"])]
     commands = set(re.findall(r"^  ([a-z]+)  ", texts[0].partition("Commands:")[2].partition("Options:")[0], re.MULTILINE))
     options = {option for text in texts for option in re.findall(r"^ .*?(--[a-z]+)", text.partition("Options:")[2], re.MULTILINE)}
     ways = re.search(r"\[possible values: ([^\]]*)\]", texts[2])[1].split(", ")
@@ -79,7 +82,7 @@ def main():
         if found != wanted:
             failures.append(f"FAILED: {name}: {found}, not {wanted}")
 
-    judge("the help's commands", commands, {"drive", "replay", "check", "ledger", "journal", "help"})
+    judge("the help's commands", commands, {"drive", "show", "replay", "check", "ledger", "journal", "help"})
     for path in (MAN, BASH, ZSH, FISH):
         text, found = options_of(path)
         judge(f"options of {os.path.relpath(path, TOP)}", found, options)

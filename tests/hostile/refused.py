@@ -190,6 +190,12 @@ def refuse_in_drive(refusing, program):
         refusing.judge(f"{told}, out of memory before lines and after some", both, kinds)
 
 
+def refuse_in_show(refusing, program):
+    """Without memory no page is written."""
+    kinds = refusing.refuse_each("show of the diamond", [program, "show", refusing.file("show.csv", DIAMOND)], kind_of_replay)
+    refusing.judge("show of the diamond, out of memory", kinds["no-memory"], kinds)
+
+
 def refuse_in_replays(refusing, program):
     file = refusing.file("replay.csv", OPERATIONS)
     for way, size in itertools.product(WAYS, (1, 1024)):
@@ -267,7 +273,7 @@ def refuse_in_ledger(refusing, program):
 
 def write_to_the_disk(refusing, program):
     """What goes to a file is brought to the disk."""
-    for tool, text in (("drive", DIAMOND), ("replay", OPERATIONS)):
+    for tool, text in (("drive", DIAMOND), ("show", DIAMOND), ("replay", OPERATIONS)):
         words = [program, tool, "--output", refusing.path("output.txt"), refusing.file("input.csv", text)]
         met = refusing.run(words)
         refusing.judge(f"what {tool} writes comes to the disk", met.ran.status == 0 and met.synced == 1, met)
@@ -278,6 +284,7 @@ def main():
     with tempfile.TemporaryDirectory(prefix="refused-") as folder:
         refusing = Refusing(folder)
         refuse_in_drive(refusing, program)
+        refuse_in_show(refusing, program)
         refuse_in_replays(refusing, program)
         refuse_in_ledger(refusing, program)
         refuse_in_replay_of_one(refusing, program)

@@ -7,18 +7,22 @@ ghost use Rattle.disruptor.specs.Faults.{program_line, program_status};
 
 mod live;
 mod output;
+mod page;
 mod progress;
 mod watched;
 
 use crate::output::{part_of, put_in_place};
+use crate::page::{AFTER, BEFORE};
 use crate::progress::Progress;
 use crate::watched::{Input, Output};
 use dr_check::{CheckFault, check_drive, check_replay};
 use dr_command_line::{By, LineFault, Plan, Tool, plan};
 use dr_drive::{DriveFault, drive_telling};
+use dr_files::FileFault;
 use dr_ledger::{LedgerFault, StartFault};
 use dr_replay::{Counted, ReplayFault, replay_lock, replay_plain, replay_ring};
 use dr_seq::Size;
+use dr_show::{Window, show};
 use dr_workers::OpenGate;
 use std::alloc::Global;
 use std::fs::{self, File};
@@ -104,41 +108,70 @@ fn read_plan(rt: &HostRuntime) -> Result<Plan, LineFault> {
 #[derive(Drop)]
 enum Task {
     Drive { states: bool },
+    Show { window: Window },
     Replay { size: Size, by: By },
 }
 
-// Runs a tool over an input; `workers` starts and joins the threads. The output is counted below its
-// buffer too, so that the buffer, which writes out what it still holds when it is let go, leaves it
-// alone once it failed.
+// A page of a file at fault is whole, so that the fault is told once the page is in its place.
+fn shown(ran: Result<(), DriveFault>) -> Result<Option<Fault>, Fault> {
+    match ran {
+        Ok(()) => Ok(None),
+        Err(FileFault::Input { k, cause }) => {
+            Ok(Some(Fault::Drive(FileFault::Input { k, cause })))
+        }
+        Err(fault) => Err(Fault::Drive(fault)),
+    }
+}
+
+// How a run ends that left its output whole, or did not.
+fn ended(ran: Result<Option<Fault>, Fault>) -> Result<(), Fault> {
+    match ran? {
+        None => Ok(()),
+        Some(fault) => Err(fault),
+    }
+}
+
+// Runs a tool over an input, and gives the fault that a whole output tells; `workers` starts and joins
+// the threads. The output is counted below its buffer too, so that the buffer, which writes out what
+// it still holds when it is let go, leaves it alone once it failed.
 fn run_over<R: Read + Drop, W: Write + Drop, T: Threads + Wait + Sync>(
     workers: &T,
     alloc: Global,
     input: R,
     output: W,
     task: Task,
-) -> Result<(), Fault> {
+) -> Result<Option<Fault>, Fault> {
     let Ok(output) = BufWriter::new(alloc, Counted::new(output)) else {
         return Err(Fault::Memory);
     };
     let mut reader = Counted::new(input);
     let mut writer = Counted::new(output);
     let ran = match task {
-        Task::Drive { states } => {
-            drive_telling(alloc, &mut reader, &mut writer, states).map_err(Fault::Drive)
-        }
+        Task::Drive { states } => drive_telling(alloc, &mut reader, &mut writer, states)
+            .map(|()| None)
+            .map_err(Fault::Drive),
+        Task::Show { window } => shown(show(
+            alloc,
+            &mut reader,
+            &mut writer,
+            window,
+            BEFORE,
+            AFTER,
+        )),
         Task::Replay { size, by } => match by {
             By::Plain => replay_plain(alloc, &mut reader, &mut writer, size),
             By::Lock => replay_lock(workers, alloc, &mut reader, &mut writer, size, &OpenGate),
             By::Ring => replay_ring(workers, alloc, &mut reader, &mut writer, size, &OpenGate),
         }
+        .map(|()| None)
         .map_err(Fault::Replay),
     };
     let flushed = writer.flush();
-    ran?;
-    if flushed.is_err() {
-        return Err(Fault::Write);
+    match (ran?, flushed) {
+        (told, Ok(())) => Ok(told),
+        (Some(fault), Err(_)) => Err(fault),
+        (None, Err(_)) => Err(Fault::Write),
     }
-    Ok(())
 }
 
 // Runs a tool over an input, and shows on a terminal how far a replay is.
@@ -149,7 +182,7 @@ fn run_watched<R: Read + Drop, W: Write + Drop, T: Threads + Wait + Sync>(
     output: W,
     is_terminal: bool,
     task: Task,
-) -> Result<(), Fault> {
+) -> Result<Option<Fault>, Fault> {
     let progress = Progress::new(rt, matches!(task, Task::Replay { .. }));
     let input = Input::new(input, &progress);
     let output = Output::new(output, &progress, is_terminal);
@@ -166,7 +199,7 @@ fn print_run<R: Read + Drop, T: Threads + Wait + Sync>(
     task: Task,
 ) -> Result<(), Fault> {
     let is_terminal = rt.stdout().is_terminal();
-    run_watched(rt, workers, input, io::writer(rt), is_terminal, task)
+    ended(run_watched(rt, workers, input, io::writer(rt), is_terminal, task))
 }
 
 // Runs a tool over an input, and writes what it says to a file beside the named one, which takes its
@@ -192,7 +225,7 @@ fn write_run<R: Read + Drop, T: Threads + Wait + Sync>(
         // Where even this fails, the file stays beside the named one, which is as it was.
         let _removed = fs::remove_file(rt, part.as_str());
     }
-    ran
+    ended(ran)
 }
 
 // Runs a tool over an input, and says it where the command line asks for it.
@@ -268,6 +301,15 @@ fn run<T: Threads + Wait + Sync>(rt: &HostRuntime, workers: &T) -> Result<(), Fa
             states,
             output,
         } => (file, output, Task::Drive { states }),
+        Plan::Show {
+            file,
+            from,
+            steps,
+            output,
+        } => {
+            let window = Window { from, steps };
+            (file, output, Task::Show { window })
+        }
         Plan::Replay {
             file,
             size,

@@ -2,6 +2,7 @@
 #![tactic(auto)]
 
 mod plans;
+mod show;
 mod words;
 
 pub use plans::{By, LineFault, Plan, Tool};

@@ -46,6 +46,14 @@ pub enum Plan {
         states: bool,
         output: Option<String>,
     },
+    /// Write likewise a page that shows the steps of a file of commands: the setup, and from a record on
+    /// so many of those after it.
+    Show {
+        file: String,
+        from: u64,
+        steps: u64,
+        output: Option<String>,
+    },
     /// Replay the operations of a file, through a ring of this size, and write likewise.
     Replay {
         file: String,

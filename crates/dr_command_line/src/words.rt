@@ -1,6 +1,7 @@
 //! The words of a command line, read.
 
 use crate::plans::{By, LineFault, Plan, Tool};
+use crate::show::{show_command, show_plan};
 use clap::error::ErrorKind;
 use clap::{Arg, ArgAction, ArgMatches, Command, Error, value_parser};
 use dr_seq::Size;
@@ -9,16 +10,17 @@ use std::alloc::{AllocError, Global};
 const ABOUT: &str = "A verified LMAX Disruptor: producers and handlers over one ring of slots";
 
 /// The program's version, and the kit that it was proved with, as `rt version` prints it.
-const VERSION: &str = "0.1.0, proved with rattle-kit-13f logic dac8208d650f15bf";
+const VERSION: &str = "0.1.0, proved with rattle-kit-13b logic dac8208d650f15bf";
 
 const EXAMPLES: &str = "\
 `disruptor drive --help` and `disruptor replay --help` show a file, and what it prints.
+`disruptor show` draws a file of commands, step by step, as a page for a browser.
 `disruptor check --help` shows what is said of a file at fault.
 `disruptor ledger --help` shows what a live ledger answers.";
 
 const DRIVE: &str = "Run a file of commands, and print one line a command";
 
-const FILE: &str = "The file of commands, one record a line; - is standard input";
+pub(crate) const FILE: &str = "The file of commands, one record a line; - is standard input";
 
 const OUTPUT: &str = "Write to this file, whole or not at all, and not to standard output";
 
@@ -199,7 +201,7 @@ const JOURNAL: &str = "Print the movements of a journal, as a file for replay";
 const JOURNAL_FILE: &str = "The journal of a ledger, which is only read";
 
 // The option that names where a tool writes to.
-fn output_option<'a>(alloc: Global) -> Arg<'a> {
+pub(crate) fn output_option<'a>(alloc: Global) -> Arg<'a> {
     Arg::new(alloc, "output")
         .long("output")
         .value_name("FILE")
@@ -207,7 +209,7 @@ fn output_option<'a>(alloc: Global) -> Arg<'a> {
 }
 
 // The word that names the file.
-fn file_word<'a>(alloc: Global, help: &'a str) -> Arg<'a> {
+pub(crate) fn file_word<'a>(alloc: Global, help: &'a str) -> Arg<'a> {
     Arg::new(alloc, "file")
         .value_name("FILE")
         .help(help)
@@ -321,6 +323,7 @@ fn command<'a>(alloc: Global) -> Result<Command<'a>, AllocError> {
         .after_help(EXAMPLES)
         .subcommand_required(true)
         .subcommand(drive)?
+        .subcommand(show_command(alloc)?)?
         .subcommand(replay_command(alloc)?)?
         .subcommand(check_command(alloc)?)?
         .subcommand(ledger_command(alloc)?)?
@@ -344,7 +347,7 @@ fn refused(alloc: Global, error: &Error) -> Result<Plan, LineFault> {
 }
 
 // The word of FILE, which the command line has to have.
-fn file_of(alloc: Global, matches: &ArgMatches<'_>) -> Result<String, AllocError> {
+pub(crate) fn file_of(alloc: Global, matches: &ArgMatches<'_>) -> Result<String, AllocError> {
     match matches.get_str("file") {
         Some(file) => String::from_str(alloc, file),
         None => Ok(String::new(alloc)),
@@ -352,7 +355,7 @@ fn file_of(alloc: Global, matches: &ArgMatches<'_>) -> Result<String, AllocError
 }
 
 // The word of an option, if the command line has it.
-fn word_of(
+pub(crate) fn word_of(
     alloc: Global,
     matches: &ArgMatches<'_>,
     name: &str,
@@ -436,6 +439,9 @@ fn plan_of(alloc: Global, matches: &ArgMatches<'_>) -> Result<Plan, LineFault> {
     }
     if let Some(matches) = matches.subcommand_matches("check") {
         return Ok(check_plan(alloc, matches)?);
+    }
+    if let Some(matches) = matches.subcommand_matches("show") {
+        return Ok(show_plan(alloc, matches)?);
     }
     if let Some(matches) = matches.subcommand_matches("ledger") {
         return Ok(ledger_plan(alloc, matches)?);

@@ -1,0 +1,385 @@
+//! The page that `show` writes, but for its data: `tools/page.py` takes it from `page/show.html`.
+
+/// What comes before the data.
+pub(crate) const BEFORE: &str = "\
+<!doctype html>
+<html lang=\"en\">
+<head>
+<meta charset=\"utf-8\">
+<meta name=\"viewport\" content=\"width=device-width, initial-scale=1\">
+<title>An exchange, step by step</title>
+<style>
+  :root {
+    color-scheme: light dark;
+    --ink: #1d2733; --soft: #566270; --line: #cfd6df; --paper: #fff; --ground: #f3f5f8; --now: #fff3cf; --bad: #a3201a;
+    --claimed: #f6c65b; --written: #e5862a; --published: #2f6fc4; --on-published: #fff; --mark: #7a5b00;
+  }
+  @media (prefers-color-scheme: dark) {
+    :root {
+      --ink: #e6ebf1; --soft: #a5b0bd; --line: #3b4653; --paper: #1b222b; --ground: #12171d; --now: #3b3211; --bad: #ff8d85;
+      --claimed: #8a6a14; --written: #a85f16; --published: #6aa5f2; --on-published: #0d131a; --mark: #f6c65b;
+    }
+  }
+  * { box-sizing: border-box; }
+  [hidden] { display: none !important; }
+  body { margin: 0; font: 14px/1.45 system-ui, sans-serif; color: var(--ink); background: var(--ground); }
+  header { position: sticky; top: 0; z-index: 1; padding: 8px 14px; background: var(--paper); border-bottom: 1px solid var(--line); }
+  header, .row { display: flex; gap: 8px 12px; align-items: center; flex-wrap: wrap; }
+  h1 { font-size: 16px; margin: 0; }
+  h2 { font-size: 14px; margin: 0 0 4px; }
+  button { font: inherit; padding: 3px 10px; border: 1px solid var(--line); border-radius: 5px; background: var(--ground); color: inherit; }
+  button:disabled { opacity: .45; }
+  :focus-visible { outline: 3px solid var(--published); outline-offset: 1px; }
+  #at { flex: 1 1 140px; min-width: 100px; }
+  #body { display: grid; grid-template-columns: minmax(300px, 34%) 1fr; align-items: start; }
+  #file { position: sticky; top: 46px; max-height: calc(100vh - 46px); overflow: auto; background: var(--paper); border-right: 1px solid var(--line); }
+  #lines { margin: 0; padding: 6px 0; list-style: none; }
+  #lines button {
+    display: grid; grid-template-columns: 3.4em minmax(0, 5fr) minmax(0, 4fr); gap: 8px; width: 100%; padding: 1px 10px 1px 2px; text-align: left;
+    border: 0; border-left: 5px solid transparent; border-radius: 0; background: none; font: 13px/1.5 ui-monospace, monospace;
+  }
+  #lines li { content-visibility: auto; contain-intrinsic-size: auto 22px; }
+  #lines span { overflow-wrap: anywhere; }
+  #lines span:first-child { color: var(--soft); text-align: right; }
+  #lines [aria-current] { background: var(--now); border-left-color: var(--mark); font-weight: 600; }
+  .bad { color: var(--bad); }
+  .later { opacity: .62; }
+  main { padding: 12px 16px; display: grid; gap: 12px; min-width: 0; }
+  .card { background: var(--paper); border: 1px solid var(--line); border-radius: 8px; padding: 8px 12px; min-width: 0; overflow-x: auto; }
+  #said b { font: 600 15px/1.4 ui-monospace, monospace; overflow-wrap: anywhere; }
+  #said p { margin: 2px 0 0; }
+  #both { display: grid; grid-template-columns: repeat(auto-fit, minmax(min(100%, 330px), 1fr)); gap: 12px; align-items: start; }
+  #both > div { display: grid; gap: 12px; min-width: 0; }
+  svg { display: block; width: 100%; height: auto; }
+  svg text { fill: var(--ink); }
+  table { border-collapse: collapse; width: 100%; }
+  th, td { padding: 3px 6px 3px 0; text-align: left; vertical-align: top; border-top: 1px solid var(--line); }
+  tr:first-child > * { border-top: 0; }
+  th { font-weight: 500; color: var(--soft); }
+  td.n, th.n { text-align: right; }
+  .name { overflow-wrap: anywhere; min-width: 5.5em; }
+  #part { margin: 8px 10px; }
+  #key svg { display: inline-block; width: 18px; height: 14px; vertical-align: -2px; margin-right: 5px; }
+  footer, .soft { color: var(--soft); }
+  footer { font-size: 13px; }
+  @media (max-width: 760px) {
+    #body { display: block; }
+    #file { position: static; max-height: 34vh; border-right: 0; border-bottom: 1px solid var(--line); }
+    main { padding: 10px; }
+  }
+</style>
+</head>
+<body>
+<header>
+  <h1>An exchange, step by step</h1>
+  <div class=\"row\" role=\"group\" aria-label=\"Steps\">
+    <button id=\"first\" title=\"Home\" aria-label=\"first\">|&lt;</button>
+    <button id=\"back\" title=\"Left arrow\" aria-label=\"back\">&lt; back</button>
+    <button id=\"on\" title=\"Right arrow\" aria-label=\"on\">on &gt;</button>
+    <button id=\"end\" title=\"End\" aria-label=\"last\">&gt;|</button>
+  </div>
+  <input id=\"at\" type=\"range\" min=\"0\" aria-label=\"Step\">
+  <span id=\"where\"></span>
+</header>
+<div id=\"body\">
+<section id=\"file\" aria-label=\"The file's records, with their replies\"><p id=\"part\" class=\"soft\" hidden></p><ol id=\"lines\"></ol></section>
+<main>
+  <section class=\"card\" id=\"said\" aria-live=\"polite\"><b id=\"head\"></b><p id=\"why\"></p></section>
+  <div id=\"both\">
+    <div>
+      <figure class=\"card\" id=\"ring\" style=\"margin: 0\"></figure>
+      <section class=\"card row\" id=\"key\" aria-label=\"Key\"></section>
+    </div>
+    <div>
+      <section class=\"card\"><h2>Handlers</h2><div id=\"graph\"></div><table id=\"handlers\"></table></section>
+      <section class=\"card\"><h2>Claims</h2><p id=\"room\" style=\"margin: 0 0 4px\"></p><table id=\"producers\"></table></section>
+    </div>
+  </div>
+  <footer>
+    Each reply is that of <code>disruptor drive</code>, and each number the state of the proved core after that record. Keys: the arrows, Home and End.
+    <code>#step=23</code> at the end of the page's address opens record 23.
+  </footer>
+</main>
+</div>
+<script type=\"application/json\" id=\"data\">
+";
+
+/// What comes after it.
+pub(crate) const AFTER: &str = "
+</script>
+<script>
+\"use strict\";
+const data = JSON.parse(document.getElementById(\"data\").textContent);
+const records = data.records.slice(0, -1), end = data.records.at(-1);
+const exchange = records.find((it) => it.exchange)?.exchange;
+const $ = (id) => document.getElementById(id);
+const COLORS = [\"#7b4fc9\", \"#1b9e77\", \"#d1495b\", \"#0b7fab\", \"#a86b00\", \"#5a7d2a\", \"#c2489a\", \"#3f51b5\"];
+const MOST_DRAWN = 64;
+const REFUSED = {
+  1: \"\", 2: \"The exchange is halted, for good. What is claimed may still be published.\",
+  3: \"A claim is of at least one sequence and at most the size, a publication ends where it begins or later, and a poll has room.\",
+  4: \"The claim goes past the limit.\", 5: \"Nobody claimed this sequence, or another producer did.\",
+  6: \"This sequence is published already, and may have been read.\", 7: \"A sequence of the stretch has no event yet.\",
+  8: \"The only producer publishes in order, and has not published an earlier sequence.\", 9: \"The handler has not taken so many events.\",
+  10: \"The handler has completed more already.\", 11: \"The number is no producer's; they count from 0.\", 12: \"The name is no handler's.\",
+  13: \"The handler is retired, for good.\", 14: \"A handler that is not retired follows the one to retire.\", 15: \"No other handler is left.\",
+};
+const POLL = { retired: \"refused: it is retired\", drained: \"drained\", gating: \"gating\", idle: \"idle\" };
+let step = 0;
+
+const esc = (text) => String(text).replace(/[&<>\"]/g, (c) => `&#${c.charCodeAt(0)};`);
+const plain = (text) => text.replace(/\\n$/, \"\").replaceAll(\"\\n\", \"\\\\x0a\");
+const count = (n, one, many = `${one}s`) => `${n} ${n === 1 ? one : many}`;
+const list = (words) => (words.length < 2 ? words.join(\"\") : `${words.slice(0, -1).join(\", \")} and ${words.at(-1)}`);
+const span = (lo, hi) => (lo === hi ? `${lo}` : hi === lo + 1 ? `${lo} and ${hi}` : `${lo} to ${hi}`);
+const several = (lo, hi) => (lo === hi ? \"sequence\" : \"sequences\");
+const name = (h) => exchange.handlers[h].name;
+
+// The stretches of the last round, each with its last sequence, and the event of a sequence.
+function stretches(r) {
+  return r.round.map(([lo, producer, stage], i) => ({ lo, hi: (r.round[i + 1]?.[0] ?? r.next) - 1, producer, stage }));
+}
+function events(r) {
+  return (r.read ??= new Map(r.events.split(\" \").filter(Boolean).map((it) => [Number(it.split(\"=\")[0]), it.split(\"=\")[1]])));
+}
+const stretchOf = (all, s) => all.find((it) => it.lo <= s && s <= it.hi);
+// The least count that holders completed: what is below it is free again.
+const floor = (r) => r.handlers.find((h) => h.holds)?.completed ?? 0;
+const holders = (r) => r.handlers.map((h, k) => (h.holds ? name(k) : \"\")).filter(Boolean);
+
+function whyWaits(r, h) {
+  const it = r.handlers[h], ups = exchange.handlers[h].upstreams, slow = ups.filter((u) => r.handlers[u].completed <= it.taken);
+  const done = slow.map((u) => String(r.handlers[u].completed)), alike = new Set(done).size === 1;
+  if (slow.length) return `${name(h)} follows ${list(slow.map(name))}, which completed only ${alike ? done[0] : list(done)} of the events.`;
+  const gap = stretchOf(stretches(r), r.front);
+  if (!gap) return \"\";
+  const later = stretches(r).filter((s) => s.stage === \"published\" && s.lo > r.front);
+  const behind = later.length ? ` So ${list(later.slice(0, 3).map((s) => span(s.lo, s.hi)))}, though published, must wait: events are handed out in order.` : \"\";
+  return `Producer ${gap.producer} claimed sequence ${r.front}, and has not ${gap.stage === \"written\" ? \"published it, though it is written\" : \"written it\"} yet.${behind}`;
+}
+function whyNoRoom(r) {
+  if (r.halted) return \"The exchange is halted.\";
+  const who = holders(r);
+  return `${list(who)} completed ${floor(r)} of ${r.next} claimed events, and the ring has ${count(exchange.size, \"slot\")}: ${r.room ? `a claim may have at most ${r.room}` : \"none is free\"}.`;
+}
+const SETUP = {
+  ring: \"The ring: slots that are made once and used again.\", limit: \"How many sequences may be claimed in all.\", with: \"Handlers that wait for no other handler.\",
+  then: \"Handlers that follow each one of the group before.\", after: \"The handlers that the next ones follow.\", edge: \"The second handler follows the first one.\",
+};
+function explain(r) {
+  if (r.fault) return \"The file is at fault here, and the run ends.\";
+  const [word, ...f] = r.text.split(\",\"), reply = r.reply?.split(\" \").map((it) => it.trim());
+  if (r.exchange) return `The exchange opens: ${count(exchange.size, \"slot\")}, ${count(exchange.producers, \"producer\")}, ${count(exchange.handlers.length, \"handler\")}.`;
+  if (!reply) return SETUP[word] ?? \"\";
+  const h = exchange.handlers.findIndex((it) => it.name === f[0]);
+  const why = {
+    claimed: () => `Producer ${f[0]} owns ${several(reply[1], reply[2])} ${span(Number(reply[1]), Number(reply[2]))} now, and ${reply[1] === reply[2] ? \"its slot\" : \"their slots\"}.`,
+    written: () => \"The event is in its slot, and no handler can see it yet.\",
+    published: () => `Handlers may take ${f[1] === f[2] ? \"this event\" : \"these events\"} once all before are published too. ${r.front < r.next ? whyBehind(r) : \"\"}`,
+    batch: () => `${f[0]} took these events, in order. ${reply[2] === \"more\" ? \"There are more: the poll had too little room.\" : \"No more was available.\"}`,
+    gating: () => `There is more for ${f[0]}, but not yet. ${whyWaits(r, h)}`,
+    idle: () => \"Nothing new is there.\",
+    drained: () => `The exchange is halted, and ${f[0]} took all there will ever be.`,
+    completed: () => `${f[0]} is done with the events below ${f[1]}. ${r.handlers[h].gates ? (floor(r) ? `The slots of the events below ${floor(r)} are free again.` : \"\") : \"Who follows it may take them.\"}`,
+    halting: () => \"No claim succeeds from now on. What is claimed may still be published, and is still handed out.\",
+    retired: () => `${f[0]} takes no more events, and no claim waits for it.`,
+    refused: () => `${reply[1] === \"1\" ? `No room. ${whyNoRoom(r)}` : REFUSED[reply[1]] ?? \"\"} Nothing has changed.`,
+  };
+  return why[reply[0]]?.() ?? \"\";
+}
+function whyBehind(r) {
+  const gap = stretchOf(stretches(r), r.front), later = stretches(r).some((s) => s.stage === \"published\" && s.lo > r.front);
+  return later && gap ? `Sequence ${r.front} is not: producer ${gap.producer}, who claimed it, has yet to publish it.` : \"\";
+}
+
+// Pictures. Each way of a slot has a pattern of its own, and a letter where there is room.
+const PATTERNS = `<defs>
+  <pattern id=\"claimed\" width=\"7\" height=\"7\" patternUnits=\"userSpaceOnUse\" patternTransform=\"rotate(45)\">
+    <rect width=\"7\" height=\"7\" fill=\"var(--claimed)\"/><path d=\"M0 0V7\" stroke=\"var(--paper)\" stroke-width=\"3\"/></pattern>
+  <pattern id=\"written\" width=\"7\" height=\"7\" patternUnits=\"userSpaceOnUse\">
+    <rect width=\"7\" height=\"7\" fill=\"var(--written)\"/><circle cx=\"3.5\" cy=\"3.5\" r=\"1.6\" fill=\"var(--paper)\"/></pattern>
+  <pattern id=\"again\" width=\"7\" height=\"7\" patternUnits=\"userSpaceOnUse\">
+    <rect width=\"7\" height=\"7\" fill=\"var(--paper)\"/><path d=\"M0 3.5H7\" stroke=\"var(--published)\" stroke-width=\"1\"/></pattern></defs>`;
+const LETTER = { free: \"\", again: \"\", claimed: \"c\", written: \"w\", published: \"p\" };
+const WAYS = { free: \"never used\", claimed: \"claimed (c)\", written: \"written (w)\", published: \"published (p)\", again: \"free again\" };
+const fill = (way) => (way === \"published\" ? \"var(--published)\" : way === \"free\" ? \"var(--ground)\" : `url(#${way})`);
+const wayOf = (r, s, stage) => (s < floor(r) && stage === \"published\" ? \"again\" : stage);
+
+// The stretches, parted where slots are free again.
+function parts(r) {
+  const low = floor(r);
+  return stretches(r).flatMap((it) => {
+    if (it.stage !== \"published\" || it.lo >= low) return [{ ...it, way: it.stage }];
+    if (it.hi < low) return [{ ...it, way: \"again\" }];
+    return [{ ...it, hi: low - 1, way: \"again\" }, { ...it, lo: low, way: \"published\" }];
+  });
+}
+function tellRing(r) {
+  const all = parts(r), told = events(r);
+  const said = all.slice(0, 24).map((it) => {
+    const values = it.hi - it.lo < 8 && it.way !== \"claimed\" ? Array.from({ length: it.hi - it.lo + 1 }, (_, k) => told.get(it.lo + k)).filter(Boolean) : [];
+    return `${several(it.lo, it.hi)} ${span(it.lo, it.hi)} ${it.way === \"again\" ? \"completed by all, free again\" : `${it.way} by producer ${it.producer}`}${
+      values.length ? ` (${values.join(\", \")})` : \"\"}`;
+  });
+  const more = all.length > 24 ? `, and ${all.length - 24} stretches more` : \"\";
+  return `A ring of ${count(exchange.size, \"slot\")}. ${said.length ? `${said.join(\"; \")}${more}.` : \"Nothing is claimed.\"} Next to be claimed: ${r.next}. All below ${r.front} is published.`;
+}
+function drawRing(r) {
+  const size = exchange.size, many = r.handlers.length, lane = Math.min(13, 96 / many), R = 150, W = 54, C = R + 24 + many * lane;
+  const turn = (n) => (((n % size) / size) * 2 - 0.5) * Math.PI, one = (2 * Math.PI) / size;
+  const at = (a, radius) => `${(C + radius * Math.cos(a)).toFixed(2)} ${(C + radius * Math.sin(a)).toFixed(2)}`;
+  const band = (a, b, r0, r1, how) => {
+    if (b - a > 2 * Math.PI - 1e-4) return band(a, a + Math.PI, r0, r1, how) + band(a + Math.PI, a + 2 * Math.PI - 2e-4, r0, r1, how);
+    const big = b - a > Math.PI ? 1 : 0;
+    return `<path d=\"M${at(a, r0)}A${r0} ${r0} 0 ${big} 1 ${at(b, r0)}L${at(b, r1)}A${r1} ${r1} 0 ${big} 0 ${at(a, r1)}Z\" ${how}/>`;
+  };
+  const text = (a, radius, size, what, way, bold = false, below = 0) => {
+    const [x, y] = at(a, radius).split(\" \");
+    const ink = way === \"published\" ? \"var(--on-published)\" : \"var(--ink)\";
+    const halo = way === \"published\" ? \"\" : ' stroke=\"var(--paper)\" stroke-width=\"3\" paint-order=\"stroke\"';
+    return `<text x=\"${x}\" y=\"${(Number(y) + size / 3 + below).toFixed(2)}\" text-anchor=\"middle\" font-size=\"${size}\" ${bold ? 'font-weight=\"600\"' : \"\"} style=\"fill:${ink}\"${halo}>${esc(what)}</text>`;
+  };
+  let out = PATTERNS;
+  const all = parts(r), told = events(r), touched = touches(r);
+  if (size > MOST_DRAWN) {
+    out += `<circle cx=\"${C}\" cy=\"${C}\" r=\"${R - W / 2}\" fill=\"none\" stroke=\"var(--ground)\" stroke-width=\"${W}\"/>`;
+    for (const it of all) {
+      const a = turn(it.lo), b = a + (it.hi - it.lo + 1) * one;
+      out += band(a, b, R - W, R, `fill=\"${fill(it.way)}\" stroke=\"var(--ink)\" stroke-width=\".6\"`);
+      if (b - a > 0.5) out += text((a + b) / 2, R - W / 2, 12, `${LETTER[it.way]} ${it.lo}\\u2013${it.hi}`, it.way);
+    }
+  } else {
+    for (let k = 0; k < size; k++) {
+      const s = r.next - 1 - ((((r.next - 1 - k) % size) + size) % size), it = s >= 0 ? stretchOf(all, s) : undefined, way = it?.way ?? \"free\";
+      const a = turn(k), gap = Math.min(0.02, one / 8), mid = a + one / 2, now = s >= touched[0] && s <= touched[1];
+      out += band(a + gap, a + one - gap, R - W, R, `fill=\"${fill(way)}\" stroke=\"var(--ink)\" stroke-width=\"${now ? 3 : 0.6}\"`);
+      if (it && size <= 16) {
+        const value = told.get(s);
+        out += text(mid, R - W / 2, 10.5, `#${s} ${LETTER[way]}${exchange.producers > 1 ? ` by ${it.producer}` : \"\"}`, way, false, value === undefined ? 0 : -7);
+        if (value !== undefined) out += text(mid, R - W / 2, 13, value.length > 7 ? `${value.slice(0, 6)}\\u2026` : value, way, true, 7);
+      } else if (it) out += text(mid, R - W / 2, 11, LETTER[way], way);
+    }
+  }
+  r.handlers.forEach((h, k) => {
+    const r0 = R + 8 + k * lane, thick = Math.min(8, lane * 0.62), color = COLORS[k % COLORS.length];
+    out += `<circle cx=\"${C}\" cy=\"${C}\" r=\"${r0 + thick / 2}\" fill=\"none\" stroke=\"${color}\" stroke-opacity=\".25\" stroke-width=\"${thick / 2}\"/>`;
+    if (h.retired) return;
+    const a = turn(h.completed), b = a + (h.taken - h.completed) * one;
+    if (h.taken > h.completed) out += band(a, b, r0, r0 + thick, `fill=\"${color}\"`);
+    out += `<path d=\"M${at(b, r0 - 3)}L${at(b, r0 + thick + 3)}\" stroke=\"${color}\" stroke-width=\"3\"/>` + text(b + 0.05, r0 + thick / 2, 9, k + 1, \"\", true);
+  });
+  const middle = [`next #${r.next}`, `published below #${r.front}`, r.halted ? \"halted\" : `room for ${r.room}`];
+  middle.forEach((it, k) => { out += `<text x=\"${C}\" y=\"${C - 14 + 20 * k}\" text-anchor=\"middle\" font-size=\"13\">${it}</text>`; });
+  return `<svg viewBox=\"0 0 ${2 * C} ${2 * C}\" role=\"img\" aria-label=\"${esc(`${tellRing(r)} ${tellTracks(r)}`)}\">${out}</svg>`;
+}
+function tellTracks(r) {
+  return r.handlers.map((h, k) => (h.retired ? `${name(k)} is retired.` : `${name(k)} took the events below ${h.taken} and completed those below ${h.completed}.`)).join(\" \");
+}
+// The sequences that a record is about, from one to another.
+function touches(r) {
+  const f = r.text.split(\",\"), reply = (r.reply ?? \"\").trim().split(\" \");
+  if (reply[0] === \"claimed\") return [Number(reply[1]), Number(reply[2])];
+  if (reply[0] === \"batch\") return [Number(reply[1]), Number(reply[1]) + reply.length - 4];
+  if (reply[0] === \"written\") return [Number(f[2]), Number(f[2])];
+  if (reply[0] === \"published\") return [Number(f[2]), Number(f[3])];
+  return [1, 0];
+}
+function drawGraph(r) {
+  const all = exchange.handlers, level = [];
+  all.forEach((it, h) => (level[h] = Math.max(0, ...it.upstreams.map((u) => 1 + level[u]))));
+  const columns = [];
+  all.forEach((_, h) => (columns[level[h]] ??= []).push(h));
+  const tall = Math.max(...columns.map((it) => it.length)) * 38 + 6, wide = 112, gap = 40, left = 76, place = [];
+  columns.forEach((it, i) => it.forEach((h, j) => (place[h] = [left + gap + i * (wide + gap), (tall - it.length * 38) / 2 + j * 38 + 5])));
+  const arrow = (x0, y0, x1, y1) => `<path d=\"M${x0} ${y0}C${x0 + 20} ${y0} ${x1 - 24} ${y1} ${x1 - 5} ${y1}\" fill=\"none\" stroke=\"var(--soft)\"/>
+    <path d=\"M${x1 - 7} ${y1 - 4}L${x1} ${y1}L${x1 - 7} ${y1 + 4}Z\" fill=\"var(--soft)\"/>`;
+  let out = \"\";
+  all.forEach((it, h) => {
+    const [x, y] = place[h];
+    if (!it.upstreams.length) out += arrow(left, tall / 2, x, y + 14);
+    for (const u of it.upstreams) out += arrow(place[u][0] + wide, place[u][1] + 14, x, y + 14);
+  });
+  out += `<rect x=\"1\" y=\"${tall / 2 - 14}\" width=\"${left - 1}\" height=\"28\" rx=\"6\" fill=\"var(--paper)\" stroke=\"var(--soft)\"/>
+    <text x=\"${left / 2}\" y=\"${tall / 2 + 4.5}\" text-anchor=\"middle\" font-size=\"12\">${exchange.producers === 1 ? \"producer\" : \"producers\"}</text>`;
+  all.forEach((it, h) => {
+    const [x, y] = place[h], now = r.handlers[h], label = `${h + 1} ${it.name}`;
+    out += `<g opacity=\"${now.retired ? 0.5 : 1}\"><rect x=\"${x}\" y=\"${y}\" width=\"${wide}\" height=\"28\" rx=\"6\" fill=\"var(--paper)\" stroke=\"${COLORS[h % COLORS.length]}\"
+      stroke-width=\"${now.gates ? 4 : 1.5}\" ${now.retired ? 'stroke-dasharray=\"4 3\"' : \"\"}/><text x=\"${x + wide / 2}\" y=\"${y + 18.5}\" text-anchor=\"middle\"
+      font-size=\"12.5\">${esc(label.length > 15 ? `${label.slice(0, 14)}\\u2026` : label)}</text></g>`;
+  });
+  const says = all.map((it, h) => `${it.name} follows ${it.upstreams.length ? list(it.upstreams.map(name)) : \"the producers\"}${
+    r.handlers[h].retired ? \" and is retired\" : r.handlers[h].gates ? \"; claims wait for it\" : \"\"}.`).join(\" \");
+  const width = Math.max(360, left + gap + columns.length * (wide + gap));
+  return `<svg viewBox=\"0 0 ${width} ${tall}\" style=\"max-width:${width}px\" role=\"img\" aria-label=\"${esc(says)}\">${out}</svg>`;
+}
+function drawTables(r) {
+  const finals = r.handlers.filter((h) => h.gates).length;
+  const rows = r.handlers.map((h, k) => {
+    const asked = h.poll === \"batch\" ? count(h.ready, \"event\") : POLL[h.poll];
+    const waits = h.poll === \"gating\" ? `<tr><td class=\"soft\" colspan=\"5\">${esc(whyWaits(r, k))}</td></tr>` : \"\";
+    return `<tr><td class=\"name\"><svg viewBox=\"0 0 10 10\" width=\"10\" height=\"10\" style=\"display:inline-block;width:10px\" aria-hidden=\"true\">
+      <circle cx=\"5\" cy=\"5\" r=\"5\" fill=\"${COLORS[k % COLORS.length]}\"/></svg> ${k + 1} ${esc(name(k))}</td><td class=\"n\">${h.taken}</td><td class=\"n\">${h.completed}</td>
+      <td>${asked}</td><td>${h.retired ? \"no: retired\" : h.holds && finals > 1 ? \"yes, completed least\" : h.gates ? \"yes\" : \"no\"}</td></tr>${waits}`;
+  });
+  $(\"handlers\").innerHTML = `<tr><th>handler</th><th class=\"n\">taken</th><th class=\"n\">completed</th><th>a poll now</th><th>claims wait</th></tr>${rows.join(\"\")}`;
+  $(\"room\").textContent = r.halted ? \"Halted: no claim is given a sequence.\" : r.room === exchange.size ? \"A claim may have the whole ring.\" : whyNoRoom(r);
+  const own = Array.from({ length: exchange.producers }, (_, p) => stretches(r).filter((it) => it.producer === p && it.stage !== \"published\"));
+  $(\"producers\").innerHTML = `<tr><th>producer</th><th>has claimed, and not published</th></tr>` + own.map((it, p) => `<tr><td>${p}</td><td>${
+    it.slice(0, 8).map((s) => `${span(s.lo, s.hi)} (${s.stage})`).join(\", \") || \"nothing\"}${it.length > 8 ? \", \\u2026\" : \"\"}</td></tr>`).join(\"\");
+}
+
+function show(to, keeps) {
+  step = Math.max(0, Math.min(to, records.length - 1));
+  const r = records[step], before = $(\"lines\").querySelector(\"[aria-current]\"), line = $(\"lines\").children[step]?.firstChild;
+  before?.removeAttribute(\"aria-current\");
+  line?.setAttribute(\"aria-current\", \"step\");
+  if (line) { const box = $(\"file\"), at = line.parentNode.offsetTop - box.offsetTop; if (at < box.scrollTop || at > box.scrollTop + box.clientHeight - 40) box.scrollTop = at - box.clientHeight / 2; }
+  $(\"at\").value = step;
+  $(\"at\").setAttribute(\"aria-valuetext\", `record ${r.record}`);
+  $(\"where\").textContent = `record ${r.record} of ${end.last}`;
+  for (const id of [\"first\", \"back\"]) $(id).disabled = step === 0;
+  for (const id of [\"on\", \"end\"]) $(id).disabled = step === records.length - 1;
+  $(\"head\").textContent = `${plain(r.text)}${r.reply ? `  \\u2192  ${plain(r.reply)}` : \"\"}${r.fault ? `  \\u2192  ${r.fault}` : \"\"}`;
+  $(\"why\").textContent = explain(r);
+  $(\"both\").hidden = r.next === undefined;
+  if (r.next !== undefined) {
+    $(\"ring\").innerHTML = drawRing(r);
+    $(\"graph\").innerHTML = drawGraph(r);
+    drawTables(r);
+  }
+  if (!keeps) history.replaceState(null, \"\", `#step=${r.record}`);
+}
+function open() {
+  if (end.fault && !records.some((r) => r.fault)) records.push({ record: end.last + 1, text: \"\", fault: end.fault });
+  $(\"lines\").innerHTML = records.map((r, k) => `<li><button data-k=\"${k}\"><span>${r.record}</span><span>${esc(plain(r.text))}</span><span class=\"${
+    r.fault || r.reply?.startsWith(\"refused\") ? \"bad\" : \"\"}\">${esc(plain(r.fault ?? r.reply ?? \"\").slice(0, 200))}</span></button></li>`).join(\"\");
+  const commands = records.filter((r) => r.reply !== undefined), past = end.last - (records.at(-1)?.record ?? 0);
+  if (commands.length && (past > 0 || commands[0].record > 1 + (records.find((r) => r.exchange)?.record ?? 0))) {
+    $(\"part\").hidden = false;
+    $(\"part\").textContent = `Of ${end.last} records, the setup and ${commands[0].record} to ${commands.at(-1).record} are shown: --from and --steps show others.`;
+  }
+  $(\"key\").innerHTML = Object.entries(WAYS).map(([way, said]) => `<span><svg viewBox=\"0 0 18 14\" aria-hidden=\"true\">${PATTERNS}<rect x=\".5\" y=\".5\" width=\"17\" height=\"13\"
+    fill=\"${fill(way)}\" stroke=\"var(--ink)\"/></svg>${said}</span>`).join(\"\") + \"<span>Outer tracks, by a handler's number: what it has in hand, up to what it took.</span>\";
+  $(\"at\").max = records.length - 1;
+  const asked = () => Number(/^#step=(\\d+)$/.exec(location.hash)?.[1] ?? NaN);
+  const find = (k) => { const i = records.findIndex((r) => r.record >= k); return i < 0 ? records.length - 1 : i; };
+  show(Number.isNaN(asked()) ? (exchange ? records.findIndex((r) => r.exchange) : records.length - 1) : find(asked()));
+  window.onhashchange = () => { if (!Number.isNaN(asked())) show(find(asked()), true); };
+}
+$(\"first\").onclick = () => show(0);
+$(\"back\").onclick = () => show(step - 1);
+$(\"on\").onclick = () => show(step + 1);
+$(\"end\").onclick = () => show(records.length - 1);
+$(\"at\").oninput = () => show(Number($(\"at\").value));
+$(\"lines\").onclick = (e) => { const at = e.target.closest(\"button\"); if (at) show(Number(at.dataset.k)); };
+document.onkeydown = (e) => {
+  const to = { ArrowRight: step + 1, ArrowDown: step + 1, ArrowLeft: step - 1, ArrowUp: step - 1, Home: 0, End: records.length - 1 }[e.key];
+  if (to === undefined || e.target === $(\"at\") || e.altKey || e.ctrlKey || e.metaKey) return;
+  e.preventDefault();
+  show(to);
+};
+open();
+</script>
+</body>
+</html>
+";

@@ -1,0 +1,182 @@
+#!/usr/bin/env python3
+"""Compares the page that `show` writes with a second reading of the docs, and steps through pages in a browser, where Chromium is there.
+
+    tests/show.py PROGRAM                   the examples, the files of rows/ and hostile/, and 200 random ones
+    tests/show.py PROGRAM --files 10000     as many random ones as asked
+
+A page has to be that of page/show.html around its data, and its data what the second reading says of the file. Its replies have to be the lines
+of `drive`, and the run has to end as `drive` does. In the browser each example and worked run is gone through by keys, clicks, the slider and the
+address, and each step has to show its record and the line of `drive`. A page of 2,000 steps has to open within a second. The script prints a line for each failure, and then a count; its status is
+0 where none failed.
+"""
+
+import argparse
+import html
+import json
+import os
+import re
+import shutil
+import subprocess
+import sys
+import tempfile
+from itertools import chain
+
+sys.dont_write_bytecode = True
+HERE = os.path.dirname(os.path.abspath(__file__))
+TOP = os.path.dirname(HERE)
+sys.path += [HERE, os.path.join(HERE, "hostile"), os.path.join(HERE, "second_reading"), os.path.join(TOP, "tools")]
+from page import parts  # noqa: E402
+from random_files import random_file  # noqa: E402
+from run import Bench  # noqa: E402
+from showing import page_data  # noqa: E402
+from states import files_at_fault, hostile_files, worked_files  # noqa: E402
+
+EXAMPLE = f"{TOP}/examples/two_producers.csv"
+# Windows of a page: its first record, and how many.
+WINDOWS = ((1, 2000), (1, 0), (9, 2), (2**64 - 1, 2**64 - 1))
+# A larger page is not tried with each window, nor opened.
+MOST_BYTES = 100_000
+BROWSERS = ("chromium", "chromium-browser", "google-chrome", "chrome")
+# What goes through a page: it presses, clicks and slides, and leaves what it saw in the page's place.
+GOES = """<script>
+const seen = [], faults = [];
+window.onerror = (why) => { faults.push(String(why)); };
+const look = () => [$("head").textContent, $("where").textContent, $("both").hidden ? "" : document.querySelectorAll("svg[role=img]:not([aria-label=''])").length];
+const press = (key) => document.dispatchEvent(new KeyboardEvent("keydown", { key, bubbles: true, cancelable: true }));
+const at = records.length - 1;
+press("Home");
+for (let k = 0; k <= at; k++) { seen.push(look()); press("ArrowRight"); }
+const same = (what, k) => { if (look()[0] !== seen[k][0]) faults.push(`${what} leads elsewhere`); };
+same("the right arrow at the end", at);
+press("Home"); same("Home", 0);
+press("End"); same("End", at);
+press("ArrowLeft"); same("the left arrow", Math.max(0, at - 1));
+$("first").click(); same("the button to the start", 0);
+$("on").click(); same("the button on", Math.min(1, at));
+$("back").click(); same("the button back", 0);
+$("end").click(); same("the button to the end", at);
+$("at").value = 0; $("at").dispatchEvent(new Event("input")); same("the slider", 0);
+$("lines").children[at].firstChild.click(); same("a click", at);
+if (location.hash !== `#step=${records[at].record}`) faults.push(`the address is ${location.hash}`);
+if (document.documentElement.scrollWidth > innerWidth) faults.push(`it is ${document.documentElement.scrollWidth} wide, not ${innerWidth}`);
+document.body.innerHTML = "<pre id=told></pre>";
+document.getElementById("told").textContent = JSON.stringify({ seen, faults });
+</script>"""
+
+
+# What tells how many milliseconds a page took to open, laid out.
+TIMES = """<script>
+const height = document.body.offsetHeight, took = performance.now();
+document.body.innerHTML = `<pre id=told>${JSON.stringify(took)}</pre>`;
+</script>"""
+MOST_MILLISECONDS = 1000
+
+
+def page_parts():
+    with open(f"{TOP}/page/show.html", encoding="utf-8") as file:
+        return parts(file.read())
+
+
+def data_of(text, around):
+    """The data of a page that has these texts around it, or None."""
+    before, after = (part.encode() for part in around)
+    is_page = text.startswith(before) and text.endswith(after) and len(text) >= len(before) + len(after)
+    return text[len(before) : len(text) - len(after)] if is_page else None
+
+
+def judge_file(bench, name, text, around):
+    """Judges what `show` does with a file, against `drive` and the second reading; answers the page."""
+    file = bench.file("show.csv", text)
+    drives = bench.run("drive", file)
+    whole = None
+    for first, steps in WINDOWS if len(text) < MOST_BYTES else WINDOWS[:1]:
+        ran = bench.run("show", f"--from={first}", f"--steps={steps}", file)
+        data = data_of(ran.out, around)
+        bench.judge(f"how show of {name} ends", (ran.status, ran.err), (drives.status, drives.err))
+        bench.judge(f"show of {name} from {first}, {steps} steps", data, page_data(text, first, steps).encode())
+        if data is not None and (first, steps) == WINDOWS[0]:
+            whole = ran.out
+            replies = "".join(it.get("reply", "") for it in json.loads(data)["records"])
+            if replies.count("\n") < steps:
+                bench.judge(f"the replies in the page of {name}", replies.encode(), drives.out)
+    return whole
+
+
+def output_cases(bench, around):
+    """A page goes to a file whole, also that of a file at fault, and then no part of it is left."""
+    for name, text, status in (("a file", b"ring,2,single\nwith,a\nstart\nhalt\n", 0), ("a file at fault", b"ring,2,single\nwith,a\nstart\nhat\n", 2)):
+        file, page = bench.file("show.csv", text), bench.file("page.html", b"old")
+        ran = bench.run("show", "--output", page, file)
+        bench.judge(f"the status of show --output of {name}", (ran.status, ran.out), (status, b""))
+        with open(page, "rb") as it:
+            bench.judge(f"the page of {name}", data_of(it.read(), around), page_data(text).encode())
+        bench.judge(f"whether a part of the page of {name} is left", os.path.exists(f"{page}.part"), False)
+
+
+def wanted_steps(data):
+    """What each step of a page has to show: its record with the line of `drive`, and which record it is."""
+    *records, end = json.loads(data)["records"]
+    if "fault" in end:
+        records.append({"record": end["last"] + 1, "text": "", "fault": end["fault"]})
+    for it in records:
+        told = "".join(f"  \u2192  {it[part].removesuffix(chr(10))}" for part in ("reply", "fault") if part in it)
+        yield [it["text"].removesuffix("\n").replace("\n", "\\x0a") + told, f"record {it['record']} of {end['last']}", 2 if "next" in it else ""]
+
+
+def told_by(bench, browser, page, script):
+    """What a script tells that runs in a page in a browser, or None."""
+    file = bench.file("page.html", page.replace(b"</body>", script.encode() + b"</body>"))
+    words = [browser, "--headless", "--no-sandbox", "--disable-gpu", "--window-size=400,800", f"--user-data-dir={bench.folder}/browser", "--dump-dom"]
+    ran = subprocess.run([*words, f"file://{file}"], stdin=subprocess.DEVNULL, stdout=subprocess.PIPE, stderr=subprocess.DEVNULL, timeout=120, check=False)
+    told = re.search(r'<pre id="told">(.*?)</pre>', ran.stdout.decode(), re.DOTALL)
+    return json.loads(html.unescape(told[1])) if told else None
+
+
+def go_through(bench, browser, name, page, around):
+    """Steps through a page in a browser."""
+    seen = told_by(bench, browser, page, GOES)
+    bench.judge(f"what a browser shows of {name}", seen, {"seen": list(wanted_steps(data_of(page, around))), "faults": []})
+
+
+def open_long(bench, browser):
+    """A page of 2,000 steps opens within a second, the best of some times: the machine may have other work."""
+    rounds = "".join(f"claim,0,1\nwrite,0,{k},{k}\npublish,0,{k},{k}\npoll,a,1\ncomplete,a,{k + 1}\n" for k in range(400))
+    page = bench.run("show", bench.file("long.csv", f"ring,64,single\nwith,a\nstart\n{rounds}".encode())).out
+    best = min(told_by(bench, browser, page, TIMES) or MOST_MILLISECONDS for _ in range(5))
+    bench.judge(f"whether {best:.0f} milliseconds to open 2,000 steps are few", best < MOST_MILLISECONDS, True)
+
+
+def look(bench, files):
+    around = page_parts()
+    browser = next(filter(None, map(shutil.which, BROWSERS)), None)
+    with open(f"{TOP}/page/show.html", "rb") as file:
+        bench.judge("page/show.html", bench.run("show", EXAMPLE).out, file.read())
+    for name, text in chain(worked_files(), hostile_files()):
+        page = judge_file(bench, name, text, around)
+        if browser and page and len(text) < MOST_BYTES:
+            go_through(bench, browser, name, page, around)
+    for name, text in files_at_fault():
+        judge_file(bench, name, text, around)
+    output_cases(bench, around)
+    for k in range(files):
+        judge_file(bench, f"random file {k}", random_file("drive", f"show {k}"), around)
+    if browser:
+        open_long(bench, browser)
+    else:
+        print("not here, and left out: a browser")
+
+
+def main():
+    parser = argparse.ArgumentParser(usage=__doc__)
+    parser.add_argument("program", type=os.path.abspath)
+    parser.add_argument("--files", type=int, default=200)
+    given = parser.parse_args()
+    with tempfile.TemporaryDirectory(prefix="show-") as folder:
+        bench = Bench(given.program, folder)
+        look(bench, given.files)
+    print(f"pages: {bench.cases} tried, {bench.failed} failed")
+    return 1 if bench.failed else 0
+
+
+if __name__ == "__main__":
+    sys.exit(main())
