@@ -308,7 +308,7 @@ impl<R: Wait + Copy, E: Copy, I: InPlaceInlet<Event = E>> LiveSender<R, I> {
 }
 
 impl<R, E> LiveSender<R, several::Sender<E>> {
-    /// Halts the ring of a run with several senders: nobody's claims succeed any more. What is published still comes to
+    /// Halts the ring of a run with several senders: from then on no claim succeeds. What is published still comes to
     /// all handlers. It may be repeated.
     pub fn halt(&mut self)
         // It stores a halt, and nothing else.

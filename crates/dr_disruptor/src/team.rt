@@ -37,7 +37,7 @@ pub trait Team<E>: Drop {
         requires { fits list.items }
         ensures { listed result ≡ list.items };
 
-    /// Who goes through events stays of its type.
+    /// A handler that goes through events stays of its type.
     ghost stay: { (most : ℕ) (events : List E) (team : Self) (afters : List Self.One) → AllWentThrough Self.One.goes most events (listed team) afters → fits afters };
 
     /// Each goes as its type does.

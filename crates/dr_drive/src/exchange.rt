@@ -56,6 +56,7 @@ impl Exchange {
 
     /// What was said of its ring.
     pub fn ring(&self) -> Ring
+        // It has the core's size, mode and limit.
         ensures size { result.size ≡ (core_of self.now).setup.size }
         ensures mode { result.mode ≡ (core_of self.now).setup.mode }
         ensures limit { result.limit ≡ (core_of self.now).setup.limit }
@@ -72,7 +73,9 @@ impl Exchange {
 
     /// Executes a command. [`Exchange::handed`] has the events that come with the reply.
     pub fn execute(&mut self, command: Command<Event>) -> Reply
+        // The reply, the events that come with it and the state after it are the machine's, in whatever state the exchange is.
         ensures shown { (names : List Field) (c : Setup) (m : State Event) → ExchangeShows self.old names c m → Executes self.new names c (step c m command) result }
+        // There is room for as many events as the reply tells.
         ensures fits { count_in result ≤ length (batch_of self.new) }
     {
         self.core.execute(command, self.batch.as_mut_slice())

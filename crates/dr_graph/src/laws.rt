@@ -22,8 +22,8 @@ pub fn one_graph()
     ensures { (d : Declaration) → HasOneGraph d }
 {}
 
-/// The graph of a declaration is found by placing handlers one after another, each time the first declared one that is
-/// ready; where none is ready any more, there is a cycle.
+/// You find the graph of a declaration by placing the handlers one after another, each time the first declared one that is
+/// ready; if some are left and none is ready, there is a cycle.
 pub fn placed_graph()
     ensures { (d : Declaration) → FindsGraph d }
 {}

@@ -140,11 +140,11 @@ pub fn what_nobody_is_stuck_says<E>()
     ensures claims { (c : Setup) (m : State E) → NobodyIsStuck c m → (p n : ℕ) → p < producers c.mode → 0 < n → m.halted ≡ false → next m + n ≤ c.limit → next m + n ≤ c.size + front m → (reply_to c m (Claim p n) ≡ Claimed (next m) (next m + n - 1)) ⊎ ClaimAwaits c m n }
     // After a halt, with nothing left to publish, a handler is told `Drained`, or it goes on, or one that it waits for does.
     ensures drains { (c : Setup) (m : State E) → NobodyIsStuck c m → (h max : ℕ) → h < handlers c → m.retired h ≡ false → 0 < max → m.halted ≡ true → front m ≡ next m → (reply_to c m (Poll h max) ≡ Drained) ⊎ AwaitedGoesOn c m h }
-    // Who goes on is handed its next event, or completes all that it took, which is more than before.
+    // A handler that can go on is handed its next event, or completes all that it took, which is more than before.
     ensures goes_on { (c : Setup) (m : State E) (h : ℕ) → AwaitedGoesOn c m h → (up : ℕ) × (path : List ℕ) × IsPathUp c m h path up × (MayTake c m up ⊎ MayComplete c m up) }
     ensures takes { (c : Setup) (m : State E) (h : ℕ) → MayTake c m h → (end : Bool) × (reply_to c m (Poll h 1) ≡ Batch (slice_index m.taken h) 1 end) }
     ensures completes { (c : Setup) (m : State E) (h : ℕ) → MayComplete c m h → (slice_index m.completed h < slice_index m.taken h) × (reply_to c m (Complete h (slice_index m.taken h)) ≡ Completed) }
-    // Who waits took all that one of its upstreams completed, which is not retired, and completed all that it took.
+    // A handler that waits has completed all that it took, and took all that one of its upstreams, not retired, completed.
     ensures path_ends { (c : Setup) (m : State E) (from to : ℕ) → IsPathUp c m from [] to → from ≡ to }
     ensures path { (c : Setup) (m : State E) (from up to : ℕ) (ups : List ℕ) → IsPathUp c m from (up ∷ ups) to → WaitsFor c m from up × IsPathUp c m up ups to }
     ensures waits { (c : Setup) (m : State E) (h up : ℕ) → WaitsFor c m h up → Contains (upstreams_of c.upstreams h) up × (m.retired up ≡ false) × (slice_index m.completed up ≤ slice_index m.taken h) × (slice_index m.completed h ≡ slice_index m.taken h) }

@@ -138,7 +138,7 @@ impl<T> Sender<T> {
         Ok(())
     }
 
-    /// Closes the ring: it is halted, and no event will come any more, so that a receiver that took
+    /// Closes the ring: it is halted, and no further event will come, so that a receiver that took
     /// all of them is told `Drained`. It may be repeated.
     ///
     /// It is refused with `OpenClaim`, and changes nothing, while a claimed sequence is unpublished.

@@ -96,8 +96,8 @@ impl<T> Lends<T> for Brand {
 /// claim word, tell it as it was at one of the looks. A claim, a
 /// publication of a whole stretch and a poll that takes nothing by what the deciding look finds, a
 /// write of one's own sequence and a completion are answered as the machine then replies. A poll
-/// hands over at least what the picture had at any moment since its receiver last stepped. Whoever
-/// was told that the ring drained, was told so by a poll of the transcript. No handler's count
+/// hands over at least what the picture had at any moment since its receiver last stepped. An
+/// end that was told `Drained` was told so by a poll of the transcript. No handler's count
 /// falls, and no claim is taken back. Once a ring is halted, nothing more is claimed. It does
 /// nothing when it runs: the contract is the theorem.
 pub fn moments<T>()
@@ -123,7 +123,7 @@ pub fn moments<T>()
     ensures hands { (k : Shape T) (steps more : List (Step T)) (entries rest : Transcript T) (w u : World T) → IsShape k → Runs k steps entries (new_world k) w → Runs k more rest w u → HandsWhatWasThere k w u }
     // No handler's count falls, and no claim is taken back.
     ensures rises { (k : Shape T) (steps more : List (Step T)) (entries rest : Transcript T) (w u : World T) → IsShape k → Runs k steps entries (new_world k) w → Runs k more rest w u → NothingFalls k w u }
-    // Who was told that the ring drained was told so by a poll of the transcript.
+    // An end that was told `Drained` was told so by a poll of the transcript.
     ensures told { (k : Shape T) (steps : List (Step T)) (entries : Transcript T) (w : World T) → IsShape k → Runs k steps entries (new_world k) w → WereTold w entries }
     // Once the ring is halted, nothing more is claimed.
     ensures halted { (k : Shape T) (steps more : List (Step T)) (entries rest : Transcript T) (w u : World T) → IsShape k → Runs k steps entries (new_world k) w → Runs k more rest w u → is_halted (slice_index w.words claim_word) ≡ true → length u.stages ≡ length w.stages }

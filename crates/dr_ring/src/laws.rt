@@ -76,7 +76,7 @@ impl Names for Brand {
 
 /// Whatever steps fall in whatever order: between any two of them the rule holds, the entries of
 /// their events lead the machine to the ring's picture, in which nobody is stuck, and the
-/// transcript has the five laws. Who was told that the ring drained, was told so by a poll of the
+/// transcript has the five laws. An end that was told `Drained` was told so by a poll of the
 /// transcript. What an end answers by what it knows, and by what the deciding
 /// look finds, is what the machine then replies on the picture. A poll hands over at least what the
 /// picture had at any moment since its receiver last stepped. No handler's count falls, so what the
@@ -91,7 +91,7 @@ pub fn moments()
     ensures laws { (k : Shape) (steps : List Step) (entries : Transcript Event) (w : World) → IsGraph k.upstreams → 0 < k.size → Runs k steps entries (new_world k) w → Laws (ring_setup k) entries }
     // Nobody is stuck in the picture.
     ensures progress { (k : Shape) (steps : List Step) (entries : Transcript Event) (w : World) → IsGraph k.upstreams → 0 < k.size → Runs k steps entries (new_world k) w → NobodyIsStuck (ring_setup k) (picture_of k w) }
-    // Who was told that the ring drained was told so by a poll of the transcript.
+    // An end that was told `Drained` was told so by a poll of the transcript.
     ensures told { (k : Shape) (steps : List Step) (entries : Transcript Event) (w : World) → IsGraph k.upstreams → 0 < k.size → Runs k steps entries (new_world k) w → WereTold w entries }
     // What an end answers is what the machine then replies on the picture, at the look that decides.
     ensures replies { (k : Shape) (steps : List Step) (entries : Transcript Event) (w : World) → IsGraph k.upstreams → 0 < k.size → Runs k steps entries (new_world k) w → RepliesAsAnswered k w }

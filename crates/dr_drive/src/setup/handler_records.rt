@@ -23,7 +23,9 @@ pub struct Declaring {
 impl Declaring {
     /// No handler, and no group.
     pub fn new(alloc: Global) -> Declaring
+        // Nothing is declared, and there is no group to follow.
         ensures none { declared_of result ≡ no_handlers }
+        // Each declared name is one that a handler may have: there is none.
         ensures names { AreNames result.builder.names }
     {
         Declaring {

@@ -43,7 +43,9 @@ fn mode_of(row: &ByteRecord) -> Option<Mode>
 
 /// The ring of the first record.
 pub fn ring_of(row: &ByteRecord) -> Result<Ring, Cause>
+    // What the first record says of the ring, or the first fault of it in the stated order.
     ensures value { result ≡ ring_in (fields_of row.now) }
+    // A core can be opened for such a ring.
     ensures good { IfOk result IsRing }
 {
     if !is_named(row, b"ring".as_slice()) {
@@ -71,7 +73,9 @@ pub fn ring_of(row: &ByteRecord) -> Result<Ring, Cause>
 /// The ring with the limit of a `limit` record.
 pub fn limit_of(ring: Ring, row: &ByteRecord) -> Result<Ring, Cause>
     requires { IsRing ring }
+    // The ring with this limit, or why the record gives none.
     ensures value { result ≡ limit_in ring (fields_of row.now) }
+    // A core can be opened for such a ring.
     ensures good { IfOk result IsRing }
 {
     if count_of(row) != 2 {
