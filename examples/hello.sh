@@ -1,7 +1,7 @@
 #!/usr/bin/env bash
-# Starts a repository of your own: copies of the library's crates, with what is proved of them here, and the program of
-# crates/example_orders, or of another example, as its crate `hello`. It proves, builds and runs that, and compares what it
-# prints.
+# Starts a repository of your own: copies of the library's crates, with what is proved of them here, of tools/prove.py, and of
+# the program of crates/example_orders, or of another example, as its crate `hello`. It proves, builds and runs that, tells how
+# far it is, and compares what it prints.
 #
 #   examples/hello.sh [FOLDER [EXAMPLE]]      without FOLDER in a new folder, whose path is printed
 set -u
@@ -36,7 +36,7 @@ for crate in $(below "$example" | awk '!seen[$0]++'); do
     mkdir -p "$own/crates/$crate/out"
     cp -r "$top/crates/$crate/src" "$top/crates/$crate/specs" "$own/crates/$crate/" || exit 2
     [ -d "$top/crates/$crate/proofs" ] && cp -r "$top/crates/$crate/proofs" "$own/crates/$crate/"
-    # (what was proved here is not proved again)
+    # (what was proved here is not proved again: that is out/rlib, and the rest of out/ is for who changes the crate)
     [ -d "$top/crates/$crate/out/rlib" ] && cp -r "$top/crates/$crate/out/rlib" "$own/crates/$crate/out/"
     grep "^$crate:" "$top/crates.txt" >> "$own/crates.txt" || exit 2
 done
@@ -46,17 +46,15 @@ done
 sed -n "s/^$example:/hello:/p" "$top/crates.txt" >> "$own/crates.txt"
 # (its own files name it by its crate)
 grep -rl "$example" "$own/crates/hello" | xargs -r sed -i "s/\b$example\b/hello/g"
-cp "$top/HANDLES" "$own/"
+mkdir "$own/tools" && cp "$top/HANDLES" "$own/" && cp "$top/tools/prove.py" "$top/tools/together.py" "$own/tools/" || exit 2
+printf '%s\n' out/ __pycache__/ /hello.log > "$own/.gitignore"
 
 echo "proving and building $own/crates/hello; what rt says goes to $own/hello.log"
+"$own/tools/prove.py" --log "$own/hello.log" --try hello || exit 1
 cd "$own/crates/hello" || exit 2
-if ! rt run > "$own/printed" 2> "$own/hello.log"; then
-    echo "it failed; the end of $own/hello.log:"
-    tail -n 20 "$own/hello.log"
-    exit 1
-fi
-cat "$own/printed"
-if ! cmp -s "$own/printed" stdout; then
+printf '\n$ crates/hello/out/hello\n'
+out/hello | tee out/printed
+if ! cmp -s out/printed stdout; then
     echo "FAILED: it was to print what stands in $own/crates/hello/stdout"
     exit 1
 fi

@@ -1,15 +1,31 @@
 #!/usr/bin/env python3
 """Looks whether the sources keep those house rules of docs/CONTRIBUTING.md that can be counted: how long functions, files and lines
-are, how many loops a function has, and how many answers in a row a proof leaves out."""
+are, how many loops a function has, and how many answers in a row a proof leaves out. Of each page that people read it counts the
+words, and those of its sentences. The glossary may explain a term only once, and none that nobody uses."""
 
 import os
 import re
 import sys
+from itertools import chain
 
 TOP = os.path.dirname(os.path.dirname(os.path.abspath(__file__)))
 FUNCTION = re.compile(r"( *)(?:pub(?:\([\w: ]+\))? )?(?:const |unsafe |extern \"C\" )*fn (\w+)")
 LOOP = re.compile(r"^ *(?:[^/]*(?:=|=>) )?(?:'\w+: )?(?:(?:for|while) .*|loop \{$)")
 LINES_OF_A_FUNCTION, LINES_OF_A_FILE, LETTERS, ONE_LONG_IN, UNDERSCORES = 39, 499, 160, 25, 7
+
+# The most words of each page, as `wc -w` counts them, without what a script writes.
+WORDS = {
+    "README.md": 1200, "docs/GUIDE.md": 3000, "docs/CALLING.md": 1900, "docs/FORMATS.md": 1900, "docs/LMAX.md": 900,
+    "docs/OTHER_LANGUAGES.md": 1200, "docs/GLOSSARY.md": 800, "docs/MEANING.md": 3200, "docs/PROVED.md": 1700,
+    "docs/ARCHITECTURE.md": 1600, "docs/DECISIONS.md": 1800, "docs/CONTRIBUTING.md": 1200, "docs/BENCHMARKS.md": 1900,
+    "tests/README.md": 1100,
+}
+WORDS_IN_ALL, WORDS_OF_A_SENTENCE = 24_000, 40
+WRITTEN = ("docs/CLAUSES.md",)
+FIGURES = re.compile(r"^<!-- figures.*?^<!-- end -->$", re.M | re.S)
+# What is no prose: code, tables, headings and quotations. Code within a sentence is one word.
+NO_PROSE = re.compile(r"^```.*?^```$|^(?:[|#>]| {4}\S)[^\n]*$", re.M | re.S)
+TERM = re.compile(r"\*\*(.+?)\*\*")
 
 
 def functions(lines):
@@ -63,9 +79,46 @@ def faults(top, looked):
                 yield f"{path}: {count} lines"
 
 
+def sentences(text):
+    """Returns the sentences of a page. An item of a list ends one."""
+    prose = re.sub(r"`[^`]+`", "code", NO_PROSE.sub("", text))
+    prose = re.sub(r"!?\[([^]]*)\]\([^)]*\)", r"\1", prose)
+    parts = re.split(r"\n\s*\n|\n(?=\s*(?:-|\d+\.) )", prose)
+    return [it for part in parts for it in re.split(r"(?<=[.!?])[)*\"]*\s+", part.strip())]
+
+
+def faults_of_pages(top):
+    counted = 0
+    for page, most in WORDS.items():
+        text = FIGURES.sub("", open(f"{top}/{page}", encoding="utf-8").read())
+        counted += (many := len(text.split()))
+        if many > most:
+            yield f"{page}: {many} words, and {most} are planned"
+        for it in sentences(text):
+            if (many := len(it.split())) > WORDS_OF_A_SENTENCE:
+                yield f"{page}: a sentence of {many} words: {it[:60]} .."
+    if counted > WORDS_IN_ALL:
+        yield f"the pages have {counted} words, and {WORDS_IN_ALL} are planned"
+    unplanned = {f"docs/{it}" for it in os.listdir(f"{top}/docs") if it.endswith(".md")} - {*WORDS, *WRITTEN}
+    yield from (f"{it}: no plan says how many words it may have" for it in sorted(unplanned))
+
+
+def faults_of_terms(top):
+    """A term of the glossary is explained once, and stands on another page or in a source."""
+    page = "docs/GLOSSARY.md"
+    terms = [it.strip("`") for it in TERM.findall(open(f"{top}/{page}", encoding="utf-8").read())]
+    others = [f"{top}/{it}" for it in WORDS if it != page]
+    for it in sorted(set(terms)):
+        word = re.compile(rf"\b{re.escape(it)}\b", re.I)
+        if terms.count(it) > 1:
+            yield f"{page}: {it} is explained more than once"
+        if not any(word.search(open(at, encoding="utf-8").read()) for at in chain(others, files(f"{top}/crates", (".rt", ".antt")))):
+            yield f"{page}: nothing else says {it}"
+
+
 def main():
     looked = []
-    found = list(faults(TOP, looked))
+    found = [*faults(TOP, looked), *faults_of_pages(TOP), *faults_of_terms(TOP)]
     for it in found:
         print(it.removeprefix(f"{TOP}/"))
     print(f"house rules: {len(looked)} files of crates, {len(found)} faults")
