@@ -1,5 +1,5 @@
 -- What a record does to a run, and what is put of it.
-use Rattle.std.proofs.Common.{◌≡◌, ℕ, Bool, false, List, ◌++◌, Some, None, Result, Ok, Err, refl, sym, ap, subst, ◌∙◌, append-nil, arith, length, take, codes}
+use Rattle.std.proofs.Common.{◌≡◌, ℕ, Bool, false, List, ◌++◌, Some, None, Result, Ok, Err, refl, sym, ap, subst, ◌∙◌, arith, length, take, codes}
 use Rattle.std.specs.Prelude.{if◌then◌else◌}
 use Rattle.dr_seq.specs.declared.event.Event.{Event}
 use Rattle.dr_meaning.specs.declared.command.Command.{Command}
@@ -99,11 +99,6 @@ state_put : (e : Exchange) (slots : List Sequence) (names : List Field) (c : Set
     → length slots ≡ (core_of e).setup.size
     → Remembers slots m → state_seen (core_of e) slots ≡ state_text c m
 state_put e slots names c m shown size remembers = sym (state_same (core_of e) m shown.shows slots size remembers) ∙ ap (λ (k : Setup). state_text k m) shown.setup_is
-
--- the object of a record of the setup
-pub setup_put : (w : Window) (k : ℕ) (row : Record) (did : Taken) (stage : _) (old new : List ℕ) → did ≡ record { phase = Preparing stage; line = None }
-    → new ≡ old ++ (record_text k row ++ codes "},\n") → new ≡ (if shows w k did then old ++ object_of k row did else old)
-setup_put w k row did stage old new is put = rw is (put ∙ ap (λ t. old ++ (t ++ codes "},\n")) (sym (append-nil (record_text k row))))
 
 -- the object of the record that opens an exchange
 pub start_put : (w : Window) (k : ℕ) (row : Record) (e : Exchange) (slots : List Sequence) (names : List Field) (c : Setup) (old new : List ℕ)

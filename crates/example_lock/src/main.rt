@@ -25,7 +25,8 @@ fn script(p: u64) -> [Event; 10] {
     }; 10]
 }
 
-/// An end for each worker, and one that halts.
+/// An end for each worker, and one that halts. `L` is a ledger: in proofs alone, it counts the calls through all ends. Code is over
+/// any, and a proof has to name one, here `Brand`, with a `Blank` of 65 parts: one for each of up to 64 ends, and one for the lock.
 #[derive(Drop)]
 struct Ends<L: Ledger> {
     first: End<Event, L>,
