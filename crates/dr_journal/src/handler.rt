@@ -56,7 +56,9 @@ impl<D: Device> Journaling<D> {
     /// Its journal, which is at rest unless the handler has failed: then [`InPlaceHandler::goes`] says
     /// how it is, at rest too where memory or room was short. What [waits](Journaling::waiting) is dropped.
     pub fn into_journal(self) -> Journal<D>
+        // It is the handler's journal, as it is.
         ensures value { result ≡ (writer_of self).journal }
+        // It is at rest, if the handler has not failed.
         ensures at_rest { (writer_of self).fault ≡ None → IsAtRest D.seen D.may_leave result }
     {
         self.journal

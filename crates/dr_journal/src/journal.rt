@@ -47,6 +47,7 @@ impl<D: Device> Journal<D> {
     /// `Failed` whether the batch is there only an opening tells.
     pub fn append(&mut self, alloc: Global, batch: &[Vec<u8>]) -> Result<(), JournalFault>
         requires { IsAtRest D.seen D.may_leave self.old }
+        // At `Ok` the journal is at rest: its file is the header, whole batches and zeros, and all of it is on the disk.
         ensures at_rest { OnOk result (IsAtRest D.seen D.may_leave self.new) }
         // The file stands for what it stood for and then the batch.
         ensures acknowledged { OnOk result (records_of D.seen self.new ≡ records_of D.seen self.old ++ bytes_of batch.now) }
@@ -73,7 +74,9 @@ impl<D: Device> Journal<D> {
         batches: &[Vec<Vec<u8>>],
     ) -> Result<(), JournalFault>
         requires { IsAtRest D.seen D.may_leave self.old }
+        // At `Ok` the journal is at rest.
         ensures at_rest { OnOk result (IsAtRest D.seen D.may_leave self.new) }
+        // At `Ok` the file stands for what it stood for and then all the batches, in order.
         ensures acknowledged { OnOk result (records_of D.seen self.new ≡ records_of D.seen self.old ++ first_of batches.now (length batches.now)) }
         // A crash at any moment leaves the records from before, and those of some first batches: none is skipped, and none is there in part.
         ensures any_moment { CrashLeaves D.moment D.left_since self.old self.new (HasBeginning (records_of D.seen self.old) batches.now) }

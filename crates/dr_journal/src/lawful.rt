@@ -9,8 +9,11 @@ use crate::Device;
 /// A batch that is written behind others is read as it was, and one that breaks off at a byte that is
 /// not written yet stands for nothing, whatever comes behind it.
 pub fn batches_come_back()
+    // A batch by itself is read as it was.
     ensures alone { (batch : List (List ℕ)) → records_in (frame batch) ≡ batch }
+    // A batch behind the whole batches of any bytes is read as it was, and so are the records before it.
     ensures behind { (bytes : List ℕ) (batch : List (List ℕ)) → records_in (whole_batches bytes ++ frame batch) ≡ records_in bytes ++ batch }
+    // A batch by itself that breaks off at a byte 0 before its end stands for no record, whatever bytes come behind.
     ensures broken { (batch : List (List ℕ)) (at : ℕ) (rest : List ℕ) → at < length (frame batch) → records_in (take at (frame batch) ++ 0 ∷ rest) ≡ [] }
 {}
 

@@ -107,7 +107,9 @@ impl Opening {
     /// Makes the journal of a file that was read to its end; one that was not is `Failed`. What an
     /// earlier process wrote last, and its sync perhaps failed, is written back and synced before.
     pub fn finish(self) -> Result<Journal<FileDevice>, OpenFault>
+        // At `Ok` the journal is at rest.
         ensures at_rest { IfOk result (λ j. IsAtRest file_seen file_left j) }
+        // The journal stands for the records of the bytes that were read.
         ensures same { IfOk result (λ j. records_of file_seen j ≡ recovered (read_so_far self)) }
         // Since it was written back, a crash left the same records.
         ensures any_moment { IfOk result (λ j. (c : List ℕ) → file_left_since (device_of j) 0 c → recovered c ≡ recovered (read_so_far self)) }
@@ -152,7 +154,9 @@ impl Opening {
 /// journal lives, nobody else can open the file as one.
 #[tactic(auto, using(crate::proofs::Openings::adds_all))]
 pub fn open(rt: &HostRuntime, path: &str) -> Result<(Journal<FileDevice>, Vec<Vec<u8>>), OpenFault>
+    // At `Ok` the journal is at rest.
     ensures at_rest { IfOk result (λ r. IsAtRest ⟦<FileDevice as Device>⟧.seen ⟦<FileDevice as Device>⟧.may_leave r.0) }
+    // The records that it gives are those that the journal stands for, in order.
     ensures records { IfOk result (λ r. bytes_of r.1.items ≡ records_of ⟦<FileDevice as Device>⟧.seen r.0) }
     // Since the file was read, a crash left the same records.
     ensures any_moment { IfOk result (λ r. (c : List ℕ) → ⟦<FileDevice as Device>⟧.left_since (device_of r.0) 0 c → recovered c ≡ records_of ⟦<FileDevice as Device>⟧.seen r.0) }

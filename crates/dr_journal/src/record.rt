@@ -24,7 +24,9 @@ pub trait AsRecord {
 
     /// Appends the event's record. What is written comes back as it was.
     fn push_record(&self, out: &mut Vec<u8>) -> Result<(), AllocError>
+        // At `Ok` the event's record stands behind the bytes that were there.
         ensures written { OnOk result (out.new.items ≡ out.old.items ++ record_of (value self.now)) }
+        // At `Ok` that record is read back as what the event says.
         ensures comes_back { OnOk result (value_in (record_of (value self.now)) ≡ Some (value self.now)) };
 
     /// The event of a record, or none where these bytes are no event's.
@@ -64,7 +66,9 @@ pub fn read_events<E: AsRecord + Drop>(
     alloc: Global,
     records: &[Vec<u8>],
 ) -> Result<Vec<E>, RecordFault>
+    // At `Ok` there is an event for each record, in order, which says what that record says.
     ensures events { IfOk result (λ events. AreValues E.value_in (bytes_of records.now) (map E.value events.items)) }
+    // `BadRecord` tells the place, counted from 0, of the first record that is no event's.
     ensures bad { IfErr result (λ fault. (n : ℕ) → fault ≡ BadRecord n → IsFirstBad E.value_in (bytes_of records.now) n) }
 {
     let mut events = Vec::new(alloc);

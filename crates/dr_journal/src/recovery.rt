@@ -32,7 +32,9 @@ impl Recovery {
 
     /// A reader of a file of which no byte came yet.
     pub fn new(alloc: Global) -> Recovery
+        // It has read nothing of the file yet.
         ensures read { HasRead result [] }
+        // Its count of bytes read is 0.
         ensures count { count_of result ≡ 0 }
     {
         Recovery {
@@ -114,7 +116,9 @@ impl Recovery {
         requires read { HasRead self (D.seen device) }
         requires small { length (D.seen device) < 2 ^ 63 }
         requires durable { Only (D.seen device) (D.may_leave device) }
+        // At `Ok` the journal is at rest.
         ensures at_rest { IfOk result (λ j. IsAtRest D.seen D.may_leave j) }
+        // The journal stands for the same records as the file did.
         ensures same { IfOk result (λ j. records_of D.seen j ≡ recovered (D.seen device)) }
         // A crash at any moment leaves the same records.
         ensures any_moment { IfOk result (λ j. LeavesOnly D.moment D.left_since device (device_of j) (StandsForTheSame (D.seen device))) }
@@ -147,6 +151,7 @@ pub fn recover<D: Device>(
     requires bytes { bytes.now ≡ D.seen device }
     requires small { length bytes.now < 2 ^ 63 }
     requires durable { Only (D.seen device) (D.may_leave device) }
+    // At `Ok` the journal is at rest.
     ensures at_rest { IfOk result (λ r. IsAtRest D.seen D.may_leave r.0) }
     // The journal stands for what the file stood for, and these are its records, in order.
     ensures same { IfOk result (λ r. records_of D.seen r.0 ≡ recovered (D.seen device)) }

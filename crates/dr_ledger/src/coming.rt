@@ -94,7 +94,9 @@ impl Coming {
 
     /// Opens and locks the file of this path, and reads its header. A file that is missing is made.
     pub fn open(rt: &HostRuntime, role: Role, path: &str) -> Result<Coming, StartFault>
+        // Nothing of it was taken or written, and the operations that wait are those that its records so far say.
         ensures fresh { IfOk result (λ coming. IsFresh coming) }
+        // It has the role that it was opened for.
         ensures role { IfOk result (λ coming. role_of coming ≡ role) }
         // It is told which file is not opened.
         ensures told { IfErr result (λ fault. IsOfFile fault role) }

@@ -60,9 +60,13 @@ impl<D: Device> Ledger<D> {
         replica: Option<Journal<D>>,
         responder: Responder,
     ) -> Ledger<D>
+        // Where the handler has booked what the journal and any replica have on the disk, and no answer waits, the ledger stands for these operations.
         ensures work { (events : List Event) → Holds D.seen D.may_leave journal events → Copies D.seen D.may_leave replica events → HasBooked responder events → IsAtWork D.seen D.may_leave result events }
+        // Where the journal and any replica have the same operations, all on the disk, both are at rest in the ledger.
         ensures at_rest { (events : List Event) → Holds D.seen D.may_leave journal events → Copies D.seen D.may_leave replica events → AreAtRest D.seen D.may_leave result }
+        // Its journal is the one given.
         ensures journal { journal_of result ≡ journal }
+        // Its replica is the one given, or none if none was.
         ensures replica { replica_of result ≡ replica }
     {
         Ledger {
