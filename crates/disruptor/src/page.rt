@@ -49,13 +49,14 @@ pub(crate) const BEFORE: &str = "\
   #said b { font: 600 15px/1.4 ui-monospace, monospace; overflow-wrap: anywhere; }
   #said p { margin: 2px 0 0; overflow-wrap: anywhere; }
   code { font: 13px/1 ui-monospace, monospace; padding: 0 3px; border: 1px solid var(--line); border-radius: 4px; }
+  .name code { padding: 0; border: 0; }
   #graph { overflow-x: auto; }
   #both { display: grid; grid-template-columns: repeat(auto-fit, minmax(min(100%, 330px), 1fr)); gap: 12px; align-items: start; }
   #both > div { display: grid; gap: 12px; min-width: 0; }
   svg { display: block; width: 100%; height: auto; }
   svg text { fill: var(--ink); }
   table { border-collapse: collapse; width: 100%; }
-  th, td { padding: 3px 14px 3px 0; text-align: left; vertical-align: top; border-top: 1px solid var(--line); }
+  th, td { padding: 3px 12px 3px 0; text-align: left; vertical-align: top; border-top: 1px solid var(--line); }
   tr > :last-child { padding-right: 0; }
   tr:first-child > * { border-top: 0; }
   th { font-weight: 500; color: var(--soft); }
@@ -70,6 +71,7 @@ pub(crate) const BEFORE: &str = "\
     #file { position: static; max-height: 34vh; border-right: 0; border-bottom: 1px solid var(--line); }
     main { padding: 10px; }
     #lines button { grid-template-columns: 3.4em minmax(0, 1fr); gap: 0 8px; }
+    #lines li { contain-intrinsic-size: auto 42px; }
     #lines span:last-child { grid-column: 2; }
     #lines span:last-child:not(:empty)::before { content: \"\\2192  \" / \"\"; }
   }
@@ -172,14 +174,20 @@ function whyBehind(r) {
 }
 // What handlers may take now.
 const next = (h) => span(h.taken, h.taken + h.ready - 1);
-function whoMayTake(r) {
+function whoMayTake(r, isMeant = () => true) {
   const groups = new Map();
-  r.handlers.forEach((h, k) => { if (h.poll === \"batch\") groups.set(next(h), [...(groups.get(next(h)) ?? []), k]); });
+  r.handlers.forEach((h, k) => { if (h.poll === \"batch\" && isMeant(k)) groups.set(next(h), [...(groups.get(next(h)) ?? []), k]); });
   return [...groups].map(([what, all]) => `${begin(those(all))} may take ${what} now.`).join(\" \");
 }
 function whyNoRoom(r) {
   if (r.halted) return \"The exchange is halted.\";
   return `${begin(those(holders(r)))} completed ${floor(r)} of ${r.next} claimed events, and the ring has ${count(exchange.size, \"slot\")}: ${r.room ? `a claim may have at most ${r.room} now` : \"none is free\"}.`;
+}
+// What those may take now that follow a handler, or why they wait.
+function followers(r, h) {
+  const follows = (k) => exchange.handlers[k].upstreams.includes(h);
+  const waiting = r.handlers.map((it, k) => (it.poll === \"gating\" && follows(k) ? whyWaits(r, k) : \"\"));
+  return [whoMayTake(r, follows), ...new Set(waiting)].filter(Boolean).join(\" \");
 }
 const SETUP = {
   ring: \"The ring: slots that are made once and used again.\", limit: \"How many sequences may be claimed in all.\", with: \"Handlers that wait for no other handler.\",
@@ -215,7 +223,7 @@ function explain(r) {
     gating: () => `There is more for ${those([h])}, but not yet. ${whyWaits(r, h)}`,
     idle: () => \"Nothing new is there.\",
     drained: () => `The exchange is halted, and ${those([h])} took all there will ever be.`,
-    completed: () => `${r.handlers[h].gates ? (floor(r) ? `The slots of the events below ${floor(r)} are free again.` : \"\") : \"Who follows it may take them.\"}`,
+    completed: () => `${r.handlers[h].gates ? (floor(r) ? `The slots of the events below ${floor(r)} are free again.` : \"\") : followers(r, h)}`,
     halting: () => \"No claim succeeds from now on. What is claimed may still be published, and is still handed out.\",
     retired: () => `${begin(those([h]))} takes no more events, and no claim waits for it.`,
     refused: () => `${reply[1] === \"1\" ? `No room. ${whyNoRoom(r)}` : REFUSED[reply[1]] ?? \"\"} Nothing has changed.`,
@@ -257,7 +265,7 @@ function tellRing(r) {
   return `A ring of ${count(exchange.size, \"slot\")}. ${said.length ? `${said.join(\"; \")}${more}.` : \"Nothing is claimed.\"} Next to be claimed: ${r.next}. ${published(r).join(\" \")}.`;
 }
 function drawRing(r) {
-  const size = exchange.size, many = r.handlers.length, lane = Math.min(16, 112 / many), R = 150, W = 58, C = R + 24 + many * lane;
+  const size = exchange.size, many = r.handlers.length, lane = Math.min(16, 72 / many), R = 150, W = 58, C = R + 24 + many * lane;
   // How much of the picture is a pixel, so that no label is small on a narrow screen.
   const px = Math.max(1, (2 * C) / Math.max(1, $(\"ring\").clientWidth - 24));
   const turn = (n) => (((n % size) / size) * 2 - 0.5) * Math.PI, one = (2 * Math.PI) / size;
@@ -288,8 +296,9 @@ function drawRing(r) {
       const a = turn(k), gap = Math.min(0.02, one / 8), mid = a + one / 2, now = s >= touched[0] && s <= touched[1];
       out += band(a + gap, a + one - gap, R - W, R, `fill=\"${fill(way)}\" stroke=\"var(--ink)\" stroke-width=\"${now ? 3 : 0.6}\"`);
       if (it && size <= 16) {
-        const value = told.get(s), lines = [`#${s} ${LETTER[way]}`, exchange.producers > 1 ? `by ${it.producer}` : \"\", value?.length > 7 ? `${value.slice(0, 6)}\\u2026` : value].filter(Boolean);
-        while (lines.length > 1 && lines.length * 13 * px > Math.min(W, one * (R - W / 2))) lines.splice(1, 1);
+        const room = Math.min(W, one * (R - W / 2)), letters = Math.floor(room / (7.6 * px)), label = `#${s} ${LETTER[way]}`, value = told.get(s);
+        const lines = [label.length > letters ? `#${s}` : label, exchange.producers > 1 ? `by ${it.producer}` : \"\", value?.length > letters ? `${value.slice(0, letters - 1)}\\u2026` : value].filter(Boolean);
+        while (lines.length > 1 && lines.length * 13 * px > room) lines.splice(1, 1);
         lines.forEach((line, i) => { out += text(mid, R - W / 2, 12, line, way, i > 0 && line === lines.at(-1) && value !== undefined, (i - (lines.length - 1) / 2) * 13.5); });
       } else if (it) out += text(mid, R - W / 2, 12, LETTER[way], way);
     }
@@ -324,7 +333,7 @@ function drawGraph(r) {
   all.forEach((it, h) => (level[h] = Math.max(0, ...it.upstreams.map((u) => 1 + level[u]))));
   const columns = [];
   all.forEach((_, h) => (columns[level[h]] ??= []).push(h));
-  const tall = Math.max(...columns.map((it) => it.length)) * 38 + 6, wide = 112, gap = 28, left = 70, place = [];
+  const tall = Math.max(...columns.map((it) => it.length)) * 38 + 6, wide = 108, gap = 24, left = 70, place = [];
   columns.forEach((it, i) => it.forEach((h, j) => (place[h] = [left + gap + i * (wide + gap), (tall - it.length * 38) / 2 + j * 38 + 5])));
   const arrow = (x0, y0, x1, y1) => `<path d=\"M${x0} ${y0}C${x0 + 20} ${y0} ${x1 - 24} ${y1} ${x1 - 5} ${y1}\" fill=\"none\" stroke=\"var(--soft)\"/>
     <path d=\"M${x1 - 7} ${y1 - 4}L${x1} ${y1}L${x1 - 7} ${y1 + 4}Z\" fill=\"var(--soft)\"/>`;
@@ -350,7 +359,7 @@ function drawGraph(r) {
 function drawTables(r) {
   const finals = r.handlers.filter((h) => h.gates).length;
   const rows = r.handlers.map((h, k) => {
-    const asked = h.poll === \"batch\" ? `batch: ${next(h)}` : POLL[h.poll];
+    const asked = h.poll === \"batch\" ? `batch: ${next(h).replaceAll(\" \", \"&nbsp;\")}` : POLL[h.poll];
     const waits = h.poll === \"gating\" ? `<tr><td class=\"soft\" colspan=\"5\">${whyWaits(r, k)}</td></tr>` : \"\";
     return `<tr><td class=\"name\"><svg viewBox=\"0 0 10 10\" width=\"10\" height=\"10\" style=\"display:inline-block;width:10px\" aria-hidden=\"true\">
       <circle cx=\"5\" cy=\"5\" r=\"5\" fill=\"${COLORS[k % COLORS.length]}\"/></svg> ${k + 1} ${code(name(k))}</td><td class=\"n\">${h.taken}</td><td class=\"n\">${h.completed}</td>
@@ -363,12 +372,17 @@ function drawTables(r) {
     it.slice(0, 8).map((s) => `${span(s.lo, s.hi)} (${s.stage})`).join(\", \") || \"nothing\"}${it.length > 8 ? \", \\u2026\" : \"\"}</td></tr>`).join(\"\");
 }
 
+// Scrolls the list to a record; lines get their heights as they are seen.
+function reveal(line) {
+  const box = $(\"file\"), at = line.getBoundingClientRect(), all = box.getBoundingClientRect();
+  if (at.top < all.top || at.bottom > all.bottom) box.scrollTop += at.top - all.top - box.clientHeight / 2;
+}
 function show(to, keeps) {
   step = Math.max(0, Math.min(to, records.length - 1));
   const r = records[step], before = $(\"lines\").querySelector(\"[aria-current]\"), line = $(\"lines\").children[step]?.firstChild;
   before?.removeAttribute(\"aria-current\");
   line?.setAttribute(\"aria-current\", \"step\");
-  if (line) { const box = $(\"file\"), at = line.parentNode.offsetTop - box.offsetTop; if (at < box.scrollTop || at > box.scrollTop + box.clientHeight - 40) box.scrollTop = at - box.clientHeight / 2; }
+  if (line) { reveal(line.parentNode); requestAnimationFrame(() => reveal(line.parentNode)); }
   $(\"at\").value = step;
   $(\"at\").setAttribute(\"aria-valuetext\", `record ${r.record}`);
   $(\"where\").textContent = `record ${r.record} of ${end.last}`;
