@@ -47,13 +47,17 @@ pub(crate) const BEFORE: &str = "\
   main { padding: 12px 16px; display: grid; gap: 12px; min-width: 0; }
   .card { background: var(--paper); border: 1px solid var(--line); border-radius: 8px; padding: 8px 12px; min-width: 0; overflow-x: auto; }
   #said b { font: 600 15px/1.4 ui-monospace, monospace; overflow-wrap: anywhere; }
-  #said p { margin: 2px 0 0; }
+  #said p { margin: 2px 0 0; overflow-wrap: anywhere; }
+  code { font: 13px/1 ui-monospace, monospace; padding: 0 3px; border: 1px solid var(--line); border-radius: 4px; }
+  .name code { padding: 0; border: 0; }
+  #graph { overflow-x: auto; }
   #both { display: grid; grid-template-columns: repeat(auto-fit, minmax(min(100%, 330px), 1fr)); gap: 12px; align-items: start; }
   #both > div { display: grid; gap: 12px; min-width: 0; }
   svg { display: block; width: 100%; height: auto; }
   svg text { fill: var(--ink); }
   table { border-collapse: collapse; width: 100%; }
-  th, td { padding: 3px 6px 3px 0; text-align: left; vertical-align: top; border-top: 1px solid var(--line); }
+  th, td { padding: 3px 12px 3px 0; text-align: left; vertical-align: top; border-top: 1px solid var(--line); }
+  tr > :last-child { padding-right: 0; }
   tr:first-child > * { border-top: 0; }
   th { font-weight: 500; color: var(--soft); }
   td.n, th.n { text-align: right; }
@@ -66,6 +70,10 @@ pub(crate) const BEFORE: &str = "\
     #body { display: block; }
     #file { position: static; max-height: 34vh; border-right: 0; border-bottom: 1px solid var(--line); }
     main { padding: 10px; }
+    #lines button { grid-template-columns: 3.4em minmax(0, 1fr); gap: 0 8px; }
+    #lines li { contain-intrinsic-size: auto 42px; }
+    #lines span:last-child { grid-column: 2; }
+    #lines span:last-child:not(:empty)::before { content: \"\\2192  \" / \"\"; }
   }
 </style>
 </head>
@@ -84,14 +92,15 @@ pub(crate) const BEFORE: &str = "\
 <div id=\"body\">
 <section id=\"file\" aria-label=\"The file's records, with their replies\"><p id=\"part\" class=\"soft\" hidden></p><ol id=\"lines\"></ol></section>
 <main>
-  <section class=\"card\" id=\"said\" aria-live=\"polite\"><b id=\"head\"></b><p id=\"why\"></p></section>
+  <section class=\"card\" id=\"said\" aria-live=\"polite\"><b id=\"head\"></b><p id=\"asks\" class=\"soft\"></p><p id=\"why\"></p></section>
   <div id=\"both\">
     <div>
       <figure class=\"card\" id=\"ring\" style=\"margin: 0\"></figure>
       <section class=\"card row\" id=\"key\" aria-label=\"Key\"></section>
     </div>
     <div>
-      <section class=\"card\"><h2>Handlers</h2><div id=\"graph\"></div><table id=\"handlers\"></table></section>
+      <section class=\"card\"><h2>Handlers</h2><div id=\"graph\" tabindex=\"0\" role=\"group\" aria-label=\"Who follows whom\"></div><table id=\"handlers\"></table>
+        <p class=\"soft\" style=\"margin: 4px 0 0\">A slot is free again once each handler that frees slots (thick frame) has completed its event.</p></section>
       <section class=\"card\"><h2>Claims</h2><p id=\"room\" style=\"margin: 0 0 4px\"></p><table id=\"producers\"></table></section>
     </div>
   </div>
@@ -134,6 +143,9 @@ const list = (words) => (words.length < 2 ? words.join(\"\") : `${words.slice(0,
 const span = (lo, hi) => (lo === hi ? `${lo}` : hi === lo + 1 ? `${lo} and ${hi}` : `${lo} to ${hi}`);
 const several = (lo, hi) => (lo === hi ? \"sequence\" : \"sequences\");
 const name = (h) => exchange.handlers[h].name;
+const code = (text) => `<code>${esc(text)}</code>`;
+const those = (all) => `${all.length === 1 ? \"handler\" : \"handlers\"} ${list(all.map((h) => code(name(h))))}`;
+const begin = (text) => text.slice(0, 1).toUpperCase() + text.slice(1);
 
 // The stretches of the last round, each with its last sequence, and the event of a sequence.
 function stretches(r) {
@@ -145,27 +157,57 @@ function events(r) {
 const stretchOf = (all, s) => all.find((it) => it.lo <= s && s <= it.hi);
 // The least count that holders completed: what is below it is free again.
 const floor = (r) => r.handlers.find((h) => h.holds)?.completed ?? 0;
-const holders = (r) => r.handlers.map((h, k) => (h.holds ? name(k) : \"\")).filter(Boolean);
+const holders = (r) => r.handlers.flatMap((h, k) => (h.holds ? [k] : []));
 
 function whyWaits(r, h) {
   const it = r.handlers[h], ups = exchange.handlers[h].upstreams, slow = ups.filter((u) => r.handlers[u].completed <= it.taken);
   const done = slow.map((u) => String(r.handlers[u].completed)), alike = new Set(done).size === 1;
-  if (slow.length) return `${name(h)} follows ${list(slow.map(name))}, which completed only ${alike ? done[0] : list(done)} of the events.`;
-  const gap = stretchOf(stretches(r), r.front);
+  if (slow.length) return `${begin(those([h]))} follows ${those(slow)}, which completed only ${alike ? done[0] : list(done)} of the events.`;
+  return whyBehind(r);
+}
+function whyBehind(r) {
+  const all = stretches(r), gap = stretchOf(all, r.front), later = all.filter((s) => s.stage === \"published\" && s.lo > r.front);
   if (!gap) return \"\";
-  const later = stretches(r).filter((s) => s.stage === \"published\" && s.lo > r.front);
   const behind = later.length ? ` So ${list(later.slice(0, 3).map((s) => span(s.lo, s.hi)))}, though published, must wait: events are handed out in order.` : \"\";
-  return `Producer ${gap.producer} claimed sequence ${r.front}, and has not ${gap.stage === \"written\" ? \"published it, though it is written\" : \"written it\"} yet.${behind}`;
+  const [done, lacks] = gap.stage === \"written\" ? [\"written\", \"published\"] : [\"claimed\", \"written\"];
+  return `Producer ${gap.producer} has ${done} sequence ${r.front} and not yet ${lacks} it.${behind}`;
+}
+// What handlers may take now.
+const next = (h) => span(h.taken, h.taken + h.ready - 1);
+function whoMayTake(r, isMeant = () => true) {
+  const groups = new Map();
+  r.handlers.forEach((h, k) => { if (h.poll === \"batch\" && isMeant(k)) groups.set(next(h), [...(groups.get(next(h)) ?? []), k]); });
+  return [...groups].map(([what, all]) => `${begin(those(all))} may take ${what} now.`).join(\" \");
 }
 function whyNoRoom(r) {
   if (r.halted) return \"The exchange is halted.\";
-  const who = holders(r);
-  return `${list(who)} completed ${floor(r)} of ${r.next} claimed events, and the ring has ${count(exchange.size, \"slot\")}: ${r.room ? `a claim may have at most ${r.room}` : \"none is free\"}.`;
+  return `${begin(those(holders(r)))} completed ${floor(r)} of ${r.next} claimed events, and the ring has ${count(exchange.size, \"slot\")}: ${r.room ? `a claim may have at most ${r.room} now` : \"none is free\"}.`;
+}
+// What those may take now that follow a handler, or why they wait.
+function followers(r, h) {
+  const follows = (k) => exchange.handlers[k].upstreams.includes(h);
+  const waiting = r.handlers.map((it, k) => (it.poll === \"gating\" && follows(k) ? whyWaits(r, k) : \"\"));
+  return [whoMayTake(r, follows), ...new Set(waiting)].filter(Boolean).join(\" \");
 }
 const SETUP = {
   ring: \"The ring: slots that are made once and used again.\", limit: \"How many sequences may be claimed in all.\", with: \"Handlers that wait for no other handler.\",
   then: \"Handlers that follow each one of the group before.\", after: \"The handlers that the next ones follow.\", edge: \"The second handler follows the first one.\",
 };
+// What the fields of a command mean.
+function asks(r) {
+  const [word, ...f] = r.text.split(\",\");
+  const of = (n, one) => `${esc(n)} ${one}${Number(n) === 1 ? \"\" : \"s\"}`;
+  const words = {
+    ring: () => `${of(f[0], \"slot\")}, ${of(f[2] ?? \"1\", \"producer\")}.`,
+    claim: () => `Claim by producer ${esc(f[0])} of ${of(f[1], \"sequence\")}.`,
+    write: () => `Write by producer ${esc(f[0])} in sequence ${esc(f[1])}: the event ${esc(f.slice(2).join(\":\"))}.`,
+    publish: () => `Publication by producer ${esc(f[0])} of ${f[1] === f[2] ? `sequence ${esc(f[1])}` : `sequences ${esc(f[1])} to ${esc(f[2])}`}.`,
+    poll: () => `Poll by handler ${code(f[0])} for at most ${of(f[1], \"event\")}.`,
+    complete: () => `Completion by handler ${code(f[0])} of the events below ${esc(f[1])}.`,
+    retire: () => `Retirement of handler ${code(f[0])}.`,
+  };
+  return r.fault ? \"\" : words[word]?.() ?? \"\";
+}
 function explain(r) {
   if (r.fault) return \"The file is at fault here, and the run ends.\";
   const [word, ...f] = r.text.split(\",\"), reply = r.reply?.split(\" \").map((it) => it.trim());
@@ -175,23 +217,19 @@ function explain(r) {
   const why = {
     claimed: () => `Producer ${f[0]} owns ${several(reply[1], reply[2])} ${span(Number(reply[1]), Number(reply[2]))} now, and ${reply[1] === reply[2] ? \"its slot\" : \"their slots\"}.`,
     written: () => \"The event is in its slot, and no handler can see it yet.\",
-    published: () => `Handlers may take ${f[1] === f[2] ? \"this event\" : \"these events\"} once all before are published too. ${r.front < r.next ? whyBehind(r) : \"\"}`,
-    batch: () => `${f[0]} took these events, in order. ${reply[2] === \"more\" ? \"There are more: the poll had too little room.\" : \"No more was available.\"}`,
-    gating: () => `There is more for ${f[0]}, but not yet. ${whyWaits(r, h)}`,
+    published: () => (r.front > Number(f[2]) ? `All below sequence ${r.front} are published. ${whoMayTake(r)}` : whyBehind(r)),
+    batch: () => `${begin(those([h]))} took these events, from sequence ${reply[1]} on. ${
+      reply[2] === \"more\" ? `${code(\"more\")}: more was available than the poll had room for.` : `${code(\"end\")}: no more was available.`}`,
+    gating: () => `There is more for ${those([h])}, but not yet. ${whyWaits(r, h)}`,
     idle: () => \"Nothing new is there.\",
-    drained: () => `The exchange is halted, and ${f[0]} took all there will ever be.`,
-    completed: () => `${f[0]} is done with the events below ${f[1]}. ${r.handlers[h].gates ? (floor(r) ? `The slots of the events below ${floor(r)} are free again.` : \"\") : \"Who follows it may take them.\"}`,
+    drained: () => `The exchange is halted, and ${those([h])} took all there will ever be.`,
+    completed: () => `${r.handlers[h].gates ? (floor(r) ? `The slots of the events below ${floor(r)} are free again.` : \"\") : followers(r, h)}`,
     halting: () => \"No claim succeeds from now on. What is claimed may still be published, and is still handed out.\",
-    retired: () => `${f[0]} takes no more events, and no claim waits for it.`,
+    retired: () => `${begin(those([h]))} takes no more events, and no claim waits for it.`,
     refused: () => `${reply[1] === \"1\" ? `No room. ${whyNoRoom(r)}` : REFUSED[reply[1]] ?? \"\"} Nothing has changed.`,
   };
   return why[reply[0]]?.() ?? \"\";
 }
-function whyBehind(r) {
-  const gap = stretchOf(stretches(r), r.front), later = stretches(r).some((s) => s.stage === \"published\" && s.lo > r.front);
-  return later && gap ? `Sequence ${r.front} is not: producer ${gap.producer}, who claimed it, has yet to publish it.` : \"\";
-}
-
 // Pictures. Each way of a slot has a pattern of its own, and a letter where there is room.
 const PATTERNS = `<defs>
   <pattern id=\"claimed\" width=\"7\" height=\"7\" patternUnits=\"userSpaceOnUse\" patternTransform=\"rotate(45)\">
@@ -214,6 +252,8 @@ function parts(r) {
     return [{ ...it, hi: low - 1, way: \"again\" }, { ...it, lo: low, way: \"published\" }];
   });
 }
+const published = (r) =>
+  r.front ? [`all below #${r.front}`, \"are published\"] : r.round.some((it) => it[2] === \"published\") ? [\"#0 is not\", \"published yet\"] : [\"nothing is\", \"published yet\"];
 function tellRing(r) {
   const all = parts(r), told = events(r);
   const said = all.slice(0, 24).map((it) => {
@@ -222,10 +262,12 @@ function tellRing(r) {
       values.length ? ` (${values.join(\", \")})` : \"\"}`;
   });
   const more = all.length > 24 ? `, and ${all.length - 24} stretches more` : \"\";
-  return `A ring of ${count(exchange.size, \"slot\")}. ${said.length ? `${said.join(\"; \")}${more}.` : \"Nothing is claimed.\"} Next to be claimed: ${r.next}. All below ${r.front} is published.`;
+  return `A ring of ${count(exchange.size, \"slot\")}. ${said.length ? `${said.join(\"; \")}${more}.` : \"Nothing is claimed.\"} Next to be claimed: ${r.next}. ${published(r).join(\" \")}.`;
 }
 function drawRing(r) {
-  const size = exchange.size, many = r.handlers.length, lane = Math.min(13, 96 / many), R = 150, W = 54, C = R + 24 + many * lane;
+  const size = exchange.size, many = r.handlers.length, lane = Math.min(16, 72 / many), R = 150, W = 58, C = R + 24 + many * lane;
+  // How much of the picture is a pixel, so that no label is small on a narrow screen.
+  const px = Math.max(1, (2 * C) / Math.max(1, $(\"ring\").clientWidth - 24));
   const turn = (n) => (((n % size) / size) * 2 - 0.5) * Math.PI, one = (2 * Math.PI) / size;
   const at = (a, radius) => `${(C + radius * Math.cos(a)).toFixed(2)} ${(C + radius * Math.sin(a)).toFixed(2)}`;
   const band = (a, b, r0, r1, how) => {
@@ -237,7 +279,7 @@ function drawRing(r) {
     const [x, y] = at(a, radius).split(\" \");
     const ink = way === \"published\" ? \"var(--on-published)\" : \"var(--ink)\";
     const halo = way === \"published\" ? \"\" : ' stroke=\"var(--paper)\" stroke-width=\"3\" paint-order=\"stroke\"';
-    return `<text x=\"${x}\" y=\"${(Number(y) + size / 3 + below).toFixed(2)}\" text-anchor=\"middle\" font-size=\"${size}\" ${bold ? 'font-weight=\"600\"' : \"\"} style=\"fill:${ink}\"${halo}>${esc(what)}</text>`;
+    return `<text x=\"${x}\" y=\"${(Number(y) + (size / 3 + below) * px).toFixed(2)}\" text-anchor=\"middle\" font-size=\"${(size * px).toFixed(2)}\" ${bold ? 'font-weight=\"600\"' : \"\"} style=\"fill:${ink}\"${halo}>${esc(what)}</text>`;
   };
   let out = PATTERNS;
   const all = parts(r), told = events(r), touched = touches(r);
@@ -254,26 +296,28 @@ function drawRing(r) {
       const a = turn(k), gap = Math.min(0.02, one / 8), mid = a + one / 2, now = s >= touched[0] && s <= touched[1];
       out += band(a + gap, a + one - gap, R - W, R, `fill=\"${fill(way)}\" stroke=\"var(--ink)\" stroke-width=\"${now ? 3 : 0.6}\"`);
       if (it && size <= 16) {
-        const value = told.get(s);
-        out += text(mid, R - W / 2, 10.5, `#${s} ${LETTER[way]}${exchange.producers > 1 ? ` by ${it.producer}` : \"\"}`, way, false, value === undefined ? 0 : -7);
-        if (value !== undefined) out += text(mid, R - W / 2, 13, value.length > 7 ? `${value.slice(0, 6)}\\u2026` : value, way, true, 7);
-      } else if (it) out += text(mid, R - W / 2, 11, LETTER[way], way);
+        const room = Math.min(W, one * (R - W / 2)), letters = Math.floor(room / (7.6 * px)), label = `#${s} ${LETTER[way]}`, value = told.get(s);
+        const lines = [label.length > letters ? `#${s}` : label, exchange.producers > 1 ? `by ${it.producer}` : \"\", value?.length > letters ? `${value.slice(0, letters - 1)}\\u2026` : value].filter(Boolean);
+        while (lines.length > 1 && lines.length * 13 * px > room) lines.splice(1, 1);
+        lines.forEach((line, i) => { out += text(mid, R - W / 2, 12, line, way, i > 0 && line === lines.at(-1) && value !== undefined, (i - (lines.length - 1) / 2) * 13.5); });
+      } else if (it) out += text(mid, R - W / 2, 12, LETTER[way], way);
     }
   }
+  const apart = Math.ceil((13 * px) / lane);
   r.handlers.forEach((h, k) => {
     const r0 = R + 8 + k * lane, thick = Math.min(8, lane * 0.62), color = COLORS[k % COLORS.length];
     out += `<circle cx=\"${C}\" cy=\"${C}\" r=\"${r0 + thick / 2}\" fill=\"none\" stroke=\"${color}\" stroke-opacity=\".25\" stroke-width=\"${thick / 2}\"/>`;
     if (h.retired) return;
     const a = turn(h.completed), b = a + (h.taken - h.completed) * one;
     if (h.taken > h.completed) out += band(a, b, r0, r0 + thick, `fill=\"${color}\"`);
-    out += `<path d=\"M${at(b, r0 - 3)}L${at(b, r0 + thick + 3)}\" stroke=\"${color}\" stroke-width=\"3\"/>` + text(b + 0.05, r0 + thick / 2, 9, k + 1, \"\", true);
+    out += `<path d=\"M${at(b, r0 - 3)}L${at(b, r0 + thick + 3)}\" stroke=\"${color}\" stroke-width=\"3\"/>` + text(b + (6 + (k % apart) * 15) * (px / r0), r0 + thick / 2, 12, k + 1, \"\", true);
   });
-  const middle = [`next #${r.next}`, `published below #${r.front}`, r.halted ? \"halted\" : `room for ${r.room}`];
-  middle.forEach((it, k) => { out += `<text x=\"${C}\" y=\"${C - 14 + 20 * k}\" text-anchor=\"middle\" font-size=\"13\">${it}</text>`; });
+  const middle = [`next claim: #${r.next}`, ...published(r), r.halted ? \"halted\" : `room for ${r.room}`];
+  middle.forEach((it, k) => { out += `<text x=\"${C}\" y=\"${C + (18 * k - 23) * px}\" text-anchor=\"middle\" font-size=\"${13 * px}\">${it}</text>`; });
   return `<svg viewBox=\"0 0 ${2 * C} ${2 * C}\" role=\"img\" aria-label=\"${esc(`${tellRing(r)} ${tellTracks(r)}`)}\">${out}</svg>`;
 }
 function tellTracks(r) {
-  return r.handlers.map((h, k) => (h.retired ? `${name(k)} is retired.` : `${name(k)} took the events below ${h.taken} and completed those below ${h.completed}.`)).join(\" \");
+  return r.handlers.map((h, k) => (h.retired ? `Handler ${name(k)} is retired.` : `Handler ${name(k)} took the events below ${h.taken} and completed those below ${h.completed}.`)).join(\" \");
 }
 // The sequences that a record is about, from one to another.
 function touches(r) {
@@ -289,7 +333,7 @@ function drawGraph(r) {
   all.forEach((it, h) => (level[h] = Math.max(0, ...it.upstreams.map((u) => 1 + level[u]))));
   const columns = [];
   all.forEach((_, h) => (columns[level[h]] ??= []).push(h));
-  const tall = Math.max(...columns.map((it) => it.length)) * 38 + 6, wide = 112, gap = 40, left = 76, place = [];
+  const tall = Math.max(...columns.map((it) => it.length)) * 38 + 6, wide = 108, gap = 24, left = 70, place = [];
   columns.forEach((it, i) => it.forEach((h, j) => (place[h] = [left + gap + i * (wide + gap), (tall - it.length * 38) / 2 + j * 38 + 5])));
   const arrow = (x0, y0, x1, y1) => `<path d=\"M${x0} ${y0}C${x0 + 20} ${y0} ${x1 - 24} ${y1} ${x1 - 5} ${y1}\" fill=\"none\" stroke=\"var(--soft)\"/>
     <path d=\"M${x1 - 7} ${y1 - 4}L${x1} ${y1}L${x1 - 7} ${y1 + 4}Z\" fill=\"var(--soft)\"/>`;
@@ -307,40 +351,46 @@ function drawGraph(r) {
       stroke-width=\"${now.gates ? 4 : 1.5}\" ${now.retired ? 'stroke-dasharray=\"4 3\"' : \"\"}/><text x=\"${x + wide / 2}\" y=\"${y + 18.5}\" text-anchor=\"middle\"
       font-size=\"12.5\">${esc(label.length > 15 ? `${label.slice(0, 14)}\\u2026` : label)}</text></g>`;
   });
-  const says = all.map((it, h) => `${it.name} follows ${it.upstreams.length ? list(it.upstreams.map(name)) : \"the producers\"}${
-    r.handlers[h].retired ? \" and is retired\" : r.handlers[h].gates ? \"; claims wait for it\" : \"\"}.`).join(\" \");
-  const width = Math.max(360, left + gap + columns.length * (wide + gap));
-  return `<svg viewBox=\"0 0 ${width} ${tall}\" style=\"max-width:${width}px\" role=\"img\" aria-label=\"${esc(says)}\">${out}</svg>`;
+  const says = all.map((it, h) => `Handler ${it.name} follows ${it.upstreams.length ? list(it.upstreams.map(name)) : \"the producers\"}${
+    r.handlers[h].retired ? \" and is retired\" : r.handlers[h].gates ? \" and frees slots\" : \"\"}.`).join(\" \");
+  const width = left + columns.length * (wide + gap) + 2;
+  return `<svg viewBox=\"0 0 ${width} ${tall}\" style=\"width:${width}px\" role=\"img\" aria-label=\"${esc(says)}\">${out}</svg>`;
 }
 function drawTables(r) {
   const finals = r.handlers.filter((h) => h.gates).length;
   const rows = r.handlers.map((h, k) => {
-    const asked = h.poll === \"batch\" ? count(h.ready, \"event\") : POLL[h.poll];
-    const waits = h.poll === \"gating\" ? `<tr><td class=\"soft\" colspan=\"5\">${esc(whyWaits(r, k))}</td></tr>` : \"\";
+    const asked = h.poll === \"batch\" ? `batch: ${next(h).replaceAll(\" \", \"&nbsp;\")}` : POLL[h.poll];
+    const waits = h.poll === \"gating\" ? `<tr><td class=\"soft\" colspan=\"5\">${whyWaits(r, k)}</td></tr>` : \"\";
     return `<tr><td class=\"name\"><svg viewBox=\"0 0 10 10\" width=\"10\" height=\"10\" style=\"display:inline-block;width:10px\" aria-hidden=\"true\">
-      <circle cx=\"5\" cy=\"5\" r=\"5\" fill=\"${COLORS[k % COLORS.length]}\"/></svg> ${k + 1} ${esc(name(k))}</td><td class=\"n\">${h.taken}</td><td class=\"n\">${h.completed}</td>
-      <td>${asked}</td><td>${h.retired ? \"no: retired\" : h.holds && finals > 1 ? \"yes, completed least\" : h.gates ? \"yes\" : \"no\"}</td></tr>${waits}`;
+      <circle cx=\"5\" cy=\"5\" r=\"5\" fill=\"${COLORS[k % COLORS.length]}\"/></svg> ${k + 1} ${code(name(k))}</td><td class=\"n\">${h.taken}</td><td class=\"n\">${h.completed}</td>
+      <td>${asked}</td><td>${h.retired ? \"no: retired\" : h.holds && finals > 1 ? \"yes, completed least\" : h.gates ? \"yes\" : \"no: is followed\"}</td></tr>${waits}`;
   });
-  $(\"handlers\").innerHTML = `<tr><th>handler</th><th class=\"n\">taken</th><th class=\"n\">completed</th><th>a poll now</th><th>claims wait</th></tr>${rows.join(\"\")}`;
-  $(\"room\").textContent = r.halted ? \"Halted: no claim is given a sequence.\" : r.room === exchange.size ? \"A claim may have the whole ring.\" : whyNoRoom(r);
+  $(\"handlers\").innerHTML = `<tr><th>handler</th><th class=\"n\">taken</th><th class=\"n\">completed</th><th>a poll now</th><th>frees slots</th></tr>${rows.join(\"\")}`;
+  $(\"room\").innerHTML = r.halted ? \"Halted: no claim is given a sequence.\" : r.room === exchange.size ? \"A claim may have the whole ring.\" : whyNoRoom(r);
   const own = Array.from({ length: exchange.producers }, (_, p) => stretches(r).filter((it) => it.producer === p && it.stage !== \"published\"));
   $(\"producers\").innerHTML = `<tr><th>producer</th><th>has claimed, and not published</th></tr>` + own.map((it, p) => `<tr><td>${p}</td><td>${
     it.slice(0, 8).map((s) => `${span(s.lo, s.hi)} (${s.stage})`).join(\", \") || \"nothing\"}${it.length > 8 ? \", \\u2026\" : \"\"}</td></tr>`).join(\"\");
 }
 
+// Scrolls the list to a record; lines get their heights as they are seen.
+function reveal(line) {
+  const box = $(\"file\"), at = line.getBoundingClientRect(), all = box.getBoundingClientRect();
+  if (at.top < all.top || at.bottom > all.bottom) box.scrollTop += at.top - all.top - box.clientHeight / 2;
+}
 function show(to, keeps) {
   step = Math.max(0, Math.min(to, records.length - 1));
   const r = records[step], before = $(\"lines\").querySelector(\"[aria-current]\"), line = $(\"lines\").children[step]?.firstChild;
   before?.removeAttribute(\"aria-current\");
   line?.setAttribute(\"aria-current\", \"step\");
-  if (line) { const box = $(\"file\"), at = line.parentNode.offsetTop - box.offsetTop; if (at < box.scrollTop || at > box.scrollTop + box.clientHeight - 40) box.scrollTop = at - box.clientHeight / 2; }
+  if (line) { reveal(line.parentNode); requestAnimationFrame(() => reveal(line.parentNode)); }
   $(\"at\").value = step;
   $(\"at\").setAttribute(\"aria-valuetext\", `record ${r.record}`);
   $(\"where\").textContent = `record ${r.record} of ${end.last}`;
   for (const id of [\"first\", \"back\"]) $(id).disabled = step === 0;
   for (const id of [\"on\", \"end\"]) $(id).disabled = step === records.length - 1;
   $(\"head\").textContent = `${plain(r.text)}${r.reply ? `  \\u2192  ${plain(r.reply)}` : \"\"}${r.fault ? `  \\u2192  ${r.fault}` : \"\"}`;
-  $(\"why\").textContent = explain(r);
+  $(\"asks\").innerHTML = asks(r);
+  $(\"why\").innerHTML = explain(r);
   $(\"both\").hidden = r.next === undefined;
   if (r.next !== undefined) {
     $(\"ring\").innerHTML = drawRing(r);
@@ -359,11 +409,13 @@ function open() {
     $(\"part\").textContent = `Of ${end.last} records, the setup and ${commands[0].record} to ${commands.at(-1).record} are shown: --from and --steps show others.`;
   }
   $(\"key\").innerHTML = Object.entries(WAYS).map(([way, said]) => `<span><svg viewBox=\"0 0 18 14\" aria-hidden=\"true\">${PATTERNS}<rect x=\".5\" y=\".5\" width=\"17\" height=\"13\"
-    fill=\"${fill(way)}\" stroke=\"var(--ink)\"/></svg>${said}</span>`).join(\"\") + \"<span>Outer tracks, by a handler's number: what it has in hand, up to what it took.</span>\";
+    fill=\"${fill(way)}\" stroke=\"var(--ink)\"/></svg>${said}</span>`).join(\"\") + `<span><svg viewBox=\"0 0 18 14\" aria-hidden=\"true\"><rect x=\"2\" y=\"2\" width=\"14\" height=\"10\" fill=\"none\"
+    stroke=\"var(--ink)\" stroke-width=\"3\"/></svg>this record's</span>` + \"<span>Outer tracks, by a handler's number: what it has in hand, up to what it took.</span>\";
   $(\"at\").max = records.length - 1;
   const asked = () => Number(/^#step=(\\d+)$/.exec(location.hash)?.[1] ?? NaN);
   const find = (k) => { const i = records.findIndex((r) => r.record >= k); return i < 0 ? records.length - 1 : i; };
   show(Number.isNaN(asked()) ? (exchange ? records.findIndex((r) => r.exchange) : records.length - 1) : find(asked()));
+  window.onresize = () => show(step, true);
   window.onhashchange = () => { if (!Number.isNaN(asked())) show(find(asked()), true); };
 }
 $(\"first\").onclick = () => show(0);
@@ -374,7 +426,7 @@ $(\"at\").oninput = () => show(Number($(\"at\").value));
 $(\"lines\").onclick = (e) => { const at = e.target.closest(\"button\"); if (at) show(Number(at.dataset.k)); };
 document.onkeydown = (e) => {
   const to = { ArrowRight: step + 1, ArrowDown: step + 1, ArrowLeft: step - 1, ArrowUp: step - 1, Home: 0, End: records.length - 1 }[e.key];
-  if (to === undefined || e.target === $(\"at\") || e.altKey || e.ctrlKey || e.metaKey) return;
+  if (to === undefined || e.target === $(\"at\") || (e.target === $(\"graph\") && $(\"graph\").scrollWidth > $(\"graph\").clientWidth) || e.altKey || e.ctrlKey || e.metaKey) return;
   e.preventDefault();
   show(to);
 };
