@@ -71,6 +71,31 @@ document.body.innerHTML = `<pre id=told>${JSON.stringify(took)}</pre>`;
 </script>"""
 MOST_MILLISECONDS = 1000
 
+# What a page says beside its records: which it has, and why a claim has no more room. Of each file its window.
+SAYS = """<script>
+document.dispatchEvent(new KeyboardEvent("keydown", { key: "End", bubbles: true, cancelable: true }));
+const said = [$("part").hidden ? "" : $("part").textContent, $("both").hidden ? "" : $("room").textContent];
+document.body.innerHTML = "<pre id=told></pre>";
+document.getElementById("told").textContent = JSON.stringify(said);
+</script>"""
+LIMITED = b"ring,4,single\nlimit,2\nwith,a\nstart\nclaim,0,2\n"
+HALTED = b"ring,4,single\nwith,a\nstart\nclaim,0,1\nhalt\nhalt\nhat\n"
+OTHERS = ": --from and --steps show others."
+SAID = (
+    (LIMITED, 1, 2000, "", "2 sequences of at most 2 are claimed: none is left."),
+    (LIMITED.replace(b",2\n", b",4\n"), 1, 2000, "", "4 sequences of at most 4 are claimed: none is left."),
+    (LIMITED.replace(b"0,2\n", b"0,1\n"), 1, 2000, "", "1 sequence of at most 2 is claimed: a claim may have at most 1 now."),
+    (b"ring,2,single\nwith,a\nstart\nclaim,0,2\n", 1, 2000, "", "Handler a completed 0 of 2 claimed events, and the ring has 2 slots: none is free."),
+    (HALTED, 1, 2000, "", ""),
+    (HALTED[:-4], 1, 2000, "", "Halted: no claim is given a sequence."),
+    (HALTED, 4, 1, "Of 7 records the page has 1 to 4 and 7" + OTHERS, ""),
+    (HALTED, 1, 0, "Of 7 records the page has 1 to 3 and 7" + OTHERS, ""),
+    (HALTED[:-4], 6, 1, "Of 6 records the page has 1 to 3 and 6" + OTHERS, "Halted: no claim is given a sequence."),
+    (HALTED[:-4], 5, 1, "Of 6 records the page has 1 to 3 and 5" + OTHERS, "Halted: no claim is given a sequence."),
+    (HALTED[:-4], 1, 0, "Of 6 records the page has 1 to 3" + OTHERS, "A claim may have the whole ring."),
+    (HALTED[:-4], 1, 3, "Of 6 records the page has 1 to 3" + OTHERS, "A claim may have the whole ring."),
+)
+
 
 def page_parts():
     with open(f"{TOP}/page/show.html", encoding="utf-8") as file:
@@ -138,6 +163,13 @@ def go_through(bench, browser, name, page, around):
     bench.judge(f"what a browser shows of {name}", seen, {"seen": list(wanted_steps(data_of(page, around))), "faults": []})
 
 
+def sentence_cases(bench, browser):
+    """A page says which records it has where some are left out, and what bounds the room: the limit, the slots or a halt."""
+    for text, first, steps, *said in SAID:
+        page = bench.run("show", f"--from={first}", f"--steps={steps}", bench.file("said.csv", text)).out
+        bench.judge(f"what the page of {text!r} from {first}, {steps} steps says", told_by(bench, browser, page, SAYS), said)
+
+
 def open_long(bench, browser):
     """A page of 2,000 steps opens within a second, the best of some times: the machine may have other work."""
     rounds = "".join(f"claim,0,1\nwrite,0,{k},{k}\npublish,0,{k},{k}\npoll,a,1\ncomplete,a,{k + 1}\n" for k in range(400))
@@ -161,6 +193,7 @@ def look(bench, files):
     for k in range(files):
         judge_file(bench, f"random file {k}", random_file("drive", f"show {k}"), around)
     if browser:
+        sentence_cases(bench, browser)
         open_long(bench, browser)
     else:
         print("not here, and left out: a browser")

@@ -9,7 +9,7 @@ from standing import built_order, ready, room
 
 MOST_DRAWN = 64
 # What stands for a byte within a string of the data; else it stands as it is, or as `\\xNN`.
-ESCAPES = {ord('"'): '\\"', ord("\\"): "\\\\", ord("<"): "\\u003c", ord("\n"): "\\n"}
+ESCAPES = {ord('"'): '\\"', ord("\\"): "\\\\x5c", ord("<"): "\\u003c", ord("\n"): "\\n"}
 
 
 def asked(exchange, handler):
@@ -68,7 +68,7 @@ def state_text(exchange):
 def exchange_text(exchange):
     order = built_order(exchange.upstreams)
     handlers = ",".join(
-        f'{{"name":"{it.decode()}","upstreams":[{",".join(map(str, sorted(order.index(up) for up in set(exchange.upstreams[it]))))}]}}' for it in order
+        f'{{"name":{string(it)},"upstreams":[{",".join(map(str, sorted(order.index(up) for up in set(exchange.upstreams[it]))))}]}}' for it in order
     )
     return (
         f',"exchange":{{"size":{exchange.size},"producers":{exchange.producers},"single":{truth(exchange.is_single)}'

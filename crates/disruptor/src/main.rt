@@ -2,8 +2,11 @@
 //! goes to standard output or the file that is asked for, and the line of a fault to standard error.
 #![tactic(auto)]
 
-ghost use Rattle.std.specs.Prelude.{◌≡◌, Some};
-ghost use Rattle.disruptor.specs.Faults.{program_line, program_status};
+ghost use Rattle.std.specs.Prelude.{◌≡◌, ◌<◌, ◌-◌, ◌^◌, IfErr, IfSome, Some};
+ghost use Rattle.dr_files.specs.Counting.{faults_of, inner_of};
+ghost use Rattle.dr_files.specs.Outcome.{CountsFaults};
+ghost use Rattle.dr_show.specs.Meaning.Shown.{ShowWrites, UnreadKeeps};
+ghost use Rattle.disruptor.specs.Faults.{end_of, program_line, program_status, told_of};
 
 mod live;
 mod output;
@@ -112,8 +115,31 @@ enum Task {
     Replay { size: Size, by: By },
 }
 
+// Writes the page of `page/show.html` over the records of an input.
+fn write_page<R: Read, W: Write>(
+    alloc: Global,
+    reader: &mut Counted<R>,
+    writer: &mut Counted<W>,
+    window: Window,
+) -> Result<(), DriveFault>
+    requires reads { faults_of reader.old < 2 ^ 64 - 1 }
+    requires writes { faults_of writer.old < 2 ^ 64 - 1 }
+    // Where the input's bytes are known, the page is theirs, with this window and between these two texts.
+    ensures bytes { IfSome (R.remaining (inner_of reader.old)) (λ input.
+        ShowWrites result (W.contents (inner_of writer.old)) (W.contents (inner_of writer.new)) window BEFORE.now AFTER.now input) }
+    // Without a page nothing is written, whether or not the input's bytes are known.
+    ensures unread { IfErr result (λ e. UnreadKeeps e (W.contents (inner_of writer.old)) (W.contents (inner_of writer.new))) }
+    // A failed read or write is answered where one failed, and nowhere else.
+    ensures counted { CountsFaults result (faults_of reader.old) (faults_of reader.new) (faults_of writer.old) (faults_of writer.new) }
+{
+    show(alloc, reader, writer, window, BEFORE, AFTER)
+}
+
 // A page of a file at fault is whole, so that the fault is told once the page is in its place.
-fn shown(ran: Result<(), DriveFault>) -> Result<Option<Fault>, Fault> {
+fn shown(ran: Result<(), DriveFault>) -> Result<Option<Fault>, Fault>
+    // Without a fault nothing is told. A fault of the file is told with its page, and any other in its place.
+    ensures { result ≡ told_of ran }
+{
     match ran {
         Ok(()) => Ok(None),
         Err(FileFault::Input { k, cause }) => {
@@ -124,10 +150,14 @@ fn shown(ran: Result<(), DriveFault>) -> Result<Option<Fault>, Fault> {
 }
 
 // How a run ends that left its output whole, or did not.
-fn ended(ran: Result<Option<Fault>, Fault>) -> Result<(), Fault> {
-    match ran? {
-        None => Ok(()),
-        Some(fault) => Err(fault),
+fn ended(ran: Result<Option<Fault>, Fault>) -> Result<(), Fault>
+    // It ends well where its output is whole and no fault is to be told; else with that fault, or with the one that left no output.
+    ensures { result ≡ end_of ran }
+{
+    match ran {
+        Ok(None) => Ok(()),
+        Ok(Some(fault)) => Err(fault),
+        Err(fault) => Err(fault),
     }
 }
 
@@ -150,14 +180,7 @@ fn run_over<R: Read + Drop, W: Write + Drop, T: Threads + Wait + Sync>(
         Task::Drive { states } => drive_telling(alloc, &mut reader, &mut writer, states)
             .map(|()| None)
             .map_err(Fault::Drive),
-        Task::Show { window } => shown(show(
-            alloc,
-            &mut reader,
-            &mut writer,
-            window,
-            BEFORE,
-            AFTER,
-        )),
+        Task::Show { window } => shown(write_page(alloc, &mut reader, &mut writer, window)),
         Task::Replay { size, by } => match by {
             By::Plain => replay_plain(alloc, &mut reader, &mut writer, size),
             By::Lock => replay_lock(workers, alloc, &mut reader, &mut writer, size, &OpenGate),

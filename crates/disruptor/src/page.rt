@@ -100,13 +100,13 @@ pub(crate) const BEFORE: &str = "\
     </div>
     <div>
       <section class=\"card\"><h2>Handlers</h2><div id=\"graph\" tabindex=\"0\" role=\"group\" aria-label=\"Who follows whom\"></div><table id=\"handlers\"></table>
-        <p class=\"soft\" style=\"margin: 4px 0 0\">A slot is free again once each handler that frees slots (thick frame) has completed its event.</p></section>
+        <p class=\"soft\" style=\"margin: 4px 0 0\">Gating: there is more, but not yet. Idle: there is nothing new. A slot is free again once each handler in a thick box has completed its event.</p></section>
       <section class=\"card\"><h2>Claims</h2><p id=\"room\" style=\"margin: 0 0 4px\"></p><table id=\"producers\"></table></section>
     </div>
   </div>
   <footer>
     Each reply is that of <code>disruptor drive</code>, and each number the state of the proved core after that record. Keys: the arrows, Home and End.
-    <code>#step=23</code> at the end of the page's address opens record 23.
+    <code>#step=N</code> at the end of the page's address opens record N.
   </footer>
 </main>
 </div>
@@ -140,6 +140,7 @@ const esc = (text) => String(text).replace(/[&<>\"]/g, (c) => `&#${c.charCodeAt(
 const plain = (text) => text.replace(/\\n$/, \"\").replaceAll(\"\\n\", \"\\\\x0a\");
 const count = (n, one, many = `${one}s`) => `${n} ${n === 1 ? one : many}`;
 const list = (words) => (words.length < 2 ? words.join(\"\") : `${words.slice(0, -1).join(\", \")} and ${words.at(-1)}`);
+const first = (words) => (words.length > 16 ? `${words.slice(0, 16).join(\" \")} \\u2026` : words.join(\" \"));
 const span = (lo, hi) => (lo === hi ? `${lo}` : hi === lo + 1 ? `${lo} and ${hi}` : `${lo} to ${hi}`);
 const several = (lo, hi) => (lo === hi ? \"sequence\" : \"sequences\");
 const name = (h) => exchange.handlers[h].name;
@@ -162,15 +163,14 @@ const holders = (r) => r.handlers.flatMap((h, k) => (h.holds ? [k] : []));
 function whyWaits(r, h) {
   const it = r.handlers[h], ups = exchange.handlers[h].upstreams, slow = ups.filter((u) => r.handlers[u].completed <= it.taken);
   const done = slow.map((u) => String(r.handlers[u].completed)), alike = new Set(done).size === 1;
-  if (slow.length) return `${begin(those([h]))} follows ${those(slow)}, which completed only ${alike ? done[0] : list(done)} of the events.`;
+  if (slow.length) return `${begin(those([h]))} follows ${those(slow)}, which completed ${alike && done[0] === \"0\" ? \"none of the events\" : `only ${alike ? done[0] : list(done)} of the events`}.`;
   return whyBehind(r);
 }
 function whyBehind(r) {
   const all = stretches(r), gap = stretchOf(all, r.front), later = all.filter((s) => s.stage === \"published\" && s.lo > r.front);
   if (!gap) return \"\";
   const behind = later.length ? ` So ${list(later.slice(0, 3).map((s) => span(s.lo, s.hi)))}, though published, must wait: events are handed out in order.` : \"\";
-  const [done, lacks] = gap.stage === \"written\" ? [\"written\", \"published\"] : [\"claimed\", \"written\"];
-  return `Producer ${gap.producer} has ${done} sequence ${r.front} and not yet ${lacks} it.${behind}`;
+  return `Producer ${gap.producer} has ${gap.stage} sequence ${r.front}, and ${gap.stage === \"written\" ? \"not published\" : \"neither written nor published\"} it yet.${behind}`;
 }
 // What handlers may take now.
 const next = (h) => span(h.taken, h.taken + h.ready - 1);
@@ -179,9 +179,12 @@ function whoMayTake(r, isMeant = () => true) {
   r.handlers.forEach((h, k) => { if (h.poll === \"batch\" && isMeant(k)) groups.set(next(h), [...(groups.get(next(h)) ?? []), k]); });
   return [...groups].map(([what, all]) => `${begin(those(all))} may take ${what} now.`).join(\" \");
 }
+// The limit bounds the room where a claim of all of it would come to the limit; else the slots do.
 function whyNoRoom(r) {
+  const most = r.room ? `a claim may have at most ${r.room} now` : \"\";
   if (r.halted) return \"The exchange is halted.\";
-  return `${begin(those(holders(r)))} completed ${floor(r)} of ${r.next} claimed events, and the ring has ${count(exchange.size, \"slot\")}: ${r.room ? `a claim may have at most ${r.room} now` : \"none is free\"}.`;
+  if (BigInt(r.next) + BigInt(r.room) === BigInt(exchange.limit)) return `${count(r.next, \"sequence\")} of at most ${exchange.limit} ${r.next === 1 ? \"is\" : \"are\"} claimed: ${most || \"none is left\"}.`;
+  return `${begin(those(holders(r)))} completed ${floor(r)} of ${r.next} claimed events, and the ring has ${count(exchange.size, \"slot\")}: ${most || \"none is free\"}.`;
 }
 // What those may take now that follow a handler, or why they wait.
 function followers(r, h) {
@@ -203,7 +206,7 @@ function asks(r) {
     write: () => `Write by producer ${esc(f[0])} in sequence ${esc(f[1])}: the event ${esc(f.slice(2).join(\":\"))}.`,
     publish: () => `Publication by producer ${esc(f[0])} of ${f[1] === f[2] ? `sequence ${esc(f[1])}` : `sequences ${esc(f[1])} to ${esc(f[2])}`}.`,
     poll: () => `Poll by handler ${code(f[0])} for at most ${of(f[1], \"event\")}.`,
-    complete: () => `Completion by handler ${code(f[0])} of the events below ${esc(f[1])}.`,
+    complete: () => `Completion by handler ${code(f[0])} of the sequences below ${esc(f[1])}.`,
     retire: () => `Retirement of handler ${code(f[0])}.`,
   };
   return r.fault ? \"\" : words[word]?.() ?? \"\";
@@ -216,14 +219,14 @@ function explain(r) {
   const h = exchange.handlers.findIndex((it) => it.name === f[0]);
   const why = {
     claimed: () => `Producer ${f[0]} owns ${several(reply[1], reply[2])} ${span(Number(reply[1]), Number(reply[2]))} now, and ${reply[1] === reply[2] ? \"its slot\" : \"their slots\"}.`,
-    written: () => \"The event is in its slot, and no handler can see it yet.\",
+    written: () => \"The event is in its slot. Handlers see it once it is published, and all before it are.\",
     published: () => (r.front > Number(f[2]) ? `All below sequence ${r.front} are published. ${whoMayTake(r)}` : whyBehind(r)),
-    batch: () => `${begin(those([h]))} took these events, from sequence ${reply[1]} on. ${
+    batch: () => `${begin(those([h]))} took ${several(Number(reply[1]), r.handlers[h].taken - 1)} ${span(Number(reply[1]), r.handlers[h].taken - 1)}, in order: the events ${first(reply.slice(3))}. ${
       reply[2] === \"more\" ? `${code(\"more\")}: more was available than the poll had room for.` : `${code(\"end\")}: no more was available.`}`,
     gating: () => `There is more for ${those([h])}, but not yet. ${whyWaits(r, h)}`,
     idle: () => \"Nothing new is there.\",
     drained: () => `The exchange is halted, and ${those([h])} took all there will ever be.`,
-    completed: () => `${r.handlers[h].gates ? (floor(r) ? `The slots of the events below ${floor(r)} are free again.` : \"\") : followers(r, h)}`,
+    completed: () => `${r.handlers[h].gates ? (floor(r) ? `The slots of the sequences below ${floor(r)} are free again.` : \"\") : followers(r, h)}`,
     halting: () => \"No claim succeeds from now on. What is claimed may still be published, and is still handed out.\",
     retired: () => `${begin(those([h]))} takes no more events, and no claim waits for it.`,
     refused: () => `${reply[1] === \"1\" ? `No room. ${whyNoRoom(r)}` : REFUSED[reply[1]] ?? \"\"} Nothing has changed.`,
@@ -241,7 +244,6 @@ const PATTERNS = `<defs>
 const LETTER = { free: \"\", again: \"\", claimed: \"c\", written: \"w\", published: \"p\" };
 const WAYS = { free: \"never used\", claimed: \"claimed (c)\", written: \"written (w)\", published: \"published (p)\", again: \"free again\" };
 const fill = (way) => (way === \"published\" ? \"var(--published)\" : way === \"free\" ? \"var(--ground)\" : `url(#${way})`);
-const wayOf = (r, s, stage) => (s < floor(r) && stage === \"published\" ? \"again\" : stage);
 
 // The stretches, parted where slots are free again.
 function parts(r) {
@@ -363,9 +365,9 @@ function drawTables(r) {
     const waits = h.poll === \"gating\" ? `<tr><td class=\"soft\" colspan=\"5\">${whyWaits(r, k)}</td></tr>` : \"\";
     return `<tr><td class=\"name\"><svg viewBox=\"0 0 10 10\" width=\"10\" height=\"10\" style=\"display:inline-block;width:10px\" aria-hidden=\"true\">
       <circle cx=\"5\" cy=\"5\" r=\"5\" fill=\"${COLORS[k % COLORS.length]}\"/></svg> ${k + 1} ${code(name(k))}</td><td class=\"n\">${h.taken}</td><td class=\"n\">${h.completed}</td>
-      <td>${asked}</td><td>${h.retired ? \"no: retired\" : h.holds && finals > 1 ? \"yes, completed least\" : h.gates ? \"yes\" : \"no: is followed\"}</td></tr>${waits}`;
+      <td>${asked}</td><td>${h.retired ? \"no: retired\" : h.holds && finals > 1 ? \"yes, completed least\" : h.gates ? \"yes\" : \"no\"}</td></tr>${waits}`;
   });
-  $(\"handlers\").innerHTML = `<tr><th>handler</th><th class=\"n\">taken</th><th class=\"n\">completed</th><th>a poll now</th><th>frees slots</th></tr>${rows.join(\"\")}`;
+  $(\"handlers\").innerHTML = `<tr><th>handler</th><th class=\"n\">taken</th><th class=\"n\">completed</th><th>a poll gets</th><th>frees slots</th></tr>${rows.join(\"\")}`;
   $(\"room\").innerHTML = r.halted ? \"Halted: no claim is given a sequence.\" : r.room === exchange.size ? \"A claim may have the whole ring.\" : whyNoRoom(r);
   const own = Array.from({ length: exchange.producers }, (_, p) => stretches(r).filter((it) => it.producer === p && it.stage !== \"published\"));
   $(\"producers\").innerHTML = `<tr><th>producer</th><th>has claimed, and not published</th></tr>` + own.map((it, p) => `<tr><td>${p}</td><td>${
@@ -403,14 +405,18 @@ function open() {
   if (end.fault && !records.some((r) => r.fault)) records.push({ record: end.last + 1, text: \"\", fault: end.fault });
   $(\"lines\").innerHTML = records.map((r, k) => `<li><button data-k=\"${k}\"><span>${r.record}</span><span>${esc(plain(r.text))}</span><span class=\"${
     r.fault || r.reply?.startsWith(\"refused\") ? \"bad\" : \"\"}\">${esc(plain(r.fault ?? r.reply ?? \"\").slice(0, 200))}</span></button></li>`).join(\"\");
-  const commands = records.filter((r) => r.reply !== undefined), past = end.last - (records.at(-1)?.record ?? 0);
-  if (commands.length && (past > 0 || commands[0].record > 1 + (records.find((r) => r.exchange)?.record ?? 0))) {
+  const shown = [];
+  for (const { record } of records) {
+    if (shown.at(-1)?.[1] === record - 1) shown.at(-1)[1] = record;
+    else shown.push([record, record]);
+  }
+  if (shown.length > 1 || shown.at(-1)?.[1] < end.last) {
     $(\"part\").hidden = false;
-    $(\"part\").textContent = `Of ${end.last} records, the setup and ${commands[0].record} to ${commands.at(-1).record} are shown: --from and --steps show others.`;
+    $(\"part\").textContent = `Of ${count(end.last, \"record\")} the page has ${list(shown.map(([lo, hi]) => (lo === hi ? lo : `${lo} to ${hi}`)))}: --from and --steps show others.`;
   }
   $(\"key\").innerHTML = Object.entries(WAYS).map(([way, said]) => `<span><svg viewBox=\"0 0 18 14\" aria-hidden=\"true\">${PATTERNS}<rect x=\".5\" y=\".5\" width=\"17\" height=\"13\"
     fill=\"${fill(way)}\" stroke=\"var(--ink)\"/></svg>${said}</span>`).join(\"\") + `<span><svg viewBox=\"0 0 18 14\" aria-hidden=\"true\"><rect x=\"2\" y=\"2\" width=\"14\" height=\"10\" fill=\"none\"
-    stroke=\"var(--ink)\" stroke-width=\"3\"/></svg>this record's</span>` + \"<span>Outer tracks, by a handler's number: what it has in hand, up to what it took.</span>\";
+    stroke=\"var(--ink)\" stroke-width=\"3\"/></svg>touched by this record</span>` + \"<span>#1 p, by 1, <b>5</b>: sequence 1 is published, by producer 1, with the event 5. Around the ring a track for each handler, by its number: thick from what it completed to what it took.</span>\";
   $(\"at\").max = records.length - 1;
   const asked = () => Number(/^#step=(\\d+)$/.exec(location.hash)?.[1] ?? NaN);
   const find = (k) => { const i = records.findIndex((r) => r.record >= k); return i < 0 ? records.length - 1 : i; };

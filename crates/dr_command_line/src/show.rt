@@ -7,9 +7,9 @@ use std::alloc::{AllocError, Global};
 
 const SHOW: &str = "Run a file of commands, and write a page that shows each step";
 
-const FROM: &str = "The first record to show, of those after the setup, which is always shown";
+const FROM: &str = "The record to show from; the setup is always shown";
 
-const STEPS: &str = "How many records after the setup to show";
+const STEPS: &str = "How many records to show from there on, counting those of the setup";
 
 /// How many records are shown where the command line does not say it.
 const USUAL_STEPS: u64 = 2000;
@@ -21,8 +21,8 @@ disruptor show --output page.html examples/two_producers.csv
 
 It has each record with the reply of `disruptor drive`, and after it the ring with
 its slots, how far each handler is, what a poll would be answered and a claim given,
-and who holds claims up. Go by the arrow keys, the buttons, the slider or a click on
-a record; page.html#step=23 opens at record 23.
+and which handlers free slots. Go by the arrow keys, the buttons, the slider or a
+click on a record; page.html#step=23 opens at record 23.
 
 Where the file is at fault, the page shows that at its record, and the program ends
 as drive does: with 0 where all is done, 1 where the command line is at fault, 2

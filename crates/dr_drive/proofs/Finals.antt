@@ -1,4 +1,4 @@
--- Which handlers hold up claims, by flags that tell those that are retired.
+-- Which handlers claims wait for, by flags that tell those that are retired.
 use Rattle.std.proofs.Common.{◌≡◌, ℕ, zero, suc, ◌+◌, ◌<◌, ◌≤◌, Bool, not, List, refl, ap, ◌∙◌, arith, length, map, filter, slice_index}
 use Rattle.std.specs.Prelude.{◌&&◌}
 use Rattle.std.specs.List.{list_any, range_with_len}

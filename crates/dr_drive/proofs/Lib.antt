@@ -7,6 +7,7 @@ pub mod Pushing
 pub mod Runs
 pub mod SetUps
 pub mod Sizes
+pub mod Standings
 pub mod Starting
 pub mod Telling
 pub mod Whole

@@ -43,7 +43,7 @@ fn retired_flags(core: &Core<Event>) -> [bool; MOST_HANDLERS]
     flags
 }
 
-// Whether a handler holds up claims, where these flags tell which are retired.
+// Whether claims wait for a handler, where these flags tell which are retired.
 fn is_final_now(core: &Core<Event>, gone: &[bool], h: usize) -> bool
     requires handler { h < handlers core.now.setup }
     requires flags { length gone.now ≡ handlers core.now.setup }
@@ -59,7 +59,7 @@ fn lesser(found: bool, least: u64, count: u64) -> u64
     if found { least.min(count) } else { count }
 }
 
-// The least completed count of the handlers that hold up claims, where these flags tell which are retired.
+// The least completed count of the handlers that claims wait for, where these flags tell which are retired.
 fn least_completed(core: &Core<Event>, gone: &[bool]) -> u64
     requires flags { length gone.now ≡ handlers core.now.setup }
     requires gone { AreRetired (flagged gone.now) core.now }
@@ -76,7 +76,7 @@ fn least_completed(core: &Core<Event>, gone: &[bool]) -> u64
     least
 }
 
-/// The least completed count of the handlers that hold up claims: those that are not retired, and that
+/// The least completed count of the handlers that claims wait for: those that are not retired, and that
 /// none follows which is not retired.
 pub fn gate(core: &Core<Event>) -> u64
     ensures { result ≡ gate_in core.now }
@@ -85,7 +85,7 @@ pub fn gate(core: &Core<Event>) -> u64
     least_completed(core, &flags[..core.graph().len()])
 }
 
-/// Whether a handler holds up claims, as one that is not retired, and that none follows which is not.
+/// Whether claims wait for a handler, as for one that is not retired, and that none follows which is not.
 pub fn is_gating(core: &Core<Event>, h: usize) -> bool
     requires { h < handlers core.now.setup }
     ensures { result ≡ is_final_of core.now.setup.upstreams (retired_in core.now) h }

@@ -2,6 +2,8 @@ pub mod Courses
 pub mod Naming
 pub mod Pages
 pub mod Pieces
+pub mod Polls
 pub mod Seeing
 pub mod Shows
+pub mod Tags
 pub mod Tracking

@@ -4,10 +4,10 @@ ghost use Rattle.std.specs.Prelude.{◌≡◌, ◌++◌, ◌<◌, OnOk, codes, d
 ghost use Rattle.std.specs.List.{range_with_len};
 ghost use Rattle.dr_drive.specs.Calls.Shows.{core_of};
 ghost use Rattle.dr_meaning.specs.Meaning.Machine.{is_single};
-ghost use Rattle.dr_show.specs.Meaning.Texts.{bool_text, comma_before};
+ghost use Rattle.dr_show.specs.Meaning.Texts.{bool_text, bytes_text, comma_before};
 ghost use Rattle.dr_show.specs.Meaning.StateText.{exchange_text, named_object, upstream_text};
 
-use crate::texts::{put_comma, word_of};
+use crate::texts::{put_bytes, put_comma, word_of};
 use dr_drive::Exchange;
 use dr_drive::setup::ring_records::Ring;
 use dr_drive::standing::name_of;
@@ -34,10 +34,12 @@ fn put_upstreams(page: &mut String, upstreams: &[usize]) -> Result<(), AllocErro
 
 // Puts what comes before a handler's upstreams.
 fn put_opening(page: &mut String, h: usize, name: &str) -> Result<(), AllocError>
-    ensures { OnOk result (string_bytes page.new ≡ string_bytes page.old ++ (comma_before h ++ codes "{\"name\":\"" ++ name.now ++ codes "\",\"upstreams\":[")) }
+    ensures { OnOk result (string_bytes page.new ≡ string_bytes page.old ++ (comma_before h ++ codes "{\"name\":\"" ++ bytes_text name.now ++ codes "\",\"upstreams\":[")) }
 {
     put_comma(page, h as u64)?;
-    write!(page, "{{\"name\":\"{name}\",\"upstreams\":[")
+    page.push_str("{\"name\":\"")?;
+    put_bytes(page, name.as_bytes())?;
+    page.push_str("\",\"upstreams\":[")
 }
 
 fn put_name(page: &mut String, graph: &Graph, h: usize) -> Result<(), AllocError>

@@ -2,13 +2,14 @@
 //!
 //! Begin with the room `specs/Meaning`. `PageText` says what a page has of a file: a fixed text, then
 //! an object of each record, which is its text, the reply of `drive` and the machine's state after it
-//! (`StateText`), and a fixed text. [`show`] reads a file and writes its page. What is drawn of the
-//! objects is the page's own script.
+//! (`StateText`; [`laws`] says what its words are in the machine), and a fixed text. [`show`] reads a
+//! file and writes its page. What is drawn of the objects is the page's own script.
 #![tactic(auto)]
 
 mod course;
 mod exchanges;
 mod handlers;
+pub mod laws;
 mod objects;
 mod rounds;
 mod sequences;

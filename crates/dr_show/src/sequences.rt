@@ -29,7 +29,7 @@ impl Recents {
     ghost use Rattle.dr_meaning.specs.Meaning.Machine.{Setup, State, step};
     ghost use Rattle.dr_show.specs.Inside.Sequences.{Becomes, Changes, Follows, Remembers, Speaks, claimed_in, published_in, said_of, slots_of, written_in};
 
-    /// Nothing is claimed yet. An error is that memory ran out.
+    /// So many slots for claimed sequences. An error is that memory ran out.
     pub fn new(alloc: Global, size: Size) -> Result<Recents, AllocError>
         ensures { IfOk result (λ recents. length (slots_of recents) ≡ size) }
     {

@@ -35,7 +35,7 @@ fn put_byte(page: &mut String, byte: u8) -> Result<(), AllocError>
     if byte == b'"' {
         page.push_str("\\\"")
     } else if byte == b'\\' {
-        page.push_str("\\\\")
+        page.push_str("\\\\x5c")
     } else if byte == b'<' {
         page.push_str("\\u003c")
     } else if byte == b'\n' {

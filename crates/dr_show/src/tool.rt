@@ -19,12 +19,12 @@ use dr_records::Rows;
 use std::alloc::{AllocError, Global};
 use std::io::{Read, Write};
 
-/// Which records a page shows of those after the setup, which it always shows.
+/// Which records a page shows. It always shows those of the setup, and the one at fault.
 #[derive(Clone, Copy, Debug, PartialEq, Eq)]
 pub struct Window {
     /// The first of them, counted from 1 with those of the setup.
     pub from: u64,
-    /// How many at most.
+    /// How many from there on, those of the setup counted too.
     pub steps: u64,
 }
 
@@ -121,8 +121,8 @@ fn put_page(
 /// Reads a file of commands to its end, and writes a page that shows each step of its exchange: the text
 /// `before`, the page's data, and the text `after`. The data has the setup, and of the records after it
 /// those in the window, each with the reply of `drive` and the state after it. Where the file is at fault
-/// the page shows that too, and is written before the fault is answered. Where memory runs out nothing is
-/// written; at a failed write a beginning is.
+/// the page shows the record at fault too, and is written before the fault is answered. Where memory runs
+/// out nothing is written; at a failed write a beginning is.
 pub fn show<R: Read, W: Write>(
     alloc: Global,
     reader: &mut Counted<R>,

@@ -38,7 +38,7 @@ shows w k t = is_none t.line || has w k
 abbrev pub fault_text : ℕ → Cause → List ℕ
 fault_text k cause = codes ",\"fault\":\"" ++ fault_line cause_name (fault.Input k cause) ++ codes "\"}"
 
--- how many records there are, and of a file that ends in its setup the fault
+-- the number of the last record, and of a file that ends in its setup the fault
 abbrev pub last_text : ℕ → Phase → List ℕ
 last_text k (Preparing stage) = codes "{\"last\":" ++ decimal (k - 1) ++ fault_text k (missing stage)
 last_text k (Running names c m) = codes "{\"last\":" ++ decimal (k - 1) ++ codes "}"

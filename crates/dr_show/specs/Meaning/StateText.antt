@@ -1,9 +1,12 @@
 -- What the page's data has of an exchange and its state: the machine's own numbers and answers.
-use Rattle.std.specs.Prelude.{ℕ, ◌-◌, min, Bool, not, ◌==◌, ◌&&◌, ◌||◌, nat_lt, if◌then◌else◌, Option, Some, None, is_some, List, [], ◌++◌, flat_map, length, codes, decimal, slice_index, slice_index_or}
+use Rattle.std.specs.Prelude.{ℕ, ◌-◌, min, Bool, not, ◌==◌, ◌&&◌, ◌||◌, if◌then◌else◌, Option, Some, None, is_some, List, [], ◌++◌, flat_map, length, codes, decimal, slice_index, slice_index_or}
 use Rattle.std.specs.List.{range_with_len}
 use Rattle.dr_seq.specs.declared.event.Event.{Event}
 use Rattle.dr_graph.specs.Meaning.Graph.{is_final_without, upstreams_of}
-use Rattle.dr_meaning.specs.Meaning.Machine.{Setup, State, cursor, front, gate, handlers, is_single, next, producers}
+use Rattle.dr_meaning.specs.declared.command.Command.TheVariants.{Poll}
+use Rattle.dr_meaning.specs.declared.command.Reply.{Reply}
+use Rattle.dr_meaning.specs.declared.command.Reply.TheVariants as reply
+use Rattle.dr_meaning.specs.Meaning.Machine.{Setup, State, front, gate, handlers, is_single, next, producers, step}
 use Rattle.dr_records.specs.Records.{Field}
 use Rattle.dr_drive.specs.Meaning.Lines.{event_text}
 use Rattle.dr_drive.specs.Meaning.StateLine.{ready, room}
@@ -11,22 +14,25 @@ use Rattle.dr_show.specs.declared.handlers.PollAnswer.{PollAnswer}
 use Rattle.dr_show.specs.declared.handlers.PollAnswer.TheVariants.{Retired, Batch, Drained, Gating, Idle}
 use Rattle.dr_show.specs.declared.handlers.HandlerState.{HandlerState}
 use Rattle.dr_show.specs.declared.sequences.Sequence.{Sequence}
-use Rattle.dr_show.specs.Meaning.Texts.{bool_text, comma_before}
+use Rattle.dr_show.specs.Meaning.Texts.{bool_text, bytes_text, comma_before}
 
--- what a poll is answered now
+-- a poll's reply in a word. A handler's poll for an event is refused once the handler is retired, and by nothing else.
+abbrev pub answer_of : Reply → PollAnswer
+answer_of (reply.Batch first count end) = Batch
+answer_of reply.Drained = Drained
+answer_of reply.Gating = Gating
+answer_of reply.Idle = Idle
+answer_of other = Retired
+
+-- what the machine answers a poll for an event now
 abbrev pub poll_answer : Setup → State Event → ℕ → PollAnswer
-poll_answer c m h =
-    if m.retired h then Retired
-    else if nat_lt 0 (ready c m h) then Batch
-    else if m.halted && (slice_index m.taken h == next m) then Drained
-    else if nat_lt (slice_index m.taken h) (cursor c m) then Gating
-    else Idle
+poll_answer c m h = answer_of (step c m (Poll h 1)).reply
 
 -- claims wait for a handler that is not retired, and that none follows which is not
 abbrev pub gates : Setup → State Event → ℕ → Bool
 gates c m h = is_final_without c.upstreams m.retired h
 
--- a handler now. Of those that claims wait for, who completed least holds a claim up.
+-- a handler now; `holds` tells those of the ones that claims wait for which completed least, whether or not a claim has room
 abbrev pub handler_of : Setup → State Event → ℕ → HandlerState
 handler_of c m h = record {
   taken = slice_index m.taken h;
@@ -115,7 +121,7 @@ upstream_text ups place = comma_before place ++ decimal (slice_index ups place)
 
 abbrev pub named_object : List Field → List (List ℕ) → ℕ → List ℕ
 named_object names graph h =
-    comma_before h ++ codes "{\"name\":\"" ++ slice_index_or names h [] ++ codes "\",\"upstreams\":["
+    comma_before h ++ codes "{\"name\":\"" ++ bytes_text (slice_index_or names h []) ++ codes "\",\"upstreams\":["
     ++ flat_map (upstream_text (upstreams_of graph h)) (range_with_len 0 (length (upstreams_of graph h))) ++ codes "]}"
 
 -- what an exchange is opened with
