@@ -1,5 +1,8 @@
 // The proved ring for C++ (17 or later): the calls of disruptor.h with ends that free themselves. A refusal that a caller
 // waits out, as no-room, is answered; each other one is thrown.
+#if __cplusplus < 201703L
+#error "disruptor needs C++17"
+#endif
 #ifndef DISRUPTOR_HPP
 #define DISRUPTOR_HPP
 
@@ -225,10 +228,14 @@ public:
     sending &operator=(sending &&other) noexcept {
         if (this != &other) leave();
         end::operator=(std::move(other));
-        open_ = other.open_;
+        open_ = other.open_, counts_as_gone_ = other.counts_as_gone_;
         return *this;
     }
     ~sending() { leave(); }
+    // The ring of several senders waits no longer for this one.
+    void count_as_gone() noexcept {
+        if (shared_ && !std::exchange(counts_as_gone_, true)) shared_->lose_sender();
+    }
     void close() { check_and_ring(disruptor_close(get())); }
 
 protected:
@@ -272,12 +279,13 @@ protected:
         if (!shared_) return;
         if (has_open_claim()) shared_->give_up();
         else if (disruptor_close(get()) == DISRUPTOR_OK) shared_->ring();
-        else shared_->lose_sender();
+        else count_as_gone();
     }
 
 private:
     // How many sequences are claimed and not published.
     std::uint64_t open_ = 0;
+    bool counts_as_gone_ = false;
 };
 
 class sender : public sending {

@@ -1,5 +1,8 @@
 // Rings of slots for C++ (17 or later): the events are of any type that has a default constructor, lie in an array that all ends
 // keep, and are filled, read and changed in place. A builder gives each handler of a graph a thread of its own.
+#if __cplusplus < 201703L
+#error "disruptor needs C++17"
+#endif
 #ifndef DISRUPTOR_SLOTS_HPP
 #define DISRUPTOR_SLOTS_HPP
 
@@ -13,7 +16,42 @@
 #include <sys/prctl.h>
 #endif
 
+#if !defined(DISRUPTOR_TELLS_SANITIZER)
+#if defined(__SANITIZE_THREAD__)
+#define DISRUPTOR_TELLS_SANITIZER 1
+#elif defined(__has_feature)
+#if __has_feature(thread_sanitizer)
+#define DISRUPTOR_TELLS_SANITIZER 1
+#endif
+#endif
+#endif
+#if !defined(DISRUPTOR_TELLS_SANITIZER)
+#define DISRUPTOR_TELLS_SANITIZER 0
+#endif
+#if DISRUPTOR_TELLS_SANITIZER
+extern "C" void __tsan_acquire(void *at);
+extern "C" void __tsan_release(void *at);
+#endif
+
 namespace disruptor {
+
+// The sanitizer of threads sees no atomic of the proved library, and would find a race wherever two threads use a slot in turn. So it is
+// told that what was done before a publication or a completion comes before what follows each later claim or poll of the ring. That is
+// coarse: it finds no race that this order hides. Define DISRUPTOR_TELLS_SANITIZER as 0 where the library itself is instrumented.
+inline void tell_after_look(common *ring) noexcept {
+#if DISRUPTOR_TELLS_SANITIZER
+    if (ring) __tsan_acquire(ring);
+#else
+    (void)ring;
+#endif
+}
+inline void tell_before_change(common *ring) noexcept {
+#if DISRUPTOR_TELLS_SANITIZER
+    if (ring) __tsan_release(ring);
+#else
+    (void)ring;
+#endif
+}
 
 // The events of a ring, as many as it has slots.
 template <typename T>
@@ -46,17 +84,20 @@ public:
     // Publishes an event, once there is room for it and fill(event) has filled it.
     template <typename Fill>
     void publish(Fill &&fill) {
+        static_assert(std::is_invocable_v<Fill &, T &>, "what fills an event is called as fill(event)");
         publish_batch(1, [&](T &event, std::uint64_t) { fill(event); });
     }
     // Publishes n events together, once there is room for all and fill(event, sequence) has filled each.
     template <typename Fill>
     void publish_batch(std::uint64_t n, Fill &&fill) {
+        must_take<Fill>();
         may_claim();
         fill_and_publish(claim(n, waiting_), n, fill);
     }
     // The same, or answers false where there is no room now, or another sender came first.
     template <typename Fill>
     [[nodiscard]] bool try_publish_batch(std::uint64_t n, Fill &&fill) {
+        must_take<Fill>();
         may_claim();
         const std::optional<std::uint64_t> lo = try_claim(n);
         if (lo) fill_and_publish(*lo, n, fill);
@@ -65,6 +106,7 @@ public:
     // The same, or answers false where that is so when the time is up. It may take ten milliseconds more, where it sleeps.
     template <typename Fill>
     [[nodiscard]] bool try_publish_batch_for(std::chrono::nanoseconds time, std::uint64_t n, Fill &&fill) {
+        must_take<Fill>();
         may_claim();
         const std::optional<std::uint64_t> lo = try_claim_for(time, n, waiting_);
         if (lo) fill_and_publish(*lo, n, fill);
@@ -76,12 +118,17 @@ public:
     void begin() { waiting_ = waits(slots_of(slots_).size()); }
 
 private:
+    template <typename Fill>
+    static void must_take() noexcept {
+        static_assert(std::is_invocable_v<Fill &, T &, std::uint64_t>, "what fills a batch is called as fill(event, sequence), for each event");
+    }
     void may_claim() const {
         if (has_open_claim()) throw refusal(DISRUPTOR_OPEN_CLAIM);
     }
     template <typename Fill>
     void fill_and_publish(std::uint64_t lo, std::uint64_t n, Fill &fill) {
         slots<T> &events = slots_of(slots_);
+        tell_after_look(shared_.get());
         try {
             for (std::uint64_t s = lo; s < lo + n; s++) fill(events.at(s), s);
         } catch (...) {
@@ -91,6 +138,7 @@ private:
         publish_slots(lo, n);
     }
     void publish_slots(std::uint64_t lo, std::uint64_t n) {
+        tell_before_change(shared_.get());
         check(disruptor_publish_slots(get(), lo, lo + n - 1));
         published_.set(published_.count() + n);
         published(n);
@@ -100,6 +148,13 @@ private:
     watch published_;
 };
 
+// That a handler can be called so, to say it in a sentence where it cannot.
+template <typename Handler, typename Event>
+constexpr void must_take() noexcept {
+    static_assert(std::is_invocable_v<Handler &, Event &, std::uint64_t, bool>,
+                  "a handler is called as handle(event, sequence, is_last_of_batch), and its event is const but for handle_mut");
+}
+
 // The end of a handler. It may change an event where each other handler comes before it or after it.
 template <typename T>
 class receiver_in_place : public receiving {
@@ -108,13 +163,19 @@ public:
     // Shows `handle(event, sequence, is_last_of_batch)` the next events, `room` at most, and completes them.
     template <typename Handler>
     offer receive(std::uint64_t room, Handler &&handle) {
+        must_take<Handler, T>();
         const auto take = [&] {
             offer found = {};
             check(disruptor_poll_slots(get(), room, &found));
+            tell_after_look(shared_.get());
             return polled(found);
         };
         slots<T> &events = slots_of(slots_);
-        return show(room, take, [&](std::uint64_t s) -> T & { return events.at(s); }, handle);
+        const auto tell = [&](T &event, std::uint64_t sequence, bool is_last) {
+            const told told{shared_.get()};
+            handle(event, sequence, is_last);
+        };
+        return show(room, take, [&](std::uint64_t s) -> T & { return events.at(s); }, tell);
     }
     // The same, once there are events: what it finds when the time is up, or at its cut where a handler that it follows went away, may
     // be none. It may take ten milliseconds more, where it sleeps.
@@ -142,6 +203,11 @@ public:
     }
 
 private:
+    // An event that was shown may be completed, also where its handler threw.
+    struct told {
+        common *ring;
+        ~told() { tell_before_change(ring); }
+    };
     shared_slots<T> slots_;
 };
 
@@ -196,11 +262,22 @@ template <typename T>
     return made;
 }
 
+// What was thrown says, where it is a std::exception.
+inline std::string said_by(const std::exception_ptr &thrown) {
+    try {
+        std::rethrow_exception(thrown);
+    } catch (const std::exception &it) {
+        return std::string(": ") + it.what();
+    } catch (...) {
+        return "";
+    }
+}
+
 // A handler threw: which one, and what, for std::rethrow_exception. The ring was halted, so a publication is refused with this one.
 class handler_failed : public refusal {
 public:
     handler_failed(const std::string &name, std::exception_ptr what)
-        : refusal(DISRUPTOR_HALTED, "a handler threw: " + name), name_(name), what_(std::move(what)) {}
+        : refusal(DISRUPTOR_HALTED, "a handler threw: " + name + said_by(what)), name_(name), what_(std::move(what)) {}
     const std::string &name() const noexcept { return name_; }
     std::exception_ptr thrown() const noexcept { return what_; }
 
@@ -243,10 +320,10 @@ public:
         for (std::thread &thread : threads_)
             if (thread.joinable()) thread.join();
     }
-    // Joins them, and throws handler_failed where one threw.
+    // Joins them, and throws handler_failed where one threw, each time that it is asked: of several the first.
     void finish() {
         join();
-        if (failed_->what) std::rethrow_exception(std::exchange(failed_->what, nullptr));
+        if (failed_->what) std::rethrow_exception(failed_->what);
     }
 
 private:
@@ -289,7 +366,8 @@ public:
     void halt() { halter_.halt(); }
     // How many events the handler with this name completed, or nothing where none has it. Any thread may ask that at any time.
     [[nodiscard]] std::optional<std::uint64_t> completed(const std::string &name) const { return threads_.completed(name); }
-    // Closes the ring and joins all threads; throws handler_failed where a handler threw.
+    // Closes the ring and joins all threads; throws handler_failed where a handler threw, of several that of the first. One that goes away
+    // in place of that says nothing of it.
     void finish() {
         this->close();
         threads_.finish();
@@ -300,7 +378,8 @@ private:
     handlers threads_;
 };
 
-// The same of several senders: it is halted in the end, once they are done.
+// The same of several senders. Move each out of `senders` to a thread of its own, and finish it, which waits until these are gone; or join
+// first the threads that use one where it lies. Where it goes away unfinished, it is halted at once.
 template <typename T>
 class running_of_several {
 public:
@@ -317,8 +396,11 @@ public:
         halter_->halt();
     }
     [[nodiscard]] std::optional<std::uint64_t> completed(const std::string &name) const { return threads_.completed(name); }
+    // Waits until each sender that was moved out is gone, or the ring is halted, and then until each handler had every event that was
+    // claimed; throws handler_failed where a handler threw. A sender that you moved out and still hold it waits for for ever.
     void finish() {
-        halt();
+        if (!halter_) throw refusal(DISRUPTOR_NOT_OPEN);
+        for (sender_in_place<T> &it : senders) it.count_as_gone();
         threads_.finish();
     }
 
@@ -337,14 +419,19 @@ public:
     // Adds a handler, which is shown each event: handle(const T &event, sequence, is_last_of_batch).
     template <typename Handler>
     builder &handle(const std::string &name, Handler handler) {
-        return add(name, false, [handler = std::move(handler)](receiver_in_place<T> &receiver) mutable {
-            return receiver.run_or_lose_one([&](const T &event, std::uint64_t sequence, bool is_last) { handler(event, sequence, is_last); });
+        must_take<Handler, const T>();
+        // (what a handler owns need not be copyable, as a function must be)
+        return add(name, false, [handler = std::make_shared<Handler>(std::move(handler))](receiver_in_place<T> &receiver) {
+            return receiver.run_or_lose_one([&](const T &event, std::uint64_t sequence, bool is_last) { (*handler)(event, sequence, is_last); });
         });
     }
     // Adds a handler that changes events: handle(T &event, sequence, is_last_of_batch). Each other handler comes before it or after.
     template <typename Handler>
     builder &handle_mut(const std::string &name, Handler handler) {
-        return add(name, true, [handler = std::move(handler)](receiver_in_place<T> &receiver) mutable { return receiver.run_or_lose_one(handler); });
+        must_take<Handler, T>();
+        return add(name, true, [handler = std::make_shared<Handler>(std::move(handler))](receiver_in_place<T> &receiver) {
+            return receiver.run_or_lose_one(*handler);
+        });
     }
     // The handlers that come next follow these.
     builder &after(std::initializer_list<const char *> names) {

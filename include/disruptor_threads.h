@@ -7,7 +7,8 @@
  *   disruptor_handle_changing(&graph, "fees", fees, NULL, "journal");
  *   uint32_t refused = disruptor_start(&graph);
  *
- * One thread uses a graph, and it stays where it is from the start to the end. */
+ * One thread at a time uses a graph, from the start to the end: you may pass it to another by a start, a join or a lock. Any thread may
+ * call disruptor_stop at any time, and disruptor_completed from the start to the end. The graph stays where it is meanwhile. */
 #ifndef DISRUPTOR_THREADS_H
 #define DISRUPTOR_THREADS_H
 
@@ -55,7 +56,7 @@ typedef struct disruptor_graph {
     size_t handlers, started;
     /* The first refusal while it was built. */
     uint32_t refused;
-    /* Who is at fault where it is refused, "the ring" or a handler by its name, and why. */
+    /* Who is at fault where it is refused, "the graph", "the ring" or a handler by its name, and why. */
     const char *at_fault, *why;
     /* Which handler failed first, or a null pointer, and what it answered. */
     const char *failed;
@@ -65,8 +66,20 @@ typedef struct disruptor_graph {
     pthread_mutex_t lock;
 } disruptor_graph;
 
-/* A graph over an array of events, whose length is a power of two up to 65,536. */
-#define DISRUPTOR_GRAPH(array) disruptor_graph_of(array, sizeof(array) / sizeof *(array), sizeof *(array))
+/* A graph over an array of events, whose length is a power of two up to 65,536. A pointer is no array, and does not compile. */
+#define DISRUPTOR_GRAPH(array) \
+    disruptor_graph_of(array, sizeof(array) / sizeof *(array) / sizeof(char[DISRUPTOR_IS_ARRAY(array) ? 1 : -1]), \
+                       sizeof *(array))
+#ifndef __GNUC__
+#define DISRUPTOR_IS_ARRAY(it) true
+#elif defined(__cplusplus)
+#define DISRUPTOR_IS_ARRAY(it) (!__is_same(__typeof__(it), __typeof__(&*(it))))
+#else
+#define DISRUPTOR_IS_ARRAY(it) (!__builtin_types_compatible_p(__typeof__(it), __typeof__(&*(it))))
+#endif
+
+/* A graph over `size` events of `width` bytes each from a pointer on, as those of malloc; DISRUPTOR_GRAPH(array) makes that of an array.
+ * It is a call, so a graph outside functions is assigned in one: `graph = DISRUPTOR_GRAPH(orders);` before its handlers are added. */
 static inline disruptor_graph disruptor_graph_of(void *events, uint64_t size, size_t width) {
     disruptor_graph graph = {.events = (unsigned char *)events, .width = width, .size = size, .lock = PTHREAD_MUTEX_INITIALIZER};
     return graph;
@@ -141,7 +154,8 @@ static inline void *disruptor_slot(disruptor_graph *graph, uint64_t sequence) {
     return graph->events + DISRUPTOR_SLOT(sequence, graph->size) * graph->width;
 }
 
-/* How many events the handler with this name completed, or 0 where none has it. Any thread may ask that from the start to the end. */
+/* How many events the handler with this name completed, or 0 where none has it: by whole batches, of a whole ring at most. Any thread may
+ * ask that from the start to the end. */
 static inline uint64_t disruptor_completed(const disruptor_graph *graph, const char *name) {
     const size_t k = disruptor_place_of(graph, name, strlen(name));
     return k < graph->handlers ? __atomic_load_n(&graph->works[k].completed, __ATOMIC_ACQUIRE) : 0;
@@ -272,10 +286,11 @@ static inline int disruptor_finish(disruptor_graph *graph) {
 }
 
 /* Opens the ring, and starts a thread for each handler. A graph that was finished may be started again. Refusals: those of the calls
- * that built the graph, BAD_ORDER where one that changes events has them not alone, those of disruptor_open_slots, and NO_MEMORY where a
- * thread is not started; graph.at_fault says who is at fault, and graph.why why. */
+ * that built the graph, BAD_ORDER where one that changes events has them not alone, STILL_OPEN where it has started, those of
+ * disruptor_open_slots, and NO_MEMORY where a thread is not started; graph.at_fault says who is at fault, and graph.why why. */
 static inline uint32_t disruptor_start(disruptor_graph *graph) {
     uint64_t upstreams[DISRUPTOR_MOST_HANDLERS];
+    if (graph->started) return disruptor_at_fault(graph, DISRUPTOR_STILL_OPEN, "the graph", "it has started: finish it first");
     for (size_t k = 0; k < graph->handlers; k++) upstreams[k] = graph->works[k].upstreams;
     if (graph->refused) return graph->refused;
     const char *not_alone = disruptor_not_alone(graph);

@@ -155,6 +155,8 @@ prints() { # EXPECTED COMMAND..
     [ "$(timeout 120 "$@" | tee /dev/stderr)" = "$expected" ]
 }
 ends="$size"$'\n''a claim after the halt: halted'$'\n'"$all"
+told="$size: the size is no power of two from 1 to 65536"$'\n'
+told+='a claim after the halt: halted: the ring is halted, for good: publish what is claimed, and end'$'\n'$all
 
 # The packages' tests, and the programs of `examples` over them.
 test_rust() {
@@ -168,7 +170,7 @@ test_python() {
     "$1" -m zipfile -e "$room"/packages/*.whl "$room/unpacked" && unset DISRUPTOR_LIB &&
         export PYTHONPATH=$room/unpacked PYTHONDONTWRITEBYTECODE=1 &&
         (cd "$top/bindings/python" && timeout 120 "$1" -W error -m unittest discover -s tests) &&
-        prints "$ends" "$1" "$top/examples/python/ends.py" &&
+        prints "$told" "$1" "$top/examples/python/ends.py" &&
         prints 'each handler had every record' "$1" "$top/examples/python/records.py"
 }
 
@@ -181,7 +183,7 @@ test_java() {
     for home in "$java" ${JAVA22_HOME:+"$JAVA22_HOME"}; do
         run=("$home/bin/java" -Xmx64m -cp "$jar:$classes")
         prints 'each test passed' "${run[@]}" -Xcheck:jni RingTest && prints 'each handler had every order' "${run[@]}" Orders &&
-            prints "$ends" "${run[@]}" Ends && prints "$all" "${run[@]}" Senders || return 1
+            prints "$told" "${run[@]}" Ends && prints "$all" "${run[@]}" Senders || return 1
     done
 }
 
@@ -218,9 +220,15 @@ test_maven() {
         JAVA_HOME=$java timeout 300 mvn -q -B -s settings.xml package && [ -f target/disruptor-*.jar ]
 }
 
-# Each package has the version of the header.
+# Each package has the version of the header, and where it has texts of its refusals, those of the header.
 test_versions() {
-    local version
+    local version text
+    sed -n '/^#define DISRUPTOR_REFUSALS/,/[^\\]$/s/^    of(.*, \("[^"]*"\)).*/\1/p' "$top/include/disruptor.h" > "$room/texts"
+    while read -r text; do
+        grep -F "$text" "$top/bindings/python/src/verified_disruptor/_library.py" &&
+            grep -F "$text" "$top"/bindings/java/src/main/java/org/verified/disruptor/Refusal.java || return 1
+    done < "$room/texts"
+    [ "$(wc -l < "$room/texts")" -gt 20 ] || return 1
     version=$(sed -n 's/^#define DISRUPTOR_VERSION "\(.*\)"/\1/p' "$top/include/disruptor.h")
     grep -x "version = \"$version\"" "$top/bindings/rust/Cargo.toml" && grep -x "version = \"$version\"" "$top/bindings/python/pyproject.toml" &&
         grep -x "  <version>$version</version>" "$top/bindings/java/pom.xml"

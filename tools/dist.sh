@@ -1,6 +1,6 @@
 #!/usr/bin/env bash
 # Packs what `make lib` left in the folder OUT for those who use it without the kit: a tarball with the library, the headers, the
-# packages, their examples, and in README the line of the kit that proved it.
+# packages, their examples, and in README what it is and which kit proved it.
 #
 #   tools/dist.sh OUT
 set -eu
@@ -8,6 +8,8 @@ top=$(cd "$(dirname "$0")/.." && pwd)
 out=$(cd "$1" && pwd)
 said=$(sed -n 's/^const VERSION: &str = "\(.*\)";$/\1/p' "$top/crates/dr_command_line/src/words.rt")
 [ -n "$said" ] || { echo "crates/dr_command_line/src/words.rt has no line with the version"; exit 1; }
+proved=${said#*, proved with }
+kit=${proved%% *} logic=${proved##* }
 name=disruptor-${said%%,*}-$(uname -s | tr '[:upper:]' '[:lower:]')-$(uname -m)
 room=$(mktemp -d)
 trap 'rm -rf "$room"' EXIT
@@ -54,6 +56,13 @@ say cpp share/doc/disruptor/cpp.md <<'END'
 find_package(disruptor REQUIRED)
 target_link_libraries(mine disruptor::static)   # or disruptor::shared
 ```
+
+```sh
+export PKG_CONFIG_PATH=$PWD/lib/pkgconfig
+c++ -std=c++17 -O2 my.cpp $(pkg-config --cflags --libs disruptor) -lpthread -o my
+```
+
+Where the loader does not look in `lib`, set `LD_LIBRARY_PATH`, or link `lib/libdisruptor.a`.
 END
 say java share/doc/disruptor/java.md <<'END'
 `disruptor.jar` is for the class path or the module path, as the module `org.verified.disruptor`, and has the library in it: it runs on Linux, on the same processor. `mvn install:install-file -Dfile=disruptor.jar -Dsources=disruptor-sources.jar -DpomFile=disruptor.pom` puts it into the local repository as `org.verified:disruptor`. From Java 24 on, `--enable-native-access=org.verified.disruptor` (or `ALL-UNNAMED` on the class path) spares a warning.
@@ -65,10 +74,14 @@ say rust rust/README.md <<'END'
 `rust` is the crate, for a dependency by path. It links `lib/libdisruptor.a`, which lies beside it; `DISRUPTOR_LIB` names another folder. It wants Rust 1.63 or later and no other crate. `cargo test` tests it, offline too.
 END
 cat > "$to/README" <<END
-disruptor $said
+disruptor ${said%%,*}: a verified LMAX Disruptor, as a library for five languages. One sender or several hand events to a graph of
+handlers, each on a thread of its own; each handler has every event once, in order, and only after those that it follows.
+
+The library is written in Rattle, which is Rust with contracts, and each of its functions is proved to keep its contract: the kit
+$kit checked the proofs, by its logic $logic. The headers and packages are tested.
 
 C, C++   include and lib: PKG_CONFIG_PATH names lib/pkgconfig, CMAKE_PREFIX_PATH this folder; man -M share/man disruptor
-Rust     rust is the crate, for a dependency by path
+Rust     rust is the crate verified-disruptor: cargo add --path rust
 Python   the wheel: pip install --no-index verified_disruptor-*.whl
 Java     disruptor.jar, for the class path or the module path; disruptor.pom and disruptor-sources.jar for a repository
 

@@ -15,3 +15,9 @@ try() { # PROGRAM EXPECTED
 }
 try "$room/readme.c" 'each handler had every order'
 try "$here/tests/graph.c" 'each test passed'
+# A graph over a pointer, whose events nobody can count, is not built, whatever is warned of.
+plain=("${CC:-cc}" -std=c11 -c -o "$room/object.o" -I "$here/../../include")
+printf '#include <disruptor_threads.h>\nuint64_t size(int *it) { return %s.size; }\n' 'disruptor_graph_of(it, 1, sizeof *it)' > "$room/one.c"
+sed 's/graph_of([^)]*)/GRAPH(it)/; s/disruptor_G/DISRUPTOR_G/' "$room/one.c" > "$room/pointer.c"
+"${plain[@]}" "$room/one.c"
+! "${plain[@]}" "$room/pointer.c" 2> "$room/said" && grep -q DISRUPTOR_GRAPH "$room/said"

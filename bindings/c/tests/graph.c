@@ -229,6 +229,8 @@ static void a_handler_after_the_start_is_refused(void) {
         EXPECT(disruptor_start(&graph) == DISRUPTOR_OK);
         EXPECT(disruptor_handle(&graph, "late", counts, &late, "counts") == DISRUPTOR_STILL_OPEN);
         EXPECT(is_at_fault(&graph, "late", "the graph has started"));
+        EXPECT(disruptor_start(&graph) == DISRUPTOR_STILL_OPEN);
+        EXPECT(is_at_fault(&graph, "the graph", "it has started: finish it first"));
         EXPECT(disruptor_next(&graph, 1, &lo) == DISRUPTOR_OK && disruptor_send(&graph, lo, 1) == DISRUPTOR_OK);
         EXPECT(disruptor_finish(&graph) == 0 && counted == round + 1 && late == 0);
     }
@@ -236,6 +238,16 @@ static void a_handler_after_the_start_is_refused(void) {
     EXPECT(disruptor_handle(&graph, "late", counts, &late, "counts") == DISRUPTOR_OK);
     EXPECT(disruptor_start(&graph) == DISRUPTOR_OK);
     EXPECT(disruptor_next(&graph, 1, &lo) == DISRUPTOR_OK && disruptor_finish(&graph) == 0 && late == 1);
+}
+
+/* (a ring over what a pointer leads to has the size that it is told) */
+static void a_graph_lies_over_a_pointer_too(void) {
+    uint64_t lo = 0, counted = 0, *const own = malloc(8 * sizeof *own);
+    disruptor_graph graph = disruptor_graph_of(own, 8, sizeof *own);
+    disruptor_handle(&graph, "counts", counts, &counted, NULL);
+    EXPECT(own && disruptor_start(&graph) == DISRUPTOR_OK && disruptor_next(&graph, 8, &lo) == DISRUPTOR_OK);
+    EXPECT(disruptor_slot(&graph, lo + 7) == own + 7 && disruptor_finish(&graph) == 0 && counted == 8);
+    free(own);
 }
 
 static disruptor_graph stopped;
@@ -299,6 +311,7 @@ int main(void) {
     a_handler_whose_thread_ends_halts_the_ring();
     a_graph_that_failed_may_be_started_again();
     a_handler_after_the_start_is_refused();
+    a_graph_lies_over_a_pointer_too();
     a_graph_may_be_stopped_at_any_time();
     a_handler_may_keep_its_thread_on_a_processor();
     puts("each test passed");

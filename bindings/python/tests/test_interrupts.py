@@ -23,12 +23,16 @@ class Event:
 
 
 class OnceJoined:
-    """In place of a thread: it runs when it is joined, so that one that has to wait then would wait for ever."""
+    """In place of a thread: it runs when it is joined first, so that one that has to wait then would wait for ever."""
 
     ident = None
 
     def __init__(self, target, args, name, daemon):
-        self.join = lambda: target(*args)
+        self._work = [lambda: target(*args)]
+
+    def join(self):
+        while self._work:
+            self._work.pop()()
 
     def start(self):
         self.ident = 1
@@ -145,6 +149,25 @@ with seen.sender() as sender:
 """
         ran = subprocess.run([sys.executable, "-c", program], capture_output=True, text=True, timeout=20)
         self.assertEqual((ran.stdout, ran.stderr.splitlines()[-1]), ("7\n", "KeyboardInterrupt"))
+
+    def test_an_interrupt_while_the_with_waits_takes_no_event_from_its_handlers(self):
+        program = """
+import os, signal, time
+from verified_disruptor import Disruptor
+
+class Event: pass
+
+def handle(event, sequence, is_last):
+    time.sleep(0.1)
+    if sequence == 1: os.kill(os.getpid(), signal.SIGINT)
+    print(sequence, flush=True)
+
+with Disruptor(4, Event).handle("slow", handle).sender() as sender:
+    with sender.events(4): pass
+"""
+        ran = subprocess.run([sys.executable, "-c", program], capture_output=True, text=True, timeout=20)
+        self.assertEqual(ran.stdout.split(), ["0", "1", "2", "3"])
+        self.assertIn("KeyboardInterrupt", ran.stderr.splitlines()[-1])
 
 
 class Receipts(unittest.TestCase):

@@ -172,8 +172,9 @@ class Ring(unittest.TestCase):
         }.items():
             with self.assertRaisesRegex(ValueError, word):
                 build()
-        self.refused(Reason.BAD_SIZE, Disruptor(5, Event).handle("a", print).sender().__enter__)
-        self.refused(Reason.BAD_SIZE, Disruptor(1 << 60, Event).handle("a", print).sender().__enter__)
+        for size in (0, -1, 5, 1 << 17, 1 << 60):
+            self.refused(Reason.BAD_SIZE, Disruptor, size, Event)
+        self.assertRaises(ValueError, lambda: Disruptor(4, record="QI"))
         self.refused(Reason.NO_HANDLERS, Disruptor(4, Event).sender().__enter__)
         self.refused(Reason.BAD_PRODUCERS, one().senders(17).__enter__)
 
@@ -192,6 +193,32 @@ class Ring(unittest.TestCase):
         self.assertEqual(raised.exception.name, "first")
         self.assertEqual(str(raised.exception.__cause__), "too large")
         self.assertTrue(all(number < 10 for number in seen))
+
+    def test_what_a_body_raises_shows_the_handlers_that_failed_too(self):
+        both = threading.Barrier(2)
+
+        def fail(event, sequence, is_last):
+            both.wait()
+            raise ValueError("too large")
+
+        disruptor = Disruptor(4, Event).handle("one", fail).handle("other", fail)
+        for raised in (KeyboardInterrupt(), ZeroDivisionError()):
+            with self.assertRaises(type(raised)), disruptor.sender() as sender:
+                send(sender, [1])
+                raise raised
+            failure = raised.__context__
+            self.assertIsInstance(failure, HandlerFailed)
+            self.assertEqual({failure.name, *(it.name for it in failure.others)}, {"one", "other"})
+            self.assertRegex(str(failure), r"the handler \w+ raised, then \w+: ValueError\('too large'\)$")
+            self.assertEqual([str(it.__cause__) for it in (failure, *failure.others)], ["too large"] * 2)
+        # (at the end of what an exception came of)
+        with self.assertRaises(KeyError) as caught, disruptor.sender() as sender:
+            send(sender, [1])
+            try:
+                raise ZeroDivisionError
+            except ZeroDivisionError as error:
+                raise KeyError from error
+        self.assertIsInstance(caught.exception.__cause__.__context__, HandlerFailed)
 
     def test_who_follows_one_that_fails_has_what_it_completed_and_others_have_all(self):
         claimed, follows, counts = threading.Event(), [], []
@@ -273,6 +300,9 @@ class Ring(unittest.TestCase):
             self.refused(Reason.BAD_ORDER, ends_of, 4, [0, n])
             self.refused(Reason.BAD_PRODUCERS, ends_of, 4, [0], n)
             self.refused(Reason.BAD_LIMIT, Ends, 4, lambda size: Events(size, Event), [0], None, n)
+        for call in (ends.senders[0].events(2.0).__enter__, lambda: ends_of(4.0, [0]), lambda: Disruptor(4.0, Event)):
+            with self.assertRaisesRegex(TypeError, "'float' object cannot be interpreted as an integer"):
+                call()
         self.assertEqual(ends.senders[0].progress(), (0, 0))
 
     def test_an_event_outside_a_with_is_not_claimed(self):
@@ -377,8 +407,29 @@ class Ring(unittest.TestCase):
         self.assertEqual(one_by_one, [(0, 1, 0), (2, 3, 1), (4, 5, 2)])
         self.assertRaises(ValueError, Records, 4, "QI")
 
-    def test_a_reason_prints_its_name(self):
-        self.assertEqual((str(Reason.NO_ROOM), f"{Reason.NO_ROOM}", str(Refusal(1)), int(Reason.NO_ROOM)), ("no-room", "no-room", "no-room", 1))
+    def test_a_handler_that_only_reads_changes_no_record(self):
+        seen = []
+
+        def change(record, sequence, is_last):
+            record[1] = 2 * record[0]
+
+        def change_batch(views, first):
+            views[0][0] = 9
+
+        for name, handler in (("handle", change), ("handle_batches", change_batch)):
+            disruptor = getattr(Disruptor(4, record="QQ"), name)("changes", handler)
+            with self.assertRaises(HandlerFailed) as raised, disruptor.sender() as sender:
+                sender.send(array.array("Q", [1, 1]))
+            self.assertEqual(type(raised.exception.__cause__), TypeError)
+        disruptor = Disruptor(4, record="QQ").handle("changes", change, changes=True).and_then()
+        disruptor.handle("sees", lambda record, sequence, is_last: seen.append(list(record)))
+        with disruptor.sender() as sender:
+            sender.send(array.array("Q", [1, 1]))
+        self.assertEqual(seen, [[1, 2]])
+
+    def test_a_reason_prints_its_name_and_a_refusal_says_what_it_means(self):
+        self.assertEqual((str(Reason.NO_ROOM), f"{Reason.NO_ROOM}", int(Reason.NO_ROOM)), ("no-room", "no-room", 1))
+        self.assertEqual(str(Refusal(31)), "bad-size: the size is no power of two from 1 to 65536")
 
     def test_a_thread_that_sleeps_is_woken(self):
         late = []

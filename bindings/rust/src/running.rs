@@ -61,8 +61,8 @@ impl Threads {
         }
     }
 
-    fn completed(&self, name: &str) -> Option<u64> {
-        self.0.iter().find(|it| it.name == name).map(|it| it.completed.count())
+    fn watch_of(&self, name: &str) -> Option<Watch> {
+        self.0.iter().find(|it| it.name == name).map(|it| it.completed.clone())
     }
 }
 
@@ -150,7 +150,7 @@ impl<T: Send + Sync> Disruptor<T> {
         self.sender().progress()
     }
 
-    /// Closes the ring, and waits until each handler had every event.
+    /// Closes the ring, and waits until each handler had every event. Who drops the run instead is not told of panics.
     pub fn finish(mut self) -> Result<(), Panicked> {
         self.end()
     }
@@ -165,9 +165,14 @@ impl<T: Send + Sync> Disruptor<T> {
         self.halter.clone()
     }
 
-    /// How many events the handler with this name completed.
+    /// How many events the handler with this name completed by now.
     pub fn completed(&self, name: &str) -> Option<u64> {
-        self.threads.completed(name)
+        Some(self.watch_of(name)?.count())
+    }
+
+    /// The same for any thread, and still there after the end.
+    pub fn watch_of(&self, name: &str) -> Option<Watch> {
+        self.threads.watch_of(name)
     }
 }
 
@@ -177,7 +182,8 @@ impl<T: Send + Sync> Drop for Disruptor<T> {
     }
 }
 
-/// A ring of several senders whose handlers run. Take the senders, and finish it once they are done.
+/// A ring of several senders whose handlers run. Take the senders, each for a thread of its own, and finish it: that waits for them.
+/// Where it is dropped instead, it is halted at once.
 pub struct Senders<T: Send + Sync> {
     senders: Vec<Sender<T>>,
     threads: Threads,
@@ -189,19 +195,16 @@ impl<T: Send + Sync> Senders<T> {
         Senders { senders, threads, halter }
     }
 
-    /// The senders, the first time.
+    /// The senders, the first time. [`Senders::finish`] waits until each is dropped.
     pub fn take(&mut self) -> Vec<Sender<T>> {
         std::mem::take(&mut self.senders)
     }
 
-    fn end(&mut self) -> Result<(), Panicked> {
-        self.halter.halt();
-        self.threads.join()
-    }
-
-    /// Halts the ring, and waits until each handler had every event that was claimed.
+    /// Waits until each sender that was taken is dropped, or the ring is halted, and then until each handler had every event that was
+    /// claimed. Drop a sender that you hold yourself first, or it waits for ever. Who drops the run instead is not told of panics.
     pub fn finish(mut self) -> Result<(), Panicked> {
-        self.end()
+        self.senders.clear();
+        self.threads.join()
     }
 
     /// Halts the ring: from now on a publication is refused.
@@ -209,14 +212,25 @@ impl<T: Send + Sync> Senders<T> {
         self.halter.halt();
     }
 
-    /// How many events the handler with this name completed.
+    /// What halts the ring from any thread.
+    pub fn halter(&self) -> Halter<T> {
+        self.halter.clone()
+    }
+
+    /// How many events the handler with this name completed by now.
     pub fn completed(&self, name: &str) -> Option<u64> {
-        self.threads.completed(name)
+        Some(self.watch_of(name)?.count())
+    }
+
+    /// The same for any thread, and still there after the end.
+    pub fn watch_of(&self, name: &str) -> Option<Watch> {
+        self.threads.watch_of(name)
     }
 }
 
 impl<T: Send + Sync> Drop for Senders<T> {
     fn drop(&mut self) {
-        let _ = self.end();
+        self.halter.halt();
+        let _ = self.threads.join();
     }
 }

@@ -5,7 +5,7 @@ use std::sync::atomic::{AtomicBool, AtomicUsize, Ordering};
 use std::sync::Arc;
 use std::time::Duration;
 use verified_disruptor::{
-    open, open_several, pin, Broken, Builder, Counts, Fault, Plan, Polled, Refusal, Wait, MAX_LIMIT,
+    open, open_several, pin, Broken, Builder, Counts, Fault, Plan, Polled, Refusal, Senders, Wait, Watch, MAX_LIMIT,
 };
 
 fn plan(size: u64, upstreams: &[u64]) -> Plan {
@@ -159,7 +159,7 @@ fn graphs_are_refused_by_name() {
     for senders in [0, 17, usize::MAX] {
         assert_eq!(one().build_several(senders).err(), Some(Fault::Refused(Refusal::BadProducers)));
     }
-    assert_eq!(Refusal::BadSize.to_string(), "bad-size");
+    assert_eq!(Refusal::BadSize.to_string(), "bad-size: the size is no power of two from 1 to 65536");
 }
 
 #[test]
@@ -172,10 +172,13 @@ fn a_handler_that_panics_halts_the_ring_and_is_named() {
         .handle("second", move |event, _, _| own.store(*event as usize, Ordering::SeqCst))
         .build()
         .unwrap();
+    let counts = ["first", "second"].map(|name| disruptor.watch_of(name).unwrap());
     let refused = (0..100).find_map(|k| disruptor.publish(|event| *event = k).err());
     assert_eq!(refused, Some(Refusal::Halted));
     let panicked = disruptor.finish().unwrap_err();
     assert_eq!(panicked.names(), ["first"]);
+    // (the counts outlive the run)
+    assert_eq!(counts.map(|it| it.count()), [10, 10]);
     assert!(catch_unwind(AssertUnwindSafe(|| panicked.resume())).is_err());
     assert!(seen.load(Ordering::SeqCst) < 10);
 }
@@ -272,6 +275,48 @@ fn several_senders_share_a_ring() {
     }
 }
 
+fn run_of_several(senders: usize) -> (Senders<u64>, Watch) {
+    let disruptor = Builder::new(8, || 0u64).handle("counts", |_, _, _| ()).build_several(senders).unwrap();
+    let counts = disruptor.watch_of("counts").unwrap();
+    (disruptor, counts)
+}
+
+#[test]
+fn a_run_of_several_waits_for_the_senders_that_were_taken() {
+    let (mut disruptor, counts) = run_of_several(3);
+    for mut sender in disruptor.take() {
+        std::thread::spawn(move || {
+            std::thread::sleep(Duration::from_millis(30));
+            (0..100).for_each(|_| sender.publish(|_| ()).unwrap());
+        });
+    }
+    disruptor.finish().unwrap();
+    assert_eq!(counts.count(), 300);
+}
+
+#[test]
+fn a_run_of_several_waits_for_no_other_sender() {
+    run_of_several(2).0.finish().unwrap();
+    // (a halt ends the ring at once, of another thread too, and so does dropping it)
+    for is_by_another in [false, true] {
+        let (mut disruptor, counts) = run_of_several(2);
+        let mut senders = disruptor.take();
+        senders[1].publish(|_| ()).unwrap();
+        if is_by_another {
+            let halter = disruptor.halter();
+            std::thread::spawn(move || halter.halt());
+        } else {
+            disruptor.halt();
+        }
+        disruptor.finish().unwrap();
+        assert_eq!((senders[1].publish(|_| ()), counts.count()), (Err(Refusal::Halted), 1));
+    }
+    let (mut disruptor, _) = run_of_several(2);
+    let mut senders = disruptor.take();
+    drop(disruptor);
+    assert_eq!(senders[0].publish(|_| ()), Err(Refusal::Halted));
+}
+
 #[test]
 fn a_halted_ring_of_several_drains() {
     let (mut senders, mut receivers, halter) = open_several(&plan(8, &[0]), 2, || 0u64).unwrap();
@@ -315,10 +360,15 @@ fn any_thread_may_watch_how_far_the_ends_came() {
     assert_eq!(counts, (5, 3));
     let mut disruptor = Builder::new(8, || 0u64).handle("reads", |_: &u64, _, _| ()).build().unwrap();
     disruptor.publish(|_| ()).unwrap();
-    while disruptor.completed("reads") != Some(1) {
-        std::thread::yield_now();
-    }
-    assert_eq!((disruptor.watch().count(), disruptor.completed("writes")), (1, None));
+    let reads = disruptor.watch_of("reads").unwrap();
+    let other = std::thread::spawn(move || {
+        while reads.count() != 1 {
+            std::thread::yield_now();
+        }
+    });
+    other.join().unwrap();
+    assert_eq!((disruptor.completed("reads"), disruptor.watch().count()), (Some(1), 1));
+    assert!(disruptor.completed("writes").is_none() && disruptor.watch_of("writes").is_none());
 }
 
 #[test]

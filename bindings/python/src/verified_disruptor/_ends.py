@@ -177,13 +177,16 @@ class Sender(_End):
             self.publish_claim()
 
     def event(self, timeout: float | None = None) -> _Claim:
-        """The next event, once there is room, for a `with` that fills it: `with sender.event() as order: order.price = 3`.
+        """The next event, once there is room, for a `with` that fills it: `with sender.event() as order: order.price = 3`. A record
+        is a flat view of its items.
 
         Where there is none after `timeout` seconds, that raises a Refusal, NO_ROOM or CONTENDED; it may take ten milliseconds more."""
         return _Claim(self, 1, False, timeout)
 
     def events(self, n: int, timeout: float | None = None) -> _Claim:
-        """The next `n` events, once there is room for all, for a `with` that fills each: a list, or views of records."""
+        """The next `n` events, once there is room for all, for a `with` that fills each: a list.
+
+        Of records it is one view of all their items, flat, or two where they go round the end of the slots; fill each item of each."""
         return _Claim(self, n, True, timeout)
 
     def send(self, records: Any, timeout: float | None = None) -> None:
@@ -216,11 +219,15 @@ class Receiver(_End):
     def __init__(self, ends: Ends, handle: int, place: int, upstreams: int):
         super().__init__(ends, handle)
         self._own, self._upstreams = 1 << place, upstreams | _WHOLE
-        self._offer, self._waiting = Offer(), Waiting(ends.bell)
+        self._offer, self._waiting, self._slots = Offer(), Waiting(ends.bell), ends.slots
         self._offer_at = ctypes.addressof(self._offer)
         # (how many events it completed, which any thread may read)
         self.completed = self._shown = self._taken = 0
         self.is_drained = self._is_showing = False
+
+    def only_reads(self) -> None:
+        """Shows records from now on by views that refuse to change them."""
+        self._slots = self._ends.slots.to_read()
 
     def _complete(self, upto: int) -> None:
         if upto != self.completed:
@@ -232,7 +239,7 @@ class Receiver(_End):
         """How many events to show next, `room` at most, once there are any, or 0 where none come any more, or none came in time."""
         if self._is_showing:
             raise RuntimeError("a handler receives by its own end")
-        size = self._ends.slots.size
+        size = self._slots.size
         room = size if room is None else min(number_or(0, room), size)
         if not room:
             raise Refusal(Reason.BAD_COUNT)
@@ -281,7 +288,7 @@ class Receiver(_End):
         last = done + count - 1
         try:
             self._is_showing = True
-            for event in self._ends.slots.each(done, count):
+            for event in self._slots.each(done, count):
                 # (from here on it counts as handled; an interrupt between two events takes none away)
                 self._shown = done + 1
                 handle(event, done, done == last)
@@ -310,7 +317,7 @@ class Receiver(_End):
         Where it raises, nothing of the batch is completed; it counts as handled if it is run again."""
         while count := self._take(room):
             first = self._shown
-            events = self._ends.slots.stretch(first, count)
+            events = self._slots.stretch(first, count)
             self._shown += count
             try:
                 self._is_showing = True

@@ -4,6 +4,7 @@ from __future__ import annotations
 
 import struct
 from collections.abc import Callable, Iterable
+from copy import copy
 from typing import Any
 
 
@@ -13,6 +14,10 @@ class Events:
     def __init__(self, size: int, factory: Callable[[], Any]):
         self.size = size
         self.items = [factory() for _ in range(size)]
+
+    def to_read(self) -> Events:
+        """The same for a handler that only reads, which is not checked of events."""
+        return self
 
     def at(self, sequence: int) -> Any:
         """The event of a sequence."""
@@ -48,6 +53,12 @@ class Records:
             raise ValueError("a record has items of one kind")
         self.size, self.width, self.bytes = size, len(record), struct.calcsize(record)
         self.items = memoryview(bytearray(size * self.bytes)).cast(record[0])
+
+    def to_read(self) -> Records:
+        """The same for a handler that only reads: whoever changes one by its views is refused with TypeError."""
+        own = copy(self)
+        own.items = self.items.toreadonly()
+        return own
 
     def like(self, buffer: Any) -> memoryview:
         """The items of a buffer, which has whole records: as bytes, or with items of the same kind."""

@@ -13,7 +13,7 @@ fn plan(size: u64) -> Plan {
 
 fn main() -> Result<(), Box<dyn Error>> {
     if let Err(refusal) = open(&plan(1000), u64::default) {
-        println!("a ring of 1000 slots: {refusal}");
+        println!("a ring of 1000 slots: {}", refusal.name());
     }
     let (mut sender, receivers, halter) = open(&plan(1024), u64::default)?;
     let threads: Vec<_> = receivers
@@ -29,7 +29,7 @@ fn main() -> Result<(), Box<dyn Error>> {
         sender.publish_batch(CLAIM, |batch| batch.zip(sent..).for_each(|(event, number)| *event = number))?;
     }
     halter.halt();
-    println!("a claim after the halt: {}", sender.try_publish(|_event| ()).unwrap_err());
+    println!("a claim after the halt: {}", sender.try_publish(|_event| ()).unwrap_err().name());
     // Dropping the sender closes the ring: each handler is done once it had every event.
     drop(sender);
     for thread in threads {

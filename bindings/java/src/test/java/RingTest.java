@@ -1,5 +1,8 @@
+import java.io.PrintWriter;
+import java.io.StringWriter;
 import java.util.ArrayList;
 import java.util.List;
+import java.util.Set;
 import java.util.concurrent.Callable;
 import java.util.concurrent.CountDownLatch;
 import java.util.concurrent.TimeUnit;
@@ -199,7 +202,10 @@ public final class RingTest {
         expect(fault(() -> one(4).handle("a", none)), "two handlers have the name a");
         expect(fault(() -> one(4).handleChanging("b", none).start()),
                 "b would change events that another handler reads at the same time");
-        refused(Refusal.Reason.BAD_SIZE, () -> one(5).start());
+        for (int size : new int[] {0, -4, Integer.MIN_VALUE, 5, 1 << 17}) {
+            refused(Refusal.Reason.BAD_SIZE, () -> new Disruptor<>(Event::new, size));
+        }
+        expect(fault(() -> one(5)), "bad-size: the size is no power of two from 1 to 65536");
         refused(Refusal.Reason.NO_HANDLERS, () -> new Disruptor<>(Event::new, 4).start());
         refused(Refusal.Reason.BAD_PRODUCERS, () -> one(4).startSeveral(Integer.MAX_VALUE));
         refused(Refusal.Reason.BAD_PRODUCERS, () -> one(4).startSeveral(0));
@@ -227,12 +233,36 @@ public final class RingTest {
         expect(failed.handler(), "first");
         expect(failed.getCause().getMessage(), "too large");
         // (the refusal says which one)
-        expect(fault(() -> disruptor.publishEvent(RingTest::fill)), "halted");
+        expect(fault(() -> disruptor.publishEvent(RingTest::fill)).split(":")[0], "halted");
         expect(thrown(() -> {
             disruptor.publishEvent(RingTest::fill);
             return null;
         }).getCause(), failed);
         expect(most.get() < 10, true);
+    }
+
+    private static void aPublicationThatIsRefusedShowsEachHandlerThatFailedOnce() {
+        CountDownLatch both = new CountDownLatch(2);
+        EventHandler<Event> fails = (event, sequence, endOfBatch) -> {
+            both.countDown();
+            both.await();
+            throw new IllegalStateException("too large");
+        };
+        Throwable refusal = thrown(() -> {
+            try (Disruptor<Event> disruptor = new Disruptor<>(Event::new, 4)) {
+                disruptor.handle("one", fails).handle("other", fails).start();
+                while (true) {
+                    disruptor.publishEvent(RingTest::fill);
+                }
+            }
+        });
+        StringWriter trace = new StringWriter();
+        refusal.printStackTrace(new PrintWriter(trace));
+        expect(trace.toString().contains("CIRCULAR"), false);
+        HandlerFailed failed = (HandlerFailed) refusal.getCause();
+        HandlerFailed next = (HandlerFailed) failed.getSuppressed()[0];
+        expect(Set.of(failed.handler(), next.handler()), Set.of("one", "other"));
+        expect(next.getCause().getMessage(), "too large");
     }
 
     private static void onceItStartedNoHandlerIsAddedAndANameIsOneOfItsOwn() {
@@ -383,6 +413,7 @@ public final class RingTest {
         thoseWhoFollowOneThatGaveUpEnd();
         graphsAreRefusedByName();
         aHandlerThatThrowsHaltsTheRingAndIsNamed();
+        aPublicationThatIsRefusedShowsEachHandlerThatFailedOnce();
         onceItStartedNoHandlerIsAddedAndANameIsOneOfItsOwn();
         aTranslatorThatPublishesIsRefused();
         whoFollowsOneThatFailsHasWhatItCompletedAndOthersHaveAll();

@@ -13,6 +13,7 @@ import java.util.function.Supplier;
  */
 public final class Disruptor<T> implements AutoCloseable {
     private static final int MOST_HANDLERS = 16;
+    private static final int MOST_SLOTS = 65_536;
 
     private static final class Handler<T> {
         final String name;
@@ -41,6 +42,9 @@ public final class Disruptor<T> implements AutoCloseable {
 
     /** For a ring of {@code size} slots, a power of two up to 65,536. The factory makes the event of each. */
     public Disruptor(Supplier<? extends T> factory, int size) {
+        if (size < 1 || size > MOST_SLOTS || Integer.bitCount(size) != 1) {
+            throw new Refusal(Refusal.Reason.BAD_SIZE.number());
+        }
         this.factory = factory;
         this.size = size;
     }
@@ -108,7 +112,10 @@ public final class Disruptor<T> implements AutoCloseable {
         }
     }
 
-    /** Adds handlers that follow none. Their names are {@code handler-0} and so on; whether one changes events is not checked. */
+    /**
+     * Adds handlers that follow none. Their names are {@code handler-} and how many were added before, from {@code handler-0} on: for
+     * {@link #completed}, {@link #after}, and {@link HandlerFailed}. Whether one changes events is not checked.
+     */
     @SafeVarargs
     @SuppressWarnings("varargs")
     public final EventHandlerGroup handleEventsWith(EventHandler<? super T>... next) {
@@ -152,9 +159,12 @@ public final class Disruptor<T> implements AutoCloseable {
     }
 
     private synchronized void fail(String name, Throwable thrown) {
+        HandlerFailed own = new HandlerFailed(name, thrown);
         if (failed == null) {
-            failed = new HandlerFailed(name, thrown);
+            failed = own;
             ring.fail(failed);
+        } else {
+            failed.addSuppressed(own);
         }
     }
 
@@ -210,7 +220,7 @@ public final class Disruptor<T> implements AutoCloseable {
         return end;
     }
 
-    /** Publishes an event by the one sender, once there is room for it and it is filled. */
+    /** Publishes an event by the one sender, once there is room for it and it is filled. An interrupt ends no wait for room. */
     public void publishEvent(EventTranslator<? super T> translator) {
         started(sender).publishEvent(translator);
     }
@@ -220,12 +230,14 @@ public final class Disruptor<T> implements AutoCloseable {
         started(sender).publishEvents(n, translator);
     }
 
-    /** How many events the handler with this name completed. Any thread may ask that once it has started. */
+    /**
+     * How many events the handler with this name completed, by whole batches. Any thread may ask that once it has started.
+     */
     public long completed(String name) {
         return started(ring).receivers().get(place(name)).completed();
     }
 
-    /** Halts the ring, from any thread: from now on a publication is refused. */
+    /** Halts the ring, from any thread: from now on a publication is refused, one that waits for room too. */
     public void halt() {
         started(ring).halt();
     }
@@ -233,7 +245,7 @@ public final class Disruptor<T> implements AutoCloseable {
     /**
      * Closes the ring, or halts one of several senders, and waits until each handler had every event.
      *
-     * @throws HandlerFailed if a handler threw
+     * @throws HandlerFailed if a handler threw: the first one, and of each other one such an exception is suppressed by it
      */
     public void shutdown() {
         if (ring == null) {

@@ -1,6 +1,6 @@
 package org.verified.disruptor;
 
-/** A handler threw, and so the ring was halted: the cause is what it threw. */
+/** A handler threw, and so the ring was halted: the cause is what it threw. Where more did, it suppresses one of these for each. */
 public final class HandlerFailed extends RuntimeException {
     private static final long serialVersionUID = 1;
     private final String handler;

@@ -79,7 +79,7 @@ public final class Sender<T> {
         }
     }
 
-    /** Publishes an event, once there is room for it and it is filled. */
+    /** Publishes an event, once there is room for it and it is filled. An interrupt ends no wait for room; a halt does. */
     public void publishEvent(EventTranslator<? super T> translator) {
         fillAndPublish(claim(1), 1, translator);
     }
