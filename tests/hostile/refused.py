@@ -242,10 +242,10 @@ def refuse_all_once_open(refusing, calls):
         refusing.judge(f"calls of case {case}, all memory refused once it is open", holds, (met, whole))
 
 
-def refuse_in_ledger(refusing, program):
+def refuse_in_ledger(refusing, program, by):
     """A ledger that finds no memory has stored what it answered, and goes on from that when it is started again."""
     files = [refusing.path(name) for name in ("journal", "replica")]
-    words = [program, "ledger", "--journal", files[0], "--replica", files[1]]
+    words = [program, "ledger", "--by", by, "--journal", files[0], "--replica", files[1]]
     kinds, whole = Counter(), None
     for at in itertools.count(0):
         for file in files:
@@ -254,7 +254,7 @@ def refuse_in_ledger(refusing, program):
         met = refusing.run(words, OPERATIONS.encode(), **({"at": at} if at else {}))
         if not at:
             whole = met.ran
-            refusing.judge("a ledger with ample memory", whole.status == 0 and whole.out.count(b"\n") == 4, met)
+            refusing.judge(f"a ledger by {by} with ample memory", whole.status == 0 and whole.out.count(b"\n") == 4, met)
             continue
         if met.ran == whole and not met.refused:
             break
@@ -266,9 +266,9 @@ def refuse_in_ledger(refusing, program):
         stops = met.ran == whole or met.ran.status == 3 and ends
         holds = met.refused == 1 and stops and began and stored >= met.ran.out.count(b"\n")
         if not holds:
-            return refusing.judge(f"a ledger, request {at} refused", False, (met, again))
+            return refusing.judge(f"a ledger by {by}, request {at} refused", False, (met, again))
         kinds[stored] += 1
-    refusing.judge("a ledger, out of memory before and after it stored", kinds[0] and kinds[4], kinds)
+    refusing.judge(f"a ledger by {by}, out of memory before and after it stored", kinds[0] and kinds[4], kinds)
 
 
 def write_to_the_disk(refusing, program):
@@ -286,7 +286,8 @@ def main():
         refuse_in_drive(refusing, program)
         refuse_in_show(refusing, program)
         refuse_in_replays(refusing, program)
-        refuse_in_ledger(refusing, program)
+        for by in ("plain", "ring"):
+            refuse_in_ledger(refusing, program, by)
         refuse_in_replay_of_one(refusing, program)
         refuse_threads(refusing, program, calls)
         refuse_in_calls(refusing, calls)

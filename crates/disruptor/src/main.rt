@@ -16,7 +16,7 @@ use crate::page::{AFTER, BEFORE};
 use crate::progress::Progress;
 use crate::watched::{Input, Output};
 use dr_check::{CheckFault, check_drive, check_replay};
-use dr_command_line::{By, LineFault, Plan, Tool, plan};
+use dr_command_line::{By, LedgerBy, LineFault, Plan, Tool, plan};
 use dr_drive::{DriveFault, drive_telling};
 use dr_files::FileFault;
 use dr_ledger::{LedgerFault, StartFault};
@@ -290,11 +290,34 @@ fn check_file(rt: &HostRuntime, tool: Tool, file: &str) -> Result<(), Fault> {
     }
 }
 
-fn run<T: Threads + Wait + Sync>(rt: &HostRuntime, workers: &T) -> Result<(), Fault> {
+// Serves a ledger.
+fn ledger<T: Threads + Wait + Copy + Send + 'static>(
+    rt: &HostRuntime,
+    workers: T,
+    journal: &str,
+    replica: Option<String>,
+    size: Size,
+    by: LedgerBy,
+) -> Result<(), Fault> {
+    match by {
+        LedgerBy::Plain => live::serve(rt, journal, replica),
+        LedgerBy::Ring => live::serve_by_ring(rt, workers, size, journal, replica),
+    }
+}
+
+fn run<T: Threads + Wait + Sync + Copy + Send + 'static>(
+    rt: &HostRuntime,
+    workers: &T,
+) -> Result<(), Fault> {
     let (file, output, task) = match read_plan(rt).map_err(Fault::Line)? {
         Plan::Help(text) => return print(rt, text),
         Plan::Check { tool, file } => return check_file(rt, tool, file.as_str()),
-        Plan::Ledger { journal, replica } => return live::serve(rt, journal.as_str(), replica),
+        Plan::Ledger {
+            journal,
+            replica,
+            size,
+            by,
+        } => return ledger(rt, *workers, journal.as_str(), replica, size, by),
         Plan::Journal { file } => return live::print(rt, file.as_str()),
         Plan::Drive {
             file,

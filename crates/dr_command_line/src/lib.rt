@@ -5,5 +5,5 @@ mod plans;
 mod show;
 mod words;
 
-pub use plans::{By, LineFault, Plan, Tool};
+pub use plans::{By, LedgerBy, LineFault, Plan, Tool};
 pub use words::plan;

@@ -14,17 +14,13 @@ use std::io::Read;
 
 /// The operations that a read brought, and what comes after them: whether more may come, or a fault.
 #[derive(Drop)]
-pub(crate) struct Batch {
-    pub(crate) events: Vec<Event>,
-    pub(crate) then: Result<bool, LedgerFault>,
+pub struct Batch {
+    pub events: Vec<Event>,
+    pub then: Result<bool, LedgerFault>,
 }
 
-/// Reads once. A read that fails brings nothing.
-pub(crate) fn read_batch<R: Read>(
-    alloc: Global,
-    stream: &mut EventStream,
-    input: &mut Counted<R>,
-) -> Batch
+/// Reads once, and gives the operations of the records that are whole now. A read that fails brings nothing.
+pub fn read_batch<R: Read>(alloc: Global, stream: &mut EventStream, input: &mut Counted<R>) -> Batch
     requires { faults_of input.old < 2 ^ 64 - 1 }
     ensures came { TurnCame result.then stream.old stream.new (R.remaining (inner_of input.old)) (R.remaining (inner_of input.new)) result.events.items }
     ensures none { result.then ≡ Err ReadFailed → result.events.items ≡ [] }

@@ -1,0 +1,4 @@
+pub mod Crossing
+mod Tellings
+mod Sendings
+mod Storings

@@ -1,0 +1,5 @@
+pub mod Answering
+pub mod Feeding
+pub mod Serving
+pub mod Storing
+pub mod Ending

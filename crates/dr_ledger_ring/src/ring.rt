@@ -1,0 +1,177 @@
+//! A ledger's run over the ring.
+
+ghost use Rattle.std.specs.Prelude.{◌≡◌, ◌<◌, ◌-◌, ◌^◌, List, Some, None, IfOk, IfErr};
+ghost use Rattle.dr_seq.specs.declared.event.Event.{Event};
+ghost use Rattle.dr_files.specs.Counting.{faults_of, inner_of};
+ghost use Rattle.dr_ledger.specs.Batches.{IsCopyAtRest};
+ghost use Rattle.dr_ledger.specs.declared.fault.LedgerFault.TheVariants.{Memory};
+ghost use Rattle.dr_ledger_ring.specs.Answering.{teller_of};
+ghost use Rattle.dr_ledger_ring.specs.Ending.{AreAtWork, ArePartsAtRest, IsServed};
+ghost use Rattle.dr_ledger_ring.specs.Serving.{outcome};
+ghost use Rattle.dr_ledger_ring.specs.Storing.{IsOver, failure_in, writer_in};
+
+use crate::alarm::{Alarm, Breakdown};
+use crate::answering::Answering;
+use crate::feeding::{Source, feed};
+use crate::storing::Storing;
+use dr_accounts::Responder;
+use dr_disruptor::{InPlaceHandler, WaitStrategy, Way, new_events, run};
+use dr_files::Counted;
+use dr_graph::{Graph, GraphBuilder};
+use dr_journal::{Device, Journal, Journaling};
+use dr_ledger::LedgerFault;
+use dr_seq::{Event, Size};
+use std::alloc::{AllocError, Global};
+use std::io::{Read, Write};
+use std::sync::{Arc, Wait};
+use std::thread::Threads;
+
+/// A ledger taken apart: its journal, maybe a replica of it, and the business handler that has booked what is in them.
+#[derive(Drop)]
+pub struct Parts<D: Device> {
+    pub journal: Journal<D>,
+    pub replica: Option<Journal<D>>,
+    pub responder: Responder,
+}
+
+/// What came of a run.
+#[derive(Drop)]
+pub struct Ended<D: Device, W> {
+    /// Why it ended early, if it did.
+    pub result: Result<(), LedgerFault>,
+    /// The handlers that journal.
+    pub journal: Option<Journaling<D>>,
+    pub replica: Option<Journaling<D>>,
+    /// The business handler, which has the output.
+    pub answering: Answering<W>,
+}
+
+// The journal and the replica side by side, and then the business handler. Nothing but memory can be amiss with it.
+fn graph_of(alloc: Global) -> Result<Graph, LedgerFault>
+    ensures { IfErr result (λ fault. fault ≡ Memory) }
+{
+    let mut builder = GraphBuilder::new(alloc);
+    let Ok(both) = builder.handle_with(&["journal", "replica"]) else {
+        return Err(LedgerFault::Memory);
+    };
+    if builder.then(&both, &["business"]).is_err() {
+        return Err(LedgerFault::Memory);
+    }
+    builder.build().map_err(|_| LedgerFault::Memory)
+}
+
+// A handler over a journal at rest, where there is one.
+fn storing<D: Device>(
+    alloc: Global,
+    journal: Option<Journal<D>>,
+    failing: &Arc<Alarm, Global>,
+) -> Result<Storing<D>, AllocError>
+    requires { IsCopyAtRest D.seen D.may_leave journal }
+    ensures { IfOk result (λ storing. IsOver journal (writer_in storing)) }
+{
+    let writer = match journal {
+        Some(journal) => Some(Journaling::new(alloc, journal)),
+        None => None,
+    };
+    Ok(Storing::new(writer, Arc::try_clone(failing)?))
+}
+
+// The handlers of a run, in the graph's order.
+fn handlers_of<D: Device + Drop, W: Write + Drop>(
+    alloc: Global,
+    parts: Parts<D>,
+    output: Counted<W>,
+    stopped: &Arc<Alarm, Global>,
+) -> Result<(Storing<D>, Storing<D>, Answering<W>), AllocError>
+    requires at_rest { ArePartsAtRest D.seen D.may_leave parts }
+    requires writes { faults_of output ≡ 0 }
+    ensures journal { IfOk result (λ handlers. IsOver (Some parts.journal) (writer_in handlers.0)) }
+    ensures replica { IfOk result (λ handlers. IsOver parts.replica (writer_in handlers.1)) }
+    ensures answering { IfOk result (λ handlers. teller_of W.contents handlers.2 ≡ record { responder = parts.responder; written = W.contents (inner_of output); stop = None }) }
+{
+    let failing = Arc::new(alloc, Alarm::new())?;
+    let journal = storing(alloc, Some(parts.journal), &failing)?;
+    let replica = storing(alloc, parts.replica, &failing)?;
+    let answering = Answering::new(parts.responder, output, failing, Arc::try_clone(stopped)?);
+    Ok((journal, replica, answering))
+}
+
+// What a handler that journals has failed with, where there is one that has.
+fn failure<D: Device>(writer: &Option<Journaling<D>>) -> Option<Breakdown>
+    ensures { result ≡ failure_in writer.now }
+{
+    let fault = writer.as_ref()?.fault()?;
+    Some(Breakdown::from(fault))
+}
+
+// The handlers as they came back, and why the run ended early, if it did.
+fn ended<D: Device + Drop, W: Write + Drop>(
+    handlers: (Storing<D>, Storing<D>, Answering<W>),
+    read: Result<(), LedgerFault>,
+) -> Ended<D, W>
+    ensures result { result.result ≡ outcome (teller_of W.contents handlers.2).stop (failure_in (writer_in handlers.0)) (failure_in (writer_in handlers.1)) read }
+    ensures journal { result.journal ≡ writer_in handlers.0 }
+    ensures replica { result.replica ≡ writer_in handlers.1 }
+    ensures answering { result.answering ≡ handlers.2 }
+{
+    let (journal, replica, answering) = handlers;
+    let (journal, replica) = (journal.into_writer(), replica.into_writer());
+    let result = match (answering.stop(), failure(&journal), failure(&replica)) {
+        (Some(breakdown), _, _) => Err(LedgerFault::from(breakdown)),
+        (None, Some(breakdown), _) => Err(LedgerFault::from(breakdown)),
+        (None, None, Some(breakdown)) => Err(LedgerFault::from(breakdown)),
+        (None, None, None) => read,
+    };
+    Ended {
+        result,
+        journal,
+        replica,
+        answering,
+    }
+}
+
+/// Serves an input to its end over a ring of so many slots. It raises the alarm as soon as the business handler stops, since
+/// a disk failed, there is no room or no memory, or an answer could not be written. Then it answers no more, but goes on
+/// until its input ends: who does not want to wait for that has it on a thread that nobody joins.
+///
+/// `Memory` as an error says that there was none for the run, or for its end: then what was answered is stored, as ever,
+/// but the handlers are lost.
+pub fn serve<
+    R: Threads + Wait + Copy + Send + 'static,
+    D: Device + Drop + Send + 'static,
+    I: Read + Drop,
+    W: Write + Drop + Send + 'static,
+>(
+    rt: R,
+    alloc: Global,
+    size: Size,
+    parts: Parts<D>,
+    source: Source<I>,
+    output: Counted<W>,
+    stopped: &Arc<Alarm, Global>,
+) -> Result<Ended<D, W>, LedgerFault>
+    requires at_rest { ArePartsAtRest D.seen D.may_leave parts }
+    requires reads { faults_of source.input < 2 ^ 64 - 1 }
+    requires writes { faults_of output ≡ 0 }
+    // Whatever the ledger stood for, some operations came, are stored and are answered.
+    ensures served { IfOk result (λ ended. (past : List Event) → AreAtWork D.seen D.may_leave parts past → IsServed D.seen D.may_leave D.moment D.left_since ⟦<Journaling<D> as InPlaceHandler<Event>>⟧.goes W.contents parts ended source.stream (I.remaining (inner_of source.input)) (W.contents (inner_of output)) past) }
+    ensures memory { IfErr result (λ fault. fault ≡ Memory) }
+{
+    let handlers = handlers_of(alloc, parts, output, stopped)?;
+    let slots = new_events(alloc, size, || Ok(Event::NONE))?;
+    let cut = (size.get() / 4).max(1);
+    let ran = run(
+        rt,
+        alloc,
+        &graph_of(alloc)?,
+        size,
+        slots,
+        handlers,
+        Way::by(WaitStrategy::Parking),
+        move |sender| { feed(sender, alloc, source, cut) },
+    );
+    match ran {
+        Ok(ran) => Ok(ended(ran.handlers, ran.sent)),
+        Err(_) => Err(LedgerFault::Memory),
+    }
+}
