@@ -7,7 +7,9 @@ ghost use Rattle.dr_ledger.specs.Batches.{AreAtRest};
 use crate::Fault;
 use dr_files::Counted;
 use dr_journal::FileDevice;
-use dr_ledger::{Coming, Ledger, LedgerFault, Role, StartFault, begin, begin_with_replica, print_journal};
+use dr_ledger::{
+    Coming, Ledger, LedgerFault, Role, StartFault, begin, begin_with_replica, print_journal,
+};
 use dr_ledger_ring::{Alarm, Parts, Source, serve as serve_by};
 use dr_operations::EventStream;
 use dr_seq::Size;

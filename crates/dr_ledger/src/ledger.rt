@@ -79,6 +79,7 @@ impl<D: Device> Ledger<D> {
 
     /// Its journal, its replica, if it has one, and its business handler, to go on by other means.
     pub fn into_parts(self) -> (Journal<D>, Option<Journal<D>>, Responder)
+        // They are as they were in the ledger.
         ensures journal { result.0 ≡ journal_of self }
         ensures replica { result.1 ≡ replica_of self }
         ensures business { result.2 ≡ business_of self }

@@ -1,8 +1,8 @@
 //! A ledger over the ring: operations of a reader go to a journal and a replica side by side, and then to a business
 //! handler, which answers each once both have it on the disk.
 //!
-//! The reader's thread sends, and each handler has a thread of its own. What arrives while the disks sync is their next
-//! batch. Begin with `specs/Serving`.
+//! The calling thread reads and sends, and each handler has a thread of its own. What arrives while the disks sync is
+//! their next batch. Begin with `specs/Ending`, what a run stores and answers, and [`serve`].
 #![tactic(auto)]
 
 mod alarm;

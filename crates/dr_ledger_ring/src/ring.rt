@@ -153,8 +153,10 @@ pub fn serve<
     requires at_rest { ArePartsAtRest D.seen D.may_leave parts }
     requires reads { faults_of source.input < 2 ^ 64 - 1 }
     requires writes { faults_of output ≡ 0 }
-    // Whatever the ledger stood for, some operations came, are stored and are answered.
+    // Whatever the parts stood for, some operations came. The journal and any replica went through them in batches, and a crash left the
+    // first ones. All were booked and answered if no handler stopped, else the first ones; and why the run ended is told.
     ensures served { IfOk result (λ ended. (past : List Event) → AreAtWork D.seen D.may_leave parts past → IsServed D.seen D.may_leave D.moment D.left_since ⟦<Journaling<D> as InPlaceHandler<Event>>⟧.goes W.contents parts ended source.stream (I.remaining (inner_of source.input)) (W.contents (inner_of output)) past) }
+    // Nothing but memory keeps a run from giving back its handlers.
     ensures memory { IfErr result (λ fault. fault ≡ Memory) }
 {
     let handlers = handlers_of(alloc, parts, output, stopped)?;
