@@ -134,8 +134,8 @@ fn ended<D: Device + Drop, W: Write + Drop>(
 /// a disk failed, there is no room or no memory, or an answer could not be written. Then it answers no more, but goes on
 /// until its input ends: who does not want to wait for that has it on a thread that nobody joins.
 ///
-/// `Memory` as an error says that there was none for the run, or for its end: then what was answered is stored, as ever,
-/// but the handlers are lost.
+/// It is refused with `Memory` alone, where there was none for the run, or for its end (clause `memory`). What was answered
+/// is stored then, as ever, but the handlers are lost.
 pub fn serve<
     R: Threads + Wait + Copy + Send + 'static,
     D: Device + Drop + Send + 'static,
@@ -153,11 +153,9 @@ pub fn serve<
     requires at_rest { ArePartsAtRest D.seen D.may_leave parts }
     requires reads { faults_of source.input < 2 ^ 64 - 1 }
     requires writes { faults_of output ≡ 0 }
-    // Whatever the parts stood for, some operations came. The journal and any replica went through them in batches, and a crash left the
-    // first ones. All were booked and answered if no handler stopped, else the first ones; and why the run ended is told.
-    ensures served { IfOk result (λ ended. (past : List Event) → AreAtWork D.seen D.may_leave parts past → IsServed D.seen D.may_leave D.moment D.left_since ⟦<Journaling<D> as InPlaceHandler<Event>>⟧.goes W.contents parts ended source.stream (I.remaining (inner_of source.input)) (W.contents (inner_of output)) past) }
-    // Nothing but memory keeps a run from giving back its handlers.
     ensures memory { IfErr result (λ fault. fault ≡ Memory) }
+    // Whatever the parts stood for, some operations came. All, or if a handler stopped the first, are stored and answered; why the run ended is told.
+    ensures served { IfOk result (λ ended. (past : List Event) → AreAtWork D.seen D.may_leave parts past → IsServed D.seen D.may_leave D.moment D.left_since ⟦<Journaling<D> as InPlaceHandler<Event>>⟧.goes W.contents parts ended source.stream (I.remaining (inner_of source.input)) (W.contents (inner_of output)) past) }
 {
     let handlers = handlers_of(alloc, parts, output, stopped)?;
     let slots = new_events(alloc, size, || Ok(Event::NONE))?;
