@@ -2,3 +2,4 @@ pub mod Crossing
 mod Tellings
 mod Sendings
 mod Storings
+mod Runs

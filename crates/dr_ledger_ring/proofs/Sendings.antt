@@ -1,10 +1,15 @@
 -- What a sender sent of its input.
 use Rattle.std.proofs.Common.{◌≡◌, ℕ, ◌+◌, Bool, true, false, List, [], ◌∷◌, ◌++◌, length, drop, Option, None, Some, Result, Ok, Err, refl, sym, ◌∙◌, ap, arith, append-nil, append_assoc}
+use Rattle.std.specs.Prelude.{IfErr, OnOk, is_err}
+use Rattle.std.proofs.lemmas.Bool.{false≢true}
 use Rattle.dr_seq.specs.declared.event.Event.{Event}
+use Rattle.dr_meaning.specs.Calls.InPlaceInlets.{Sending}
+use Rattle.dr_meaning.specs.declared.claim_fault.ClaimFault.{ClaimFault}
+use Rattle.dr_meaning.specs.declared.refusal.Refusal.{Refusal}
 use Rattle.dr_plain.proofs.Rowing.{dropped_next}
-use Rattle.dr_disruptor.specs.Sending.{Fills, IsNth}
+use Rattle.dr_disruptor.specs.Sending.{Fills, IsNth, StopsAfter}
 use Rattle.dr_operations.specs.declared.event_stream.EventStream.{EventStream}
-use Rattle.dr_ledger.specs.Batches.{TurnCame}
+use Rattle.dr_ledger.specs.Batches.{CountsReads, TurnCame}
 use Rattle.dr_ledger.specs.declared.fault.LedgerFault.{LedgerFault}
 use Rattle.dr_ledger.specs.declared.fault.LedgerFault.TheVariants as fault
 use Rattle.dr_ledger.proofs.Runs.{batch_failed, comes_on, comes_so_far, comes_to_a_fault, comes_to_its_end, nothing_came}
@@ -34,6 +39,29 @@ sent_part r stream after known left came part old new comes fills sent = record 
   comes = shorter stream after known left came part (drop (0 + length part) came) (filled came part 0 fills)
       (batch_failed r fault.Full stream after known left came tt comes);
 }
+
+-- where a claim of its operations was refused
+module _ {I K : Type 0} (kept : I → K) (sending : I → Sending Event) (refuses : I → ℕ → ClaimFault → I → Type 0) (n cut : ℕ) (old new : I) where
+  pub refused_part : (claims : Result (Unit {0}) Refusal) (r : Result Bool LedgerFault) (stream after : EventStream) (known left : Option (List ℕ))
+      → (came : List Event) → is_err claims ≡ true
+      → IfErr claims (λ refusal. StopsAfter (IsNth came) kept sending refuses n cut refusal old new) → TurnCame r stream after known left came
+      → FeedsOnce (Err fault.Full) stream after known left (sending old).published (sending new).published
+  refused_part (Ok done) r stream after known left came bad refused comes = absurd (false≢true bad)
+  refused_part (Err refusal) r stream after known left came bad refused comes =
+      sent_part r stream after known left came refused.sent.events (sending old).published (sending new).published comes refused.sent.fills
+      (ap (λ (s : Sending Event). s.published) refused.refused.same ∙ refused.sent.published)
+
+-- where none was
+pub sent_whole : (claims : Result (Unit {0}) Refusal) (r : Result Bool LedgerFault) (stream after : EventStream) (known left : Option (List ℕ))
+    → (came old new : List Event) → is_err claims ≡ false → OnOk claims (new ≡ old ++ came) → TurnCame r stream after known left came
+    → FeedsOnce r stream after known left old new
+sent_whole (Ok done) r stream after known left came old new well sent comes = record { came = came; sent = sent; comes = comes }
+sent_whole (Err refusal) r stream after known left came old new well sent comes = absurd (false≢true (sym well))
+
+-- a read that did not fail
+pub counted_ok : (r : Result Bool LedgerFault) (reads reads2 : ℕ) → CountsReads r reads reads2 → OnOk r (reads2 ≡ reads)
+counted_ok (Ok more) reads reads2 counts = counts
+counted_ok (Err e) reads reads2 counts = tt
 
 -- before the first read
 pub none_sent : (stream : EventStream) (known : Option (List ℕ)) (old : List Event) → FeedsOnce (Ok true) stream stream known known old old

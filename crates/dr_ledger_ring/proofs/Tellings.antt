@@ -1,8 +1,9 @@
 -- What the business handler has answered of what it was shown.
 use Rattle.std.proofs.Common.{◌≡◌, ℕ, Bool, true, false, List, [], ◌∷◌, ◌++◌, Option, None, Some, Result, Ok, Err}
 use Rattle.std.proofs.Common.{refl, sym, ◌∙◌, ap, subst, append-nil, append_assoc}
-use Rattle.std.specs.Prelude.{IsSome, map}
-use Rattle.std.proofs.KnownBytes.{Appends-nil}
+use Rattle.std.specs.Prelude.{IsSome, is_some, map, string_bytes}
+use Rattle.std.proofs.KnownBytes.{Appends-nil, Keeps-refl}
+use Rattle.std.proofs.lemmas.Bool.{false≢true}
 use Rattle.std.proofs.lemmas.List.{map-append}
 use Rattle.std.specs.Io.KnownBytes.{Appends, Keeps}
 use Rattle.dr_seq.specs.declared.event.Event.{Event}
@@ -22,6 +23,42 @@ use Rattle.dr_ledger_ring.specs.Answering.{TakesOperation, Teller, Writes, by_st
 use Rattle.dr_ledger_ring.specs.Serving.{AnsweredBy}
 use Rattle.dr_ledger_ring.specs.declared.alarm.Breakdown.{Breakdown}
 use Rattle.dr_ledger_ring.specs.declared.alarm.Breakdown.TheVariants as breakdown
+
+-- an answer that is not written, for whatever cause
+pub not_written : (cause : Breakdown) (booked new : Responder) (before : Option (List ℕ)) → booked.failed ≡ false → Writes (Err cause) booked new before before
+not_written breakdown.Write booked new before well = (well, ([], (string_bytes booked.answers, refl), Appends-nil before))
+not_written breakdown.Memory booked new before well = Keeps-refl before
+not_written breakdown.Disk booked new before well = Keeps-refl before
+not_written breakdown.Full booked new before well = Keeps-refl before
+
+-- a handler that has stopped does nothing
+pub does_nothing : (old : Teller) (event : Event) (end : Bool) → is_some old.stop ≡ true → TakesOperation old event end old
+does_nothing old event end some = record {
+  takes = λ none. absurd (false≢true (subst (λ (o : Option Breakdown). is_some o ≡ true) none some));
+  silent = λ _. refl;
+}
+
+-- one that goes on books, and before the end of a batch nothing else
+pub books_one : (old : Teller) (event : Event) (end : Bool) (booked : Responder) → is_some old.stop ≡ false → end ≡ false
+    → answering old.responder event 0 end booked
+    → TakesOperation old event end (record { responder = booked; written = old.written; stop = old.stop })
+books_one old event end booked goes_on more goes =
+    subst (λ (e : Bool). TakesOperation old event e (record { responder = booked; written = old.written; stop = old.stop })) (sym more) (
+    record {
+      takes = λ none. (booked, goes, ap (λ (s : Option Breakdown). record { responder = booked; written = old.written; stop = s }) none);
+      silent = λ some. absurd (false≢true (sym goes_on ∙ some));
+    }
+    )
+
+-- at the end of a batch it answers, or stops
+pub answers_one : (old new : Teller) (event : Event) (end : Bool) (booked : Responder) → is_some old.stop ≡ false → end ≡ true
+    → answering old.responder event 0 end booked → (old.stop ≡ None → Writes (by_stop new.stop) booked new.responder old.written new.written)
+    → TakesOperation old event end new
+answers_one old new event end booked goes_on last goes writes =
+    subst (λ (e : Bool). TakesOperation old event e new) (sym last) (record {
+      takes = λ none. (booked, goes, writes none);
+      silent = λ some. absurd (false≢true (sym goes_on ∙ some));
+    })
 
 -- operations that are booked one after another
 abbrev Books : Responder → List Event → Responder → Type 0

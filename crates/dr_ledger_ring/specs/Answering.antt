@@ -2,22 +2,17 @@
 use Rattle.std.specs.Prelude.{◌≡◌, ℕ, Bool, true, false, List, [], ◌++◌, Option, None, Some, IsSome, Result, Ok, Err, string_bytes}
 use Rattle.std.specs.Io.KnownBytes.{Appends, Keeps}
 use Rattle.dr_seq.specs.declared.event.Event.{Event}
-use Rattle.dr_files.specs.Counting.{inner_of}
 use Rattle.dr_files.specs.Outcome.{AppendsFront}
 use Rattle.dr_accounts.specs.Responding.{IsResponderOf, answering}
 use Rattle.dr_accounts.specs.declared.responder.Responder.{Responder}
 use Rattle.dr_ledger_ring.specs.declared.alarm.Breakdown.{Breakdown}
 use Rattle.dr_ledger_ring.specs.declared.alarm.Breakdown.TheVariants as breakdown
-use Rattle.dr_ledger_ring.specs.declared.answering.Answering.{Answering}
 
 -- what such a handler has booked, what its output shows, and why it stopped, if it has
 pub record Teller : Type 0 where
   pub responder : Responder
   pub written : Option (List ℕ)
   pub stop : Option Breakdown
-
-abbrev pub teller_of : {W : Type 0} → (W → Option (List ℕ)) → Answering W → Teller
-teller_of contents a = record { responder = a.responder; written = contents (inner_of a.output); stop = a.stop }
 
 -- the answers that waited are forgotten, and nothing else
 pub record IsCleared (old new : Responder) : Type 0 where

@@ -15,9 +15,9 @@ use Rattle.dr_ledger.specs.Batches.{IsCopyAtRest}
 use Rattle.dr_ledger.specs.Serving.{Came}
 use Rattle.dr_ledger.specs.Standing.{Copies, HasBooked, Holds}
 use Rattle.dr_ledger.specs.declared.fault.LedgerFault.{LedgerFault}
-use Rattle.dr_ledger_ring.specs.Answering.{teller_of}
 use Rattle.dr_ledger_ring.specs.Serving.{AnsweredBy, outcome}
 use Rattle.dr_ledger_ring.specs.Storing.{failure_in}
+use Rattle.dr_ledger_ring.specs.Tellers.{teller_of}
 use Rattle.dr_ledger_ring.specs.declared.ring.Ended.{Ended}
 use Rattle.dr_ledger_ring.specs.declared.ring.Parts.{Parts}
 

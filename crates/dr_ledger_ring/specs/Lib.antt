@@ -1,4 +1,5 @@
 pub mod Answering
+pub mod Tellers
 pub mod Feeding
 pub mod Serving
 pub mod Storing

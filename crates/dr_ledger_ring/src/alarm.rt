@@ -2,7 +2,9 @@
 
 ghost use Rattle.std.specs.Prelude.{◌≡◌};
 ghost use Rattle.dr_ledger_ring.specs.Serving.{breakdown_of, fault_of};
+ghost use Rattle.dr_ledger_ring.specs.declared.alarm.Breakdown.TheVariants as breakdown;
 
+use dr_files::WriteFault;
 use dr_journal::JournalFault;
 use dr_ledger::LedgerFault;
 use std::sync::Wait;
@@ -66,6 +68,14 @@ impl From<JournalFault> for Breakdown {
     }
 }
 
+impl From<WriteFault> for Breakdown {
+    ghost from_gives = { λ _ given. given ≡ breakdown.Write };
+
+    fn from(_fault: WriteFault) -> Breakdown {
+        Breakdown::Write
+    }
+}
+
 impl From<Breakdown> for LedgerFault {
     ghost from_gives = { λ breakdown given. given ≡ fault_of breakdown };
 
@@ -79,8 +89,8 @@ impl From<Breakdown> for LedgerFault {
     }
 }
 
-/// What threads share to tell of a breakdown. The first that is told stays. What stood before it in one thread's order
-/// stands before it for who sees it, as all its steps are sequentially consistent.
+/// What threads share to tell of a breakdown. The first that is told stays. What a thread did before it told is done for
+/// whoever sees it told, since all steps are sequentially consistent.
 #[derive(Drop)]
 pub struct Alarm {
     word: AtomicU64,

@@ -2,7 +2,7 @@
 
 ghost use Rattle.std.specs.Prelude.{◌≡◌, None, OnOk};
 ghost use Rattle.dr_files.specs.Counting.{faults_of, inner_of};
-ghost use Rattle.dr_ledger_ring.specs.Answering.{Writes, teller_of};
+ghost use Rattle.dr_ledger_ring.specs.Answering.{Writes};
 
 use crate::alarm::{Alarm, Breakdown};
 use dr_accounts::Responder;
@@ -44,9 +44,7 @@ fn answer<W: Write>(
     if let Some(breakdown) = failing.breakdown() {
         return Err(breakdown);
     }
-    if write_text(output, responder.answers().as_bytes()).is_err() {
-        return Err(Breakdown::Write);
-    }
+    write_text(output, responder.answers().as_bytes())?;
     if output.flush().is_err() {
         return Err(Breakdown::Write);
     }
@@ -55,6 +53,8 @@ fn answer<W: Write>(
 }
 
 impl<W: Write> Answering<W> {
+    ghost use Rattle.dr_ledger_ring.specs.Tellers.{teller_of};
+
     /// A handler that goes on from accounts, and writes to an output of which no call failed. It looks at the first alarm
     /// before it answers, and raises the second where it stops.
     pub fn new(
@@ -91,7 +91,8 @@ impl<W: Write> Answering<W> {
 }
 
 impl<W: Write> InPlaceHandler<Event> for Answering<W> {
-    ghost use Rattle.dr_ledger_ring.specs.Answering.{TakesOperation, teller_of};
+    ghost use Rattle.dr_ledger_ring.specs.Answering.{TakesOperation};
+    ghost use Rattle.dr_ledger_ring.specs.Tellers.{teller_of};
 
     ghost goes = { λ old event s end new. TakesOperation (teller_of W.contents old) event end (teller_of W.contents new) };
 
@@ -103,9 +104,12 @@ impl<W: Write> InPlaceHandler<Event> for Answering<W> {
         if !end {
             return;
         }
-        if let Err(breakdown) = answer(&mut self.responder, &mut self.output, &self.failing) {
-            self.stop = Some(breakdown);
-            self.stopped.raise(breakdown);
+        match answer(&mut self.responder, &mut self.output, &self.failing) {
+            Ok(()) => (),
+            Err(breakdown) => {
+                self.stop = Some(breakdown);
+                self.stopped.raise(breakdown);
+            }
         }
     }
 }

@@ -5,10 +5,10 @@ ghost use Rattle.dr_seq.specs.declared.event.Event.{Event};
 ghost use Rattle.dr_files.specs.Counting.{faults_of, inner_of};
 ghost use Rattle.dr_ledger.specs.Batches.{IsCopyAtRest};
 ghost use Rattle.dr_ledger.specs.declared.fault.LedgerFault.TheVariants.{Memory};
-ghost use Rattle.dr_ledger_ring.specs.Answering.{teller_of};
 ghost use Rattle.dr_ledger_ring.specs.Ending.{AreAtWork, ArePartsAtRest, IsServed};
 ghost use Rattle.dr_ledger_ring.specs.Serving.{outcome};
 ghost use Rattle.dr_ledger_ring.specs.Storing.{IsOver, failure_in, writer_in};
+ghost use Rattle.dr_ledger_ring.specs.Tellers.{teller_of};
 
 use crate::alarm::{Alarm, Breakdown};
 use crate::answering::Answering;
@@ -57,7 +57,21 @@ fn graph_of(alloc: Global) -> Result<Graph, LedgerFault>
     if builder.then(&both, &["business"]).is_err() {
         return Err(LedgerFault::Memory);
     }
-    builder.build().map_err(|_| LedgerFault::Memory)
+    match builder.build() {
+        Ok(graph) => Ok(graph),
+        Err(_) => Err(LedgerFault::Memory),
+    }
+}
+
+// What writes a journal at rest, where there is one.
+fn writing<D: Device>(alloc: Global, journal: Option<Journal<D>>) -> Option<Journaling<D>>
+    requires { IsCopyAtRest D.seen D.may_leave journal }
+    ensures { IsOver journal result }
+{
+    match journal {
+        Some(journal) => Some(Journaling::new(alloc, journal)),
+        None => None,
+    }
 }
 
 // A handler over a journal at rest, where there is one.
@@ -69,11 +83,8 @@ fn storing<D: Device>(
     requires { IsCopyAtRest D.seen D.may_leave journal }
     ensures { IfOk result (λ storing. IsOver journal (writer_in storing)) }
 {
-    let writer = match journal {
-        Some(journal) => Some(Journaling::new(alloc, journal)),
-        None => None,
-    };
-    Ok(Storing::new(writer, Arc::try_clone(failing)?))
+    let alarm = Arc::try_clone(failing)?;
+    Ok(Storing::new(writing(alloc, journal), alarm))
 }
 
 // The handlers of a run, in the graph's order.
@@ -89,10 +100,16 @@ fn handlers_of<D: Device + Drop, W: Write + Drop>(
     ensures replica { IfOk result (λ handlers. IsOver parts.replica (writer_in handlers.1)) }
     ensures answering { IfOk result (λ handlers. teller_of W.contents handlers.2 ≡ record { responder = parts.responder; written = W.contents (inner_of output); stop = None }) }
 {
+    let Parts {
+        journal,
+        replica,
+        responder,
+    } = parts;
     let failing = Arc::new(alloc, Alarm::new())?;
-    let journal = storing(alloc, Some(parts.journal), &failing)?;
-    let replica = storing(alloc, parts.replica, &failing)?;
-    let answering = Answering::new(parts.responder, output, failing, Arc::try_clone(stopped)?);
+    let stopped = Arc::try_clone(stopped)?;
+    let journal = storing(alloc, Some(journal), &failing)?;
+    let replica = storing(alloc, replica, &failing)?;
+    let answering = Answering::new(responder, output, failing, stopped);
     Ok((journal, replica, answering))
 }
 
@@ -100,8 +117,30 @@ fn handlers_of<D: Device + Drop, W: Write + Drop>(
 fn failure<D: Device>(writer: &Option<Journaling<D>>) -> Option<Breakdown>
     ensures { result ≡ failure_in writer.now }
 {
-    let fault = writer.as_ref()?.fault()?;
-    Some(Breakdown::from(fault))
+    let Some(writer) = writer else {
+        return None;
+    };
+    match writer.fault() {
+        Some(fault) => Some(Breakdown::from(fault)),
+        None => None,
+    }
+}
+
+// Why a run ended early, if it did.
+fn why_ended(
+    stop: Option<Breakdown>,
+    journal: Option<Breakdown>,
+    replica: Option<Breakdown>,
+    read: Result<(), LedgerFault>,
+) -> Result<(), LedgerFault>
+    ensures { result ≡ outcome stop journal replica read }
+{
+    match (stop, journal, replica) {
+        (Some(breakdown), _, _) => Err(LedgerFault::from(breakdown)),
+        (None, Some(breakdown), _) => Err(LedgerFault::from(breakdown)),
+        (None, None, Some(breakdown)) => Err(LedgerFault::from(breakdown)),
+        (None, None, None) => read,
+    }
 }
 
 // The handlers as they came back, and why the run ended early, if it did.
@@ -115,15 +154,10 @@ fn ended<D: Device + Drop, W: Write + Drop>(
     ensures answering { result.answering ≡ handlers.2 }
 {
     let (journal, replica, answering) = handlers;
-    let (journal, replica) = (journal.into_writer(), replica.into_writer());
-    let result = match (answering.stop(), failure(&journal), failure(&replica)) {
-        (Some(breakdown), _, _) => Err(LedgerFault::from(breakdown)),
-        (None, Some(breakdown), _) => Err(LedgerFault::from(breakdown)),
-        (None, None, Some(breakdown)) => Err(LedgerFault::from(breakdown)),
-        (None, None, None) => read,
-    };
+    let journal = journal.into_writer();
+    let replica = replica.into_writer();
     Ended {
-        result,
+        result: why_ended(answering.stop(), failure(&journal), failure(&replica), read),
         journal,
         replica,
         answering,
