@@ -77,8 +77,8 @@ OF_ONE = OPERATIONS.replace("2,transfer", "0,transfer")
 # How many threads a replay of OPERATIONS starts: one for each of three handlers, and by lock one for each of the
 # producers 0, 1 and 2.
 THREADS = {"ring": 3, "lock": 6}
-# And how many a run of two senders through two handlers does.
-THREADS_OF_FEEDS = 4
+# And how many a run of two senders through two handlers does, and a ledger over the ring: one that serves, and one for each handler.
+THREADS_OF_FEEDS = THREADS_OF_LEDGER = 4
 
 Met = namedtuple("Met", "ran requests refused synced")
 
@@ -164,6 +164,10 @@ def kind_of_replay(ran, whole):
     return "whole" if ran == whole else ran == NO_MEMORY and "no-memory"
 
 
+def kind_of_ledger(ran, whole):
+    return "whole" if ran == whole else ran == NO_MEMORY._replace(err=whole.err + NO_MEMORY.err) and "no-memory"
+
+
 def kind_by_lock(ran, _whole):
     """By lock the report is that of some order of the events that keeps each producer's."""
     return kind_of_replay(ran, merged_like(ran, OPERATIONS.encode()))
@@ -222,6 +226,9 @@ def refuse_threads(refusing, program, calls):
         kind_of = kind_by_lock if way == "lock" else kind_of_replay
         kinds = refusing.refuse_each(f"replay by {way}, a thread", words, kind_of, threads=1)
         refusing.judge(f"replay by {way}, how many threads", kinds == {"no-memory": threads}, kinds)
+    words = [program, "ledger", "--journal", refusing.path("threads.journal")]
+    kinds = refusing.refuse_each("a ledger, a thread", words, kind_of_ledger, threads=1)
+    refusing.judge("a ledger, how many threads", kinds == {"no-memory": THREADS_OF_LEDGER}, kinds)
     kinds = refusing.refuse_each("calls of case feeds, a thread", [calls, "feeds"], kind_of_calls, threads=1)
     refusing.judge("calls of case feeds, how many threads", kinds == {"made again": THREADS_OF_FEEDS}, kinds)
 
