@@ -75,7 +75,7 @@ fn writing<D: Device>(alloc: Global, journal: Option<Journal<D>>) -> Option<Jour
 }
 
 // A handler over a journal at rest, where there is one.
-fn storing<D: Device>(
+fn storing<D: Device + Drop>(
     alloc: Global,
     journal: Option<Journal<D>>,
     failing: &Arc<Alarm, Global>,
