@@ -144,7 +144,7 @@ fn why_ended(
 }
 
 // The handlers as they came back, and why the run ended early, if it did.
-fn ended<D: Device + Drop, W: Write + Drop>(
+fn handed_back<D: Device + Drop, W: Write + Drop>(
     handlers: (Storing<D>, Storing<D>, Answering<W>),
     read: Result<(), LedgerFault>,
 ) -> Ended<D, W>
@@ -205,7 +205,7 @@ pub fn serve<
         move |sender| { feed(sender, alloc, source, cut) },
     );
     match ran {
-        Ok(ran) => Ok(ended(ran.handlers, ran.sent)),
+        Ok(ran) => Ok(handed_back(ran.handlers, ran.sent)),
         Err(_) => Err(LedgerFault::Memory),
     }
 }

@@ -19,7 +19,7 @@ returns-in-Ok-clause-served g c = λ past work.
     let is = c.in-Ok.ensures.ran in
     let made = c.in_ok-handlers.ensures in
     let first = c.in_ok-handlers.handlers in
-    let back = c.ended.ensures in
+    let back = c.handed_back.ensures in
     let sending = is.sending in
     let met = sending.met in
     let fed : Feeds ran.sent c.args.source.stream (rem (inner_of c.args.source.input)) (events_of sending.shown.now.knows.published)
@@ -37,11 +37,11 @@ returns-in-Ok-clause-served g c = λ past work.
       read = ran.sent;
       comes = fed.comes;
       journal = run_stored d.seen d.may_leave d.moment d.left_since d.faults g.met.D.Device.only_now c.by.result.batch (Some c.args.parts.journal) first.0
-          ran.handlers.0 c.ended.result.journal events past fed.came made.journal is.through.0 few same work.journal back.journal;
+          ran.handlers.0 c.handed_back.result.journal events past fed.came made.journal is.through.0 few same work.journal back.journal;
       replica = run_stored d.seen d.may_leave d.moment d.left_since d.faults g.met.D.Device.only_now c.by.result.batch c.args.parts.replica first.1
-          ran.handlers.1 c.ended.result.replica events past fed.came made.replica is.through.1 few same work.replica back.replica;
-      answered = run_answered con c.by.result.batch first.2 ran.handlers.2 c.ended.result.answering c.args.parts.responder
+          ran.handlers.1 c.handed_back.result.replica events past fed.came made.replica is.through.1 few same work.replica back.replica;
+      answered = run_answered con c.by.result.batch first.2 ran.handlers.2 c.handed_back.result.answering c.args.parts.responder
           (con (inner_of c.args.output)) events past fed.came made.answering is.through.2 few same work.booked back.answering;
-      result = run_ended con c.ended.result.answering ran.handlers.2 c.ended.result.journal c.ended.result.replica ran.handlers.0 ran.handlers.1 ran.sent
-          c.ended.result.result back.answering back.journal back.replica back.result;
+      result = run_ended con c.handed_back.result.answering ran.handlers.2 c.handed_back.result.journal c.handed_back.result.replica ran.handlers.0 ran.handlers.1 ran.sent
+          c.handed_back.result.result back.answering back.journal back.replica back.result;
     }
