@@ -54,7 +54,7 @@ module _ {D : Type 0} (seen : D → List ℕ) (may_leave : D → List ℕ → Ty
   StoredWhere old last past came = ⊥
 
   -- a run: some operations came; how each handler took them, and how the run ended
-  pub record IsServed {W : Type 0} (contents : W → Option (List ℕ)) (parts : Parts D) (ended : Ended D g W) (stream : EventStream)
+  pub record IsServed {W : Type 0} (contents : W → Option (List ℕ)) (parts : Parts D) (ended : Ended D W g) (stream : EventStream)
       (known before : Option (List ℕ)) (past : List Event) : Type 0 where
     pub came : List Event
     pub read : Result (Unit {0}) LedgerFault
