@@ -214,7 +214,7 @@ module _ (before : Option (List ℕ)) (past : List Event) where
         )
 
     -- after batches that end with a mark nothing waits
-    answered_all : (batches : List (Dealt Event)) (start after : A) → AreMarked batches → (teller start).stop ≡ None → (teller start).written ≡ before
+    pub answered_all : (batches : List (Dealt Event)) (start after : A) → AreMarked batches → (teller start).stop ≡ None → (teller start).written ≡ before
         → HasBooked (teller start).responder past → GoesThrough goes start (shown_of batches) after
         → AnsweredBy (teller after).stop (teller after) before past (dealt_events batches)
     answered_all [] start after marked none wrote booked is =

@@ -1,5 +1,5 @@
 -- What a run of a ledger over the ring stores and answers: `seen` and the others are its devices'.
-use Rattle.std.specs.Prelude.{◌≡◌, ℕ, List, [], ◌++◌, Option, None, Some, Result}
+use Rattle.std.specs.Prelude.{◌≡◌, ℕ, List, [], ◌++◌, length, Option, None, Some, Result}
 use Rattle.dr_seq.specs.declared.event.Event.{Event}
 use Rattle.dr_meaning.specs.Calls.Handling.{Relation}
 use Rattle.dr_workers.specs.Meaning.Work.{Dealt, dealt_events}
@@ -59,6 +59,7 @@ module _ {D : Type 0} (seen : D → List ℕ) (may_leave : D → List ℕ → Ty
     pub came : List Event
     pub read : Result (Unit {0}) LedgerFault
     pub comes : Came read stream known came
+    pub count : ended.count ≡ length came
     pub journal : StoredWhere (Some parts.journal) ended.journal past came
     pub replica : StoredWhere parts.replica ended.replica past came
     pub answered : AnsweredBy (teller_of contents ended.answering).stop (teller_of contents ended.answering) before past came

@@ -39,6 +39,8 @@ pub struct Parts<D: Device> {
 pub struct Ended<D: Device, W> {
     /// Why it ended early, if it did.
     pub result: Result<(), LedgerFault>,
+    /// How many operations came.
+    pub count: u64,
     /// The handlers that journal.
     pub journal: Option<Journaling<D>>,
     pub replica: Option<Journaling<D>>,
@@ -145,10 +147,12 @@ fn why_ended(
 
 // The handlers as they came back, and why the run ended early, if it did.
 fn handed_back<D: Device + Drop, W: Write + Drop>(
+    count: u64,
     handlers: (Storing<D>, Storing<D>, Answering<W>),
     read: Result<(), LedgerFault>,
 ) -> Ended<D, W>
     ensures result { result.result ≡ outcome (teller_of W.contents handlers.2).stop (failure_in (writer_in handlers.0)) (failure_in (writer_in handlers.1)) read }
+    ensures count { result.count ≡ count }
     ensures journal { result.journal ≡ writer_in handlers.0 }
     ensures replica { result.replica ≡ writer_in handlers.1 }
     ensures answering { result.answering ≡ handlers.2 }
@@ -158,6 +162,7 @@ fn handed_back<D: Device + Drop, W: Write + Drop>(
     let replica = replica.into_writer();
     Ended {
         result: why_ended(answering.stop(), failure(&journal), failure(&replica), read),
+        count,
         journal,
         replica,
         answering,
@@ -205,7 +210,7 @@ pub fn serve<
         move |sender| { feed(sender, alloc, source, cut) },
     );
     match ran {
-        Ok(ran) => Ok(handed_back(ran.handlers, ran.sent)),
+        Ok(ran) => Ok(handed_back(ran.settled.published(), ran.handlers, ran.sent)),
         Err(_) => Err(LedgerFault::Memory),
     }
 }

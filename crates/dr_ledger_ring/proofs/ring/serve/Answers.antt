@@ -36,9 +36,10 @@ returns-in-Ok-clause-served g c = λ past work.
       came = fed.came;
       read = ran.sent;
       comes = fed.comes;
-      journal = run_stored d.seen d.may_leave d.moment d.left_since d.faults g.met.D.Device.only_now c.by.result.batch (Some c.args.parts.journal) first.0
+      count = back.count ∙ c.published.ensures ∙ sent_count is ∙ ap (λ (l : List Event). length l) same;
+      journal = run_stored d.seen d.may_leave d.moment d.left_since d.faults (g.met.D.Device g.world.𝓛 g.world.𝓜 g.world.𝓡 (λ s p. p, λ p. p, λ p. p, λ p. p)).only_now c.by.result.batch (Some c.args.parts.journal) first.0
           ran.handlers.0 c.handed_back.result.journal events past fed.came made.journal is.through.0 few same work.journal back.journal;
-      replica = run_stored d.seen d.may_leave d.moment d.left_since d.faults g.met.D.Device.only_now c.by.result.batch c.args.parts.replica first.1
+      replica = run_stored d.seen d.may_leave d.moment d.left_since d.faults (g.met.D.Device g.world.𝓛 g.world.𝓜 g.world.𝓡 (λ s p. p, λ p. p, λ p. p, λ p. p)).only_now c.by.result.batch c.args.parts.replica first.1
           ran.handlers.1 c.handed_back.result.replica events past fed.came made.replica is.through.1 few same work.replica back.replica;
       answered = run_answered con c.by.result.batch first.2 ran.handlers.2 c.handed_back.result.answering c.args.parts.responder
           (con (inner_of c.args.output)) events past fed.came made.answering is.through.2 few same work.booked back.answering;
