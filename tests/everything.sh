@@ -34,6 +34,8 @@ heard=$words
 RT_JOBS=$(nproc) counted rt ci "$@"
 [ $((passed + failed)) -gt 0 ] || failed=1
 proofs=$(sed -n -E 's/^rt: ok;.*; (done in this run: .*|every proof .*)$/\1/p' "$words")
+# (a kit that keeps no proof between runs does not say how many it made)
+[ "$failed" -gt 0 ] || proofs=${proofs:-all passed}
 # Who waits for that line would wait for ever where the disk is full.
 echo '0 passed, 0 failed: rt ci ended' >> "$words" || kill "$trying"
 heard=/dev/null
