@@ -86,7 +86,7 @@ help:
 	@echo 'On a machine of four processors:'
 	@echo
 	@echo '  make                      shows after a minute or two what the shipped example prints, proves and builds'
-	@echo '                            ./disruptor, and runs it: 10 to 16 minutes from nothing, then seconds to minutes'
+	@echo '                            ./disruptor, and runs it: 10 to 25 minutes from nothing, then seconds to minutes'
 	@echo '  make try                  runs the shipped example before any proof: a minute or two'
 	@echo '  make check CRATE=dr_core  proves one crate over what is kept: seconds, 1 to 5 minutes from nothing'
 	@echo '  make test                 proves and tests everything: two hours and more; what passed is kept, as far as the kit keeps it'
