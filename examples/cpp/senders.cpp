@@ -19,14 +19,18 @@ int main() {
     for (disruptor::sender_in_place<event> &it : ring.senders) {
         // (each sender moves to its thread, and goes away with it)
         threads.emplace_back([sender = std::move(it)]() mutable {
-            for (std::uint64_t sent = 0; sent < events; sent += claim) {
-                std::uint64_t number = sent;
-                sender.publish_batch(claim, [&](event &it, std::uint64_t) { it.number = number++; });
+            try {
+                for (std::uint64_t sent = 0; sent < events; sent += claim) {
+                    std::uint64_t number = sent;
+                    sender.publish_batch(claim, [&](event &it, std::uint64_t) { it.number = number++; });
+                }
+            } catch (const disruptor::handler_failed &) {
+                // (finish throws it too)
             }
         });
     }
-    ring.finish();
     for (std::thread &thread : threads) thread.join();
+    ring.finish();
     std::uint64_t of_one = 0;
     for (std::uint64_t number = 0; number < events; number++) of_one += number * number;
     std::puts(sum == senders * of_one ? "each handler had every event" : "WRONG");

@@ -309,7 +309,8 @@ class Ring(unittest.TestCase):
         seen = []
         disruptor = Disruptor(4, Event).handle("sees", lambda event, sequence, is_last: seen.append(sequence))
         with disruptor.senders(1) as senders:
-            senders[0].event()
+            with self.assertRaises(AttributeError):
+                senders[0].event().number = 3
         self.assertEqual(seen, [])
 
     def test_once_it_started_no_handler_is_added_and_a_name_is_one_of_its_own(self):
@@ -319,6 +320,17 @@ class Ring(unittest.TestCase):
                 disruptor.completed("two")
             with disruptor.sender(), self.assertRaisesRegex(RuntimeError, "it has started"):
                 disruptor.handle("two", lambda *shown: None)
+
+    def test_a_ring_that_runs_is_not_opened_again(self):
+        seen = []
+        disruptor = Disruptor(8, Event).handle("sees", lambda event, sequence, is_last: seen.append(sequence))
+        with disruptor.sender() as sender:
+            with self.assertRaisesRegex(RuntimeError, "still runs"):
+                disruptor.senders(2).__enter__()
+            send(sender, [1])
+        with disruptor.senders(2) as senders:
+            send(senders[1], [2])
+        self.assertEqual(seen, [0, 0])
 
     def test_a_thread_that_does_not_start_ends_the_others(self):
         started, start = [], threading.Thread.start

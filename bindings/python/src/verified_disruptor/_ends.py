@@ -106,6 +106,9 @@ class _End:
 class _Claim:
     """Events that its `with` claims, once there is room, and publishes at its end, filled or not: the next one, or a batch."""
 
+    # (so that whoever fills it, and not what its `with` gives, is told)
+    __slots__ = ("_sender", "_n", "_is_batch", "_timeout")
+
     def __init__(self, sender: Sender, n: int, is_batch: bool, timeout: float | None):
         self._sender, self._n, self._is_batch, self._timeout = sender, n, is_batch, timeout
 

@@ -88,6 +88,7 @@ class Disruptor:
         self._upstreams: list[list[int]] = []
         # (those of the ring that was opened last)
         self._ends: Ends | None = None
+        self._threads: list[threading.Thread] = []
 
     def _add(self, name: str, changes: bool, run: Callable[[Receiver], None]) -> Disruptor:
         if self._ends:
@@ -179,6 +180,8 @@ class Disruptor:
 
     @contextmanager
     def _running(self, senders: int | None) -> Iterator[Ends]:
+        if any(thread.is_alive() for thread in self._threads):
+            raise RuntimeError("its ring still runs: one of several senders is opened by senders(count)")
         ends = self._ends = self._open(senders)
         failed: list[tuple[str, BaseException]] = []
 
@@ -195,7 +198,7 @@ class Disruptor:
 
         works = [_Work() for _ in self._names]
         each = zip(self._names, self._runs, ends.receivers, works)
-        threads = [threading.Thread(target=work, args=it, name=it[0], daemon=True) for it in each]
+        threads = self._threads = [threading.Thread(target=work, args=it, name=it[0], daemon=True) for it in each]
         # (an interrupt where the `with` ends may keep this from going on after its `yield`; then the ring ends with the program)
         end = partial(self._end, ends, senders, threads, works)
         atexit.register(end)

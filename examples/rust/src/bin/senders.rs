@@ -4,7 +4,7 @@ use std::error::Error;
 use std::sync::atomic::{AtomicU64, Ordering};
 use std::sync::Arc;
 use std::thread;
-use verified_disruptor::Builder;
+use verified_disruptor::{Builder, Refusal};
 
 const SENDERS: usize = 3;
 const EVENTS: u64 = 300_000;
@@ -37,10 +37,9 @@ fn main() -> Result<(), Box<dyn Error>> {
             })
         })
         .collect();
-    for thread in threads {
-        thread.join().expect("a sender's thread ends")?;
-    }
-    disruptor.finish()?;
+    let sent: Result<(), Refusal> = threads.into_iter().map(|thread| thread.join().expect("a sender's thread ends")).collect();
+    disruptor.finish()?; // (it says who panicked)
+    sent?;
     let of_one: u64 = (0..EVENTS).map(|number| number * number).sum();
     assert_eq!(sum.load(Ordering::Relaxed), SENDERS as u64 * of_one);
     println!("each handler had every event");
