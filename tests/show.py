@@ -6,8 +6,8 @@
 
 A page has to be that of page/show.html around its data, and its data what the second reading says of the file. Its replies have to be the lines
 of `drive`, and the run has to end as `drive` does. In the browser each example and worked run is gone through by keys, clicks, the slider and the
-address, and each step has to show its record and the line of `drive`. A page of 2,000 steps has to open within a second. The script prints a line for each failure, and then a count; its status is
-0 where none failed.
+address, and each step has to show its record and the line of `drive`. No card may move as one steps, and no row of the list be cut. A page of
+2,000 steps has to open within a second. The script prints a line for each failure, and then a count; its status is 0 where none failed.
 """
 
 import argparse
@@ -80,8 +80,11 @@ document.getElementById("told").textContent = JSON.stringify(said);
 </script>"""
 LIMITED = b"ring,4,single\nlimit,2\nwith,a\nstart\nclaim,0,2\n"
 HALTED = b"ring,4,single\nwith,a\nstart\nclaim,0,1\nhalt\nhalt\nhat\n"
+FULL = b"ring,2,single\nwith,a,b\nthen,c\nstart\nclaim,0,2\nwrite,0,0,7\nwrite,0,1,8\npublish,0,0,1\npoll,a,2\n"
 OTHERS = ": --from and --steps show others."
 SAID = (
+    (FULL, 1, 2000, "", "Handler c completed 0 of 2 claimed events, and the ring has 2 slots: none is free. Handler c follows handlers a and b, which "
+     "completed none of the events. Handler a took 0 and 1, and has still to complete them. Handler b may take 0 and 1 now."),
     (LIMITED, 1, 2000, "", "2 sequences of at most 2 are claimed: none is left."),
     (LIMITED.replace(b",2\n", b",4\n"), 1, 2000, "", "4 sequences of at most 4 are claimed: none is left."),
     (LIMITED.replace(b"0,2\n", b"0,1\n"), 1, 2000, "", "1 sequence of at most 2 is claimed: a claim may have at most 1 now."),
@@ -94,6 +97,27 @@ SAID = (
     (HALTED[:-4], 5, 1, "Of 6 records the page has 1 to 3 and 5" + OTHERS, "Halted: no claim is given a sequence."),
     (HALTED[:-4], 1, 0, "Of 6 records the page has 1 to 3" + OTHERS, "A claim may have the whole ring."),
     (HALTED[:-4], 1, 3, "Of 6 records the page has 1 to 3" + OTHERS, "A claim may have the whole ring."),
+)
+
+# What tells of all steps of a page where its cards stand, which rows its list cuts, and what tracks and free slots are called.
+STANDS = """<script>
+const places = new Set(), cut = [], tracks = new Set(), slots = new Set();
+const isCut = (row, list) => [list.top, list.bottom].some((edge) => row.top < edge - 0.5 && row.bottom > edge + 0.5);
+records.forEach((r, k) => {
+  show(k);
+  const list = $("lines").getBoundingClientRect();
+  for (const row of $("lines").children) if (isCut(row.getBoundingClientRect(), list)) cut.push(`${row.textContent} at ${r.record}`);
+  if (r.next === undefined) return;
+  places.add([...document.querySelectorAll(".card")].map((it) => it.getBoundingClientRect()).map((it) => `${it.top + scrollY} ${it.height}`).join());
+  for (const it of document.querySelectorAll("#ring textPath")) tracks.add(it.textContent);
+  for (const it of document.querySelectorAll("#ring text")) if (/^for #/.test(it.textContent)) slots.add(it.textContent);
+});
+document.body.innerHTML = "<pre id=told></pre>";
+document.getElementById("told").textContent = JSON.stringify([places.size, cut, [...tracks].sort(), [...slots].sort()]);
+</script>"""
+STOOD = (
+    ("two_producers", ["a"], ["for #0", "for #1", "for #2", "for #3"]),
+    ("diamond", ["business", "journal", "replica"], ["for #0", "for #1", "for #2"]),
 )
 
 
@@ -170,6 +194,13 @@ def sentence_cases(bench, browser):
         bench.judge(f"what the page of {text!r} from {first}, {steps} steps says", told_by(bench, browser, page, SAYS), said)
 
 
+def standing_cases(bench, browser):
+    """A page names its tracks and free slots, cuts no row of its list, and moves no card as one steps."""
+    for name, tracks, slots in STOOD:
+        page = bench.run("show", f"{TOP}/examples/{name}.csv").out
+        bench.judge(f"what stands on the page of {name}", told_by(bench, browser, page, STANDS), [1, [], tracks, slots])
+
+
 def open_long(bench, browser):
     """A page of 2,000 steps opens within a second, the best of some times: the machine may have other work."""
     rounds = "".join(f"claim,0,1\nwrite,0,{k},{k}\npublish,0,{k},{k}\npoll,a,1\ncomplete,a,{k + 1}\n" for k in range(400))
@@ -194,6 +225,7 @@ def look(bench, files):
         judge_file(bench, f"random file {k}", random_file("drive", f"show {k}"), around)
     if browser:
         sentence_cases(bench, browser)
+        standing_cases(bench, browser)
         open_long(bench, browser)
     else:
         print("not here, and left out: a browser")

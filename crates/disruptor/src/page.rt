@@ -10,7 +10,7 @@ pub(crate) const BEFORE: &str = "\
 <title>An exchange, step by step</title>
 <style>
   :root {
-    color-scheme: light dark;
+    color-scheme: light dark; overflow-y: scroll;
     --ink: #1d2733; --soft: #566270; --line: #cfd6df; --paper: #fff; --ground: #f3f5f8; --now: #fff3cf; --bad: #a3201a;
     --claimed: #f6c65b; --written: #e5862a; --published: #2f6fc4; --on-published: #fff; --mark: #7a5b00;
   }
@@ -32,8 +32,11 @@ pub(crate) const BEFORE: &str = "\
   :focus-visible { outline: 3px solid var(--published); outline-offset: 1px; }
   #at { flex: 1 1 140px; min-width: 100px; }
   #body { display: grid; grid-template-columns: minmax(300px, 34%) 1fr; align-items: start; }
-  #file { position: sticky; top: 46px; max-height: calc(100vh - 46px); overflow: auto; background: var(--paper); border-right: 1px solid var(--line); }
-  #lines { margin: 0; padding: 6px 0; list-style: none; }
+  #file {
+    position: sticky; top: 46px; max-height: calc(100vh - 46px); display: flex; flex-direction: column;
+    background: var(--paper); border-right: 1px solid var(--line);
+  }
+  #lines { margin: 0; padding: 6px 0; list-style: none; overflow: auto; }
   #lines button {
     display: grid; grid-template-columns: 3.4em minmax(0, 5fr) minmax(0, 4fr); gap: 8px; width: 100%; padding: 1px 10px 1px 2px; text-align: left;
     border: 0; border-left: 5px solid transparent; border-radius: 0; background: none; font: 13px/1.5 ui-monospace, monospace;
@@ -43,7 +46,6 @@ pub(crate) const BEFORE: &str = "\
   #lines span:first-child { color: var(--soft); text-align: right; }
   #lines [aria-current] { background: var(--now); border-left-color: var(--mark); font-weight: 600; }
   .bad { color: var(--bad); }
-  .later { opacity: .62; }
   main { padding: 12px 16px; display: grid; gap: 12px; min-width: 0; }
   .card { background: var(--paper); border: 1px solid var(--line); border-radius: 8px; padding: 8px 12px; min-width: 0; overflow-x: auto; }
   #said b { font: 600 15px/1.4 ui-monospace, monospace; overflow-wrap: anywhere; }
@@ -55,24 +57,32 @@ pub(crate) const BEFORE: &str = "\
   #both > div { display: grid; gap: 12px; min-width: 0; }
   svg { display: block; width: 100%; height: auto; }
   svg text { fill: var(--ink); }
+  .along { font-family: ui-monospace, monospace; font-weight: 600; }
+  .along text:first-of-type { stroke: var(--paper); stroke-width: 5; stroke-linejoin: round; }
   table { border-collapse: collapse; width: 100%; }
-  th, td { padding: 3px 12px 3px 0; text-align: left; vertical-align: top; border-top: 1px solid var(--line); }
+  th, td { padding: 3px 6px 3px 0; text-align: left; vertical-align: top; border-top: 1px solid var(--line); }
   tr > :last-child { padding-right: 0; }
   tr:first-child > * { border-top: 0; }
   th { font-weight: 500; color: var(--soft); }
   td.n, th.n { text-align: right; }
-  .name { overflow-wrap: anywhere; min-width: 5.5em; }
+  .name { overflow-wrap: anywhere; min-width: 5.5em; width: 6.4em; }
+  .asked { width: 8.6em; padding-left: 8px; }
+  #handlers p, #claims p { margin: 4px 0 0; }
   #part { margin: 8px 10px; }
   #key svg { display: inline-block; width: 18px; height: 14px; vertical-align: -2px; margin-right: 5px; }
   footer, .soft { color: var(--soft); }
-  footer { font-size: 13px; }
+  footer, #handlers table { font-size: 13px; }
   @media (max-width: 760px) {
     #body { display: block; }
-    #file { position: static; max-height: 34vh; border-right: 0; border-bottom: 1px solid var(--line); }
+    #file { position: static; max-height: none; border-right: 0; border-bottom: 1px solid var(--line); }
     main { padding: 10px; }
-    #lines button { grid-template-columns: 3.4em minmax(0, 1fr); gap: 0 8px; }
-    #lines li { contain-intrinsic-size: auto 42px; }
-    #lines span:last-child { grid-column: 2; }
+    /* Rows of one height, and a list of whole rows: none is cut at its edges. */
+    #lines { padding: 0; max-height: 208px; max-height: round(down, 34vh, 26px); scroll-snap-type: y mandatory; }
+    #lines li { scroll-snap-align: start; contain-intrinsic-size: auto 26px; }
+    #lines button { display: flex; align-items: center; height: 26px; white-space: nowrap; }
+    #lines span { overflow: hidden; text-overflow: ellipsis; }
+    #lines span:first-child { flex: 0 0 3.4em; }
+    #lines span:last-child { flex: 1 9999 auto; min-width: 9ch; }
     #lines span:last-child:not(:empty)::before { content: \"\\2192  \" / \"\"; }
   }
 </style>
@@ -92,16 +102,17 @@ pub(crate) const BEFORE: &str = "\
 <div id=\"body\">
 <section id=\"file\" aria-label=\"The file's records, with their replies\"><p id=\"part\" class=\"soft\" hidden></p><ol id=\"lines\"></ol></section>
 <main>
-  <section class=\"card\" id=\"said\" aria-live=\"polite\"><b id=\"head\"></b><p id=\"asks\" class=\"soft\"></p><p id=\"why\"></p></section>
+  <section class=\"card\" id=\"said\" aria-live=\"polite\"></section>
   <div id=\"both\">
     <div>
       <figure class=\"card\" id=\"ring\" style=\"margin: 0\"></figure>
       <section class=\"card row\" id=\"key\" aria-label=\"Key\"></section>
     </div>
     <div>
-      <section class=\"card\"><h2>Handlers</h2><div id=\"graph\" tabindex=\"0\" role=\"group\" aria-label=\"Who follows whom\"></div><table id=\"handlers\"></table>
-        <p class=\"soft\" style=\"margin: 4px 0 0\">Gating: there is more, but not yet. Idle: there is nothing new. A slot is free again once each handler in a thick box has completed its event.</p></section>
-      <section class=\"card\"><h2>Claims</h2><p id=\"room\" style=\"margin: 0 0 4px\"></p><table id=\"producers\"></table></section>
+      <section class=\"card\"><h2>Handlers</h2><div id=\"graph\" tabindex=\"0\" role=\"group\" aria-label=\"Who follows whom\"></div>
+        <p class=\"soft\" style=\"margin: 4px 0\">Gating: there is more, but not yet. Idle: there is nothing new. A slot is free again once each handler in a thick box has completed its event.</p>
+        <div id=\"handlers\"></div></section>
+      <section class=\"card\"><h2>Claims</h2><div id=\"claims\"></div></section>
     </div>
   </div>
   <footer>
@@ -144,27 +155,32 @@ const first = (words) => (words.length > 16 ? `${words.slice(0, 16).join(\" \")}
 const span = (lo, hi) => (lo === hi ? `${lo}` : hi === lo + 1 ? `${lo} and ${hi}` : `${lo} to ${hi}`);
 const several = (lo, hi) => (lo === hi ? \"sequence\" : \"sequences\");
 const name = (h) => exchange.handlers[h].name;
+// A name cut in its middle: names often differ at their ends.
+const short = (text, most = 14) => (text.length > most ? `${text.slice(0, most - 6)}\\u2026${text.slice(-5)}` : text);
 const code = (text) => `<code>${esc(text)}</code>`;
 const those = (all) => `${all.length === 1 ? \"handler\" : \"handlers\"} ${list(all.map((h) => code(name(h))))}`;
 const begin = (text) => text.slice(0, 1).toUpperCase() + text.slice(1);
 
 // The stretches of the last round, each with its last sequence, and the event of a sequence.
-function stretches(r) {
-  return r.round.map(([lo, producer, stage], i) => ({ lo, hi: (r.round[i + 1]?.[0] ?? r.next) - 1, producer, stage }));
-}
-function events(r) {
-  return (r.read ??= new Map(r.events.split(\" \").filter(Boolean).map((it) => [Number(it.split(\"=\")[0]), it.split(\"=\")[1]])));
-}
+const stretches = (r) => r.round.map(([lo, producer, stage], i) => ({ lo, hi: (r.round[i + 1]?.[0] ?? r.next) - 1, producer, stage }));
+const events = (r) => (r.read ??= new Map(r.events.split(\" \").filter(Boolean).map((it) => [Number(it.split(\"=\")[0]), it.split(\"=\")[1]])));
 const stretchOf = (all, s) => all.find((it) => it.lo <= s && s <= it.hi);
 // The least count that holders completed: what is below it is free again.
 const floor = (r) => r.handlers.find((h) => h.holds)?.completed ?? 0;
 const holders = (r) => r.handlers.flatMap((h, k) => (h.holds ? [k] : []));
-
 function whyWaits(r, h) {
   const it = r.handlers[h], ups = exchange.handlers[h].upstreams, slow = ups.filter((u) => r.handlers[u].completed <= it.taken);
   const done = slow.map((u) => String(r.handlers[u].completed)), alike = new Set(done).size === 1;
-  if (slow.length) return `${begin(those([h]))} follows ${those(slow)}, which completed ${alike && done[0] === \"0\" ? \"none of the events\" : `only ${alike ? done[0] : list(done)} of the events`}.`;
-  return whyBehind(r);
+  if (!slow.length) return whyBehind(r);
+  const came = alike && done[0] === \"0\" ? \"none of the events\" : `only those below ${alike ? done[0] : list(done)}`;
+  return joined([`${begin(those([h]))} follows ${those(slow)}, which completed ${came}.`, ...slow.map((u) => whySlow(r, u))]);
+}
+const joined = (said) => [...new Set(said)].filter(Boolean).join(\" \");
+// What a handler that others wait for has to do next, or what it waits for itself.
+function whySlow(r, h) {
+  const it = r.handlers[h], taken = it.taken - it.completed;
+  if (taken) return `${begin(those([h]))} took ${span(it.completed, it.taken - 1)}, and has still to complete ${taken === 1 ? \"it\" : \"them\"}.`;
+  return it.poll === \"batch\" ? `${begin(those([h]))} may take ${next(it)} now.` : it.poll === \"gating\" ? whyWaits(r, h) : \"\";
 }
 function whyBehind(r) {
   const all = stretches(r), gap = stretchOf(all, r.front), later = all.filter((s) => s.stage === \"published\" && s.lo > r.front);
@@ -181,16 +197,17 @@ function whoMayTake(r, isMeant = () => true) {
 }
 // The limit bounds the room where a claim of all of it would come to the limit; else the slots do.
 function whyNoRoom(r) {
-  const most = r.room ? `a claim may have at most ${r.room} now` : \"\";
   if (r.halted) return \"The exchange is halted.\";
+  const most = r.room ? `a claim may have at most ${r.room} now` : \"\";
   if (BigInt(r.next) + BigInt(r.room) === BigInt(exchange.limit)) return `${count(r.next, \"sequence\")} of at most ${exchange.limit} ${r.next === 1 ? \"is\" : \"are\"} claimed: ${most || \"none is left\"}.`;
-  return `${begin(those(holders(r)))} completed ${floor(r)} of ${r.next} claimed events, and the ring has ${count(exchange.size, \"slot\")}: ${most || \"none is free\"}.`;
+  const all = `${begin(those(holders(r)))} completed ${floor(r)} of ${r.next} claimed events, and the ring has ${count(exchange.size, \"slot\")}: ${most || \"none is free\"}.`;
+  return joined([all, ...holders(r).map((h) => whySlow(r, h))]);
 }
 // What those may take now that follow a handler, or why they wait.
 function followers(r, h) {
   const follows = (k) => exchange.handlers[k].upstreams.includes(h);
   const waiting = r.handlers.map((it, k) => (it.poll === \"gating\" && follows(k) ? whyWaits(r, k) : \"\"));
-  return [whoMayTake(r, follows), ...new Set(waiting)].filter(Boolean).join(\" \");
+  return joined([whoMayTake(r, follows), ...waiting]);
 }
 const SETUP = {
   ring: \"The ring: slots that are made once and used again.\", limit: \"How many sequences may be claimed in all.\", with: \"Handlers that wait for no other handler.\",
@@ -212,7 +229,7 @@ function asks(r) {
   return r.fault ? \"\" : words[word]?.() ?? \"\";
 }
 function explain(r) {
-  if (r.fault) return \"The file is at fault here, and the run ends.\";
+  if (r.fault) return `The file is at fault here, and the run ends: ${code(\"disruptor check drive FILE\")} tells what may stand here.`;
   const [word, ...f] = r.text.split(\",\"), reply = r.reply?.split(\" \").map((it) => it.trim());
   if (r.exchange) return `The exchange opens: ${count(exchange.size, \"slot\")}, ${count(exchange.producers, \"producer\")}, ${count(exchange.handlers.length, \"handler\")}.`;
   if (!reply) return SETUP[word] ?? \"\";
@@ -228,7 +245,7 @@ function explain(r) {
     drained: () => `The exchange is halted, and ${those([h])} took all there will ever be.`,
     completed: () => `${r.handlers[h].gates ? (floor(r) ? `The slots of the sequences below ${floor(r)} are free again.` : \"\") : followers(r, h)}`,
     halting: () => \"No claim succeeds from now on. What is claimed may still be published, and is still handed out.\",
-    retired: () => `${begin(those([h]))} takes no more events, and no claim waits for it.`,
+    retired: () => `${begin(those([h]))} takes no more events, and no claim waits for it, but for ${those(r.handlers.flatMap((it, k) => (it.gates ? [k] : [])))}.`,
     refused: () => `${reply[1] === \"1\" ? `No room. ${whyNoRoom(r)}` : REFUSED[reply[1]] ?? \"\"} Nothing has changed.`,
   };
   return why[reply[0]]?.() ?? \"\";
@@ -256,6 +273,8 @@ function parts(r) {
 }
 const published = (r) =>
   r.front ? [`all below #${r.front}`, \"are published\"] : r.round.some((it) => it[2] === \"published\") ? [\"#0 is not\", \"published yet\"] : [\"nothing is\", \"published yet\"];
+// The last sequence that a free slot waits for, where there is room.
+const lastFree = (r) => r.next + r.room - 1;
 function tellRing(r) {
   const all = parts(r), told = events(r);
   const said = all.slice(0, 24).map((it) => {
@@ -264,10 +283,11 @@ function tellRing(r) {
       values.length ? ` (${values.join(\", \")})` : \"\"}`;
   });
   const more = all.length > 24 ? `, and ${all.length - 24} stretches more` : \"\";
-  return `A ring of ${count(exchange.size, \"slot\")}. ${said.length ? `${said.join(\"; \")}${more}.` : \"Nothing is claimed.\"} Next to be claimed: ${r.next}. ${published(r).join(\" \")}.`;
+  const free = r.room ? ` Free slots are for ${several(r.next, lastFree(r))} ${span(r.next, lastFree(r))}.` : \"\";
+  return `A ring of ${count(exchange.size, \"slot\")}. ${said.length ? `${said.join(\"; \")}${more}.` : \"Nothing is claimed.\"} Next to be claimed: ${r.next}.${free} ${published(r).join(\" \")}.`;
 }
 function drawRing(r) {
-  const size = exchange.size, many = r.handlers.length, lane = Math.min(16, 72 / many), R = 150, W = 58, C = R + 24 + many * lane;
+  const size = exchange.size, many = r.handlers.length, lane = Math.min(18, 72 / many), R = 150, W = 62, C = R + 24 + many * lane;
   // How much of the picture is a pixel, so that no label is small on a narrow screen.
   const px = Math.max(1, (2 * C) / Math.max(1, $(\"ring\").clientWidth - 24));
   const turn = (n) => (((n % size) / size) * 2 - 0.5) * Math.PI, one = (2 * Math.PI) / size;
@@ -290,31 +310,46 @@ function drawRing(r) {
     for (const it of all) {
       const a = turn(it.lo), b = a + (it.hi - it.lo + 1) * one;
       out += band(a, b, R - W, R, `fill=\"${fill(it.way)}\" stroke=\"var(--ink)\" stroke-width=\".6\"`);
-      if (b - a > 0.5) out += text((a + b) / 2, R - W / 2, 12, `${LETTER[it.way]} ${it.lo}\\u2013${it.hi}`, it.way);
+      if (b - a > 0.5 && it.way !== \"again\") out += text((a + b) / 2, R - W / 2, 12, `${LETTER[it.way]} ${it.lo}\\u2013${it.hi}`, it.way);
     }
   } else {
     for (let k = 0; k < size; k++) {
       const s = r.next - 1 - ((((r.next - 1 - k) % size) + size) % size), it = s >= 0 ? stretchOf(all, s) : undefined, way = it?.way ?? \"free\";
       const a = turn(k), gap = Math.min(0.02, one / 8), mid = a + one / 2, now = s >= touched[0] && s <= touched[1];
       out += band(a + gap, a + one - gap, R - W, R, `fill=\"${fill(way)}\" stroke=\"var(--ink)\" stroke-width=\"${now ? 3 : 0.6}\"`);
-      if (it && size <= 16) {
-        const room = Math.min(W, one * (R - W / 2)), letters = Math.floor(room / (7.6 * px)), label = `#${s} ${LETTER[way]}`, value = told.get(s);
-        const lines = [label.length > letters ? `#${s}` : label, exchange.producers > 1 ? `by ${it.producer}` : \"\", value?.length > letters ? `${value.slice(0, letters - 1)}\\u2026` : value].filter(Boolean);
-        while (lines.length > 1 && lines.length * 13 * px > room) lines.splice(1, 1);
+      if (size <= 16) {
+        const room = Math.min(W, one * (R - W / 2)), letters = Math.floor(room / (7.6 * px)), free = !it || way === \"again\", value = free ? undefined : told.get(s);
+        const label = free ? `for #${s + size}` : `#${s} ${LETTER[way]}`, isLong = label.length > letters;
+        const lines = free
+          ? (s + size > lastFree(r) ? [] : isLong ? label.split(\" \") : [label])
+          : [isLong ? `#${s}` : label, exchange.producers > 1 ? `by ${it.producer}` : \"\", value?.length > letters ? `${value.slice(0, letters - 1)}\\u2026` : value].filter(Boolean);
+        while (lines.length > 1 && lines.length * 13 * px > room) lines.splice(free ? 0 : 1, 1);
         lines.forEach((line, i) => { out += text(mid, R - W / 2, 12, line, way, i > 0 && line === lines.at(-1) && value !== undefined, (i - (lines.length - 1) / 2) * 13.5); });
       } else if (it) out += text(mid, R - W / 2, 12, LETTER[way], way);
     }
   }
-  const apart = Math.ceil((13 * px) / lane);
+  if (size > 16 && r.room * one > 0.5) out += text(turn(r.next) + (r.room * one) / 2, R - W / 2, 12, `for ${r.next}\\u2013${lastFree(r)}`, \"free\");
+  // A name along its track, upright, from an angle on, in letters of one width; first in the paper's color, wider.
+  const along = (k, radius, a, what) => {
+    const b = a + (what.length * 10 * px) / radius, down = Math.sin((a + b) / 2) > 0, r0 = radius + (down ? 4 : -4) * px;
+    const line = `<text font-size=\"${12 * px}\" text-anchor=\"${down ? \"end\" : \"start\"}\"><textPath href=\"#along${k}\" startOffset=\"${down ? 100 : 0}%\">${esc(what)}</textPath></text>`;
+    return `<g class=\"along\"><path id=\"along${k}\" d=\"M${at(down ? b : a, r0)}A${r0} ${r0} 0 0 ${down ? 0 : 1} ${at(down ? a : b, r0)}\" fill=\"none\"/>${line}${line}</g>`;
+  };
+  // Names in lanes that are lower than a letter stand one after another.
+  const apart = Math.ceil((12 * px) / lane), after = [];
+  const called = (k) => short(name(k), apart > 2 ? 9 : 14), names = [];
   r.handlers.forEach((h, k) => {
     const r0 = R + 8 + k * lane, thick = Math.min(8, lane * 0.62), color = COLORS[k % COLORS.length];
     out += `<circle cx=\"${C}\" cy=\"${C}\" r=\"${r0 + thick / 2}\" fill=\"none\" stroke=\"${color}\" stroke-opacity=\".25\" stroke-width=\"${thick / 2}\"/>`;
+    after[k] = k % apart ? after[k - 1] + called(k - 1).length * 8 + 6 : 7;
     if (h.retired) return;
     const a = turn(h.completed), b = a + (h.taken - h.completed) * one;
     if (h.taken > h.completed) out += band(a, b, r0, r0 + thick, `fill=\"${color}\"`);
-    out += `<path d=\"M${at(b, r0 - 3)}L${at(b, r0 + thick + 3)}\" stroke=\"${color}\" stroke-width=\"3\"/>` + text(b + (6 + (k % apart) * 15) * (px / r0), r0 + thick / 2, 12, k + 1, \"\", true);
+    out += `<path d=\"M${at(b, r0 - 3)}L${at(b, r0 + thick + 3)}\" stroke=\"${color}\" stroke-width=\"3\"/>`;
+    names.push(along(k, r0 + thick / 2, b + (after[k] * px) / r0, called(k)));
   });
-  const middle = [`next claim: #${r.next}`, ...published(r), r.halted ? \"halted\" : `room for ${r.room}`];
+  out += names.join(\"\");
+  const middle = [r.halted ? `claimed: ${r.next}` : `next claim: #${r.next}`, ...published(r), r.halted ? \"halted\" : `room for ${r.room}`];
   middle.forEach((it, k) => { out += `<text x=\"${C}\" y=\"${C + (18 * k - 23) * px}\" text-anchor=\"middle\" font-size=\"${13 * px}\">${it}</text>`; });
   return `<svg viewBox=\"0 0 ${2 * C} ${2 * C}\" role=\"img\" aria-label=\"${esc(`${tellRing(r)} ${tellTracks(r)}`)}\">${out}</svg>`;
 }
@@ -348,35 +383,60 @@ function drawGraph(r) {
   out += `<rect x=\"1\" y=\"${tall / 2 - 14}\" width=\"${left - 1}\" height=\"28\" rx=\"6\" fill=\"var(--paper)\" stroke=\"var(--soft)\"/>
     <text x=\"${left / 2}\" y=\"${tall / 2 + 4.5}\" text-anchor=\"middle\" font-size=\"12\">${exchange.producers === 1 ? \"producer\" : \"producers\"}</text>`;
   all.forEach((it, h) => {
-    const [x, y] = place[h], now = r.handlers[h], label = `${h + 1} ${it.name}`;
+    const [x, y] = place[h], now = r.handlers[h];
     out += `<g opacity=\"${now.retired ? 0.5 : 1}\"><rect x=\"${x}\" y=\"${y}\" width=\"${wide}\" height=\"28\" rx=\"6\" fill=\"var(--paper)\" stroke=\"${COLORS[h % COLORS.length]}\"
       stroke-width=\"${now.gates ? 4 : 1.5}\" ${now.retired ? 'stroke-dasharray=\"4 3\"' : \"\"}/><text x=\"${x + wide / 2}\" y=\"${y + 18.5}\" text-anchor=\"middle\"
-      font-size=\"12.5\">${esc(label.length > 15 ? `${label.slice(0, 14)}\\u2026` : label)}</text></g>`;
+      font-size=\"12.5\">${esc(short(it.name))}</text></g>`;
   });
   const says = all.map((it, h) => `Handler ${it.name} follows ${it.upstreams.length ? list(it.upstreams.map(name)) : \"the producers\"}${
     r.handlers[h].retired ? \" and is retired\" : r.handlers[h].gates ? \" and frees slots\" : \"\"}.`).join(\" \");
   const width = left + columns.length * (wide + gap) + 2;
   return `<svg viewBox=\"0 0 ${width} ${tall}\" style=\"width:${width}px\" role=\"img\" aria-label=\"${esc(says)}\">${out}</svg>`;
 }
-function drawTables(r) {
+// What the cards tell of a record.
+function tellSaid(r) {
+  const told = `${plain(r.text)}${r.reply ? `  \\u2192  ${plain(r.reply)}` : \"\"}${r.fault ? `  \\u2192  ${r.fault}` : \"\"}`;
+  return `<b id=\"head\">${esc(told)}</b><p id=\"asks\" class=\"soft\">${asks(r)}</p><p id=\"why\">${explain(r)}</p>`;
+}
+function tellHandlers(r) {
   const finals = r.handlers.filter((h) => h.gates).length;
   const rows = r.handlers.map((h, k) => {
     const asked = h.poll === \"batch\" ? `batch: ${next(h).replaceAll(\" \", \"&nbsp;\")}` : POLL[h.poll];
-    const waits = h.poll === \"gating\" ? `<tr><td class=\"soft\" colspan=\"5\">${whyWaits(r, k)}</td></tr>` : \"\";
     return `<tr><td class=\"name\"><svg viewBox=\"0 0 10 10\" width=\"10\" height=\"10\" style=\"display:inline-block;width:10px\" aria-hidden=\"true\">
-      <circle cx=\"5\" cy=\"5\" r=\"5\" fill=\"${COLORS[k % COLORS.length]}\"/></svg> ${k + 1} ${code(name(k))}</td><td class=\"n\">${h.taken}</td><td class=\"n\">${h.completed}</td>
-      <td>${asked}</td><td>${h.retired ? \"no: retired\" : h.holds && finals > 1 ? \"yes, completed least\" : h.gates ? \"yes\" : \"no\"}</td></tr>${waits}`;
+      <circle cx=\"5\" cy=\"5\" r=\"5\" fill=\"${COLORS[k % COLORS.length]}\"/></svg>&nbsp;${code(name(k))}</td><td class=\"n\">${h.taken}</td><td class=\"n\">${
+      h.holds && finals > 1 ? \"least: \" : \"\"}${h.completed}</td><td class=\"asked\">${asked}</td><td>${h.gates ? \"yes\" : \"no\"}</td></tr>`;
   });
-  $(\"handlers\").innerHTML = `<tr><th>handler</th><th class=\"n\">taken</th><th class=\"n\">completed</th><th>a poll gets</th><th>frees slots</th></tr>${rows.join(\"\")}`;
-  $(\"room\").innerHTML = r.halted ? \"Halted: no claim is given a sequence.\" : r.room === exchange.size ? \"A claim may have the whole ring.\" : whyNoRoom(r);
+  const waits = r.handlers.map((h, k) => (h.poll === \"gating\" ? whyWaits(r, k) : \"\"));
+  return `<table><tr><th>handler</th><th class=\"n\">taken</th><th class=\"n\">completed</th><th class=\"asked\">a poll<br>gets</th><th>frees<br>slots</th></tr>${rows.join(\"\")}</table>
+    <p>${[...new Set(waits)].filter(Boolean).join(\" \")}</p>`;
+}
+function tellClaims(r) {
+  const room = r.halted ? \"Halted: no claim is given a sequence.\" : r.room === exchange.size ? \"A claim may have the whole ring.\" : whyNoRoom(r);
   const own = Array.from({ length: exchange.producers }, (_, p) => stretches(r).filter((it) => it.producer === p && it.stage !== \"published\"));
-  $(\"producers\").innerHTML = `<tr><th>producer</th><th>has claimed, and not published</th></tr>` + own.map((it, p) => `<tr><td>${p}</td><td>${
-    it.slice(0, 8).map((s) => `${span(s.lo, s.hi)} (${s.stage})`).join(\", \") || \"nothing\"}${it.length > 8 ? \", \\u2026\" : \"\"}</td></tr>`).join(\"\");
+  const rows = own.map((it, p) => `<tr><td>${p}</td><td>${
+    it.slice(0, 8).map((s) => `${span(s.lo, s.hi)} (${s.stage})`).join(\", \") || \"nothing\"}${it.length > 8 ? \", \\u2026\" : \"\"}</td></tr>`);
+  return `<table><tr><th>producer</th><th>has claimed, and not published</th></tr>${rows.join(\"\")}</table><p id=\"room\">${room}</p>`;
+}
+const CARDS = { said: tellSaid, handlers: tellHandlers, claims: tellClaims };
+// Each card keeps the height of its longest texts, so that nothing moves as one steps, unless that takes much of the window.
+let longest;
+function keepHeights() {
+  longest ??= Object.entries(CARDS).map(([id, tell]) => {
+    const all = records.filter((r) => id === \"said\" || r.next !== undefined).map(tell);
+    return [id, [...new Set(all)].sort((a, b) => b.length - a.length).slice(0, 12)];
+  });
+  $(\"both\").hidden = false;
+  for (const [id, all] of longest) {
+    const card = $(id);
+    card.style.minHeight = \"\";
+    const heights = all.map((told) => { card.innerHTML = told; return card.getBoundingClientRect().height; });
+    card.style.minHeight = `${Math.min(Math.max(0, ...heights), innerHeight / (id === \"said\" ? 3 : 2))}px`;
+  }
 }
 
 // Scrolls the list to a record; lines get their heights as they are seen.
 function reveal(line) {
-  const box = $(\"file\"), at = line.getBoundingClientRect(), all = box.getBoundingClientRect();
+  const box = $(\"lines\"), at = line.getBoundingClientRect(), all = box.getBoundingClientRect();
   if (at.top < all.top || at.bottom > all.bottom) box.scrollTop += at.top - all.top - box.clientHeight / 2;
 }
 function show(to, keeps) {
@@ -390,15 +450,12 @@ function show(to, keeps) {
   $(\"where\").textContent = `record ${r.record} of ${end.last}`;
   for (const id of [\"first\", \"back\"]) $(id).disabled = step === 0;
   for (const id of [\"on\", \"end\"]) $(id).disabled = step === records.length - 1;
-  $(\"head\").textContent = `${plain(r.text)}${r.reply ? `  \\u2192  ${plain(r.reply)}` : \"\"}${r.fault ? `  \\u2192  ${r.fault}` : \"\"}`;
-  $(\"asks\").innerHTML = asks(r);
-  $(\"why\").innerHTML = explain(r);
   $(\"both\").hidden = r.next === undefined;
   if (r.next !== undefined) {
     $(\"ring\").innerHTML = drawRing(r);
     $(\"graph\").innerHTML = drawGraph(r);
-    drawTables(r);
   }
+  for (const [id, tell] of Object.entries(CARDS)) if (id === \"said\" || r.next !== undefined) $(id).innerHTML = tell(r);
   if (!keeps) history.replaceState(null, \"\", `#step=${r.record}`);
 }
 function open() {
@@ -416,18 +473,17 @@ function open() {
   }
   $(\"key\").innerHTML = Object.entries(WAYS).map(([way, said]) => `<span><svg viewBox=\"0 0 18 14\" aria-hidden=\"true\">${PATTERNS}<rect x=\".5\" y=\".5\" width=\"17\" height=\"13\"
     fill=\"${fill(way)}\" stroke=\"var(--ink)\"/></svg>${said}</span>`).join(\"\") + `<span><svg viewBox=\"0 0 18 14\" aria-hidden=\"true\"><rect x=\"2\" y=\"2\" width=\"14\" height=\"10\" fill=\"none\"
-    stroke=\"var(--ink)\" stroke-width=\"3\"/></svg>touched by this record</span>` + \"<span>#1 p, by 1, <b>5</b>: sequence 1 is published, by producer 1, with the event 5. Around the ring a track for each handler, by its number: thick from what it completed to what it took.</span>\";
+    stroke=\"var(--ink)\" stroke-width=\"3\"/></svg>touched by this record</span>` + \"<span>So #41 p, by 7, <b>99</b>: sequence 41 is published, by producer 7, with the event 99. Around the ring a track for each handler: thick from what it completed to what it took, at its name.</span>\";
   $(\"at\").max = records.length - 1;
   const asked = () => Number(/^#step=(\\d+)$/.exec(location.hash)?.[1] ?? NaN);
   const find = (k) => { const i = records.findIndex((r) => r.record >= k); return i < 0 ? records.length - 1 : i; };
+  keepHeights();
   show(Number.isNaN(asked()) ? (exchange ? records.findIndex((r) => r.exchange) : records.length - 1) : find(asked()));
-  window.onresize = () => show(step, true);
+  window.onresize = () => { keepHeights(); show(step, true); };
   window.onhashchange = () => { if (!Number.isNaN(asked())) show(find(asked()), true); };
 }
-$(\"first\").onclick = () => show(0);
-$(\"back\").onclick = () => show(step - 1);
-$(\"on\").onclick = () => show(step + 1);
-$(\"end\").onclick = () => show(records.length - 1);
+const TO = { first: () => 0, back: () => step - 1, on: () => step + 1, end: () => records.length - 1 };
+for (const [id, to] of Object.entries(TO)) $(id).onclick = () => show(to());
 $(\"at\").oninput = () => show(Number($(\"at\").value));
 $(\"lines\").onclick = (e) => { const at = e.target.closest(\"button\"); if (at) show(Number(at.dataset.k)); };
 document.onkeydown = (e) => {

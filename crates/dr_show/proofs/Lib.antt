@@ -1,4 +1,5 @@
 pub mod Courses
+pub mod Holders
 pub mod Naming
 pub mod Pages
 pub mod Pieces
