@@ -1,6 +1,6 @@
 //! A core that obeys the records of a file.
 
-ghost use Rattle.std.specs.Prelude.{◌≡◌, ◌≤◌, length, take, IfOk};
+ghost use Rattle.std.specs.Prelude.{◌≡◌, ◌≤◌, length, take, IfErr, IfOk};
 ghost use Rattle.dr_seq.specs.declared.event.Event.{Event};
 ghost use Rattle.dr_meaning.specs.Meaning.Runs.{count_in};
 
@@ -35,7 +35,7 @@ impl Exchange {
     ghost use Rattle.dr_records.specs.Records.{Field};
     ghost use Rattle.dr_drive.specs.Meaning.Commands.{command_of as command_in};
     ghost use Rattle.dr_drive.specs.Meaning.DriveText.{obeys};
-    ghost use Rattle.dr_drive.specs.Calls.Shows.{ExchangeShows, Executes, IsRing, ObeysAs, batch_of, core_of, ring_setup};
+    ghost use Rattle.dr_drive.specs.Calls.Shows.{ExchangeShows, Executes, FaultLeaves, IsRing, ObeysAs, batch_of, core_of, ring_setup};
 
     /// Opens a core over a graph of handlers. An error is that memory ran out.
     pub fn open(alloc: Global, ring: Ring, graph: Graph) -> Result<Exchange, AllocError>
@@ -97,7 +97,10 @@ impl Exchange {
         states: bool,
         line: &mut String,
     ) -> Result<(), RecordFault>
-        ensures { (names : List Field) (c : Setup) (m : State Event) → ExchangeShows self.old names c m → ObeysAs result self.new (string_bytes line.new) (obeys states names c m (command_in names (fields_of row.now))) }
+        // Its line, and the state that the exchange shows then, are those of the record, in whatever state it is.
+        ensures shown { (names : List Field) (c : Setup) (m : State Event) → ExchangeShows self.old names c m → ObeysAs result self.new (string_bytes line.new) (obeys states names c m (command_in names (fields_of row.now))) }
+        // A record that is no command leaves the exchange as it was.
+        ensures refused { IfErr result (λ fault. FaultLeaves fault self.old self.new) }
     {
         let Some(command) = self.command(row) else {
             return Err(RecordFault::Cause(Cause::BadRecord));

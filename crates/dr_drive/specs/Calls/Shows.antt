@@ -112,3 +112,8 @@ pub record IsObeyed (e : Exchange) (line : List ℕ) (t : Result Taken Cause) : 
 abbrev pub ObeysAs : {T : Type 0} → Result T RecordFault → Exchange → List ℕ → Result Taken Cause → Type 0
 ObeysAs (Ok done) e line t = IsObeyed e line t
 ObeysAs (Err f) e line t = FaultAs f t
+
+-- a record at fault leaves an exchange as it was
+abbrev pub FaultLeaves : RecordFault → Exchange → Exchange → Type 0
+FaultLeaves (fault.Cause cause) old new = new ≡ old
+FaultLeaves fault.Memory old new = Unit {0}

@@ -5,8 +5,8 @@ use Rattle.dr_drive.specs.Inside.States.{with_state}
 use Rattle.dr_drive.proofs.Telling.{obeyed_row}
 use Rattle.dr_drive.proofs.exchange.Exchange.obey.Goals as goal
 
-pub returns : goal.returns
-returns c = λ names setup m shown.
+pub returns-clause-shown : goal.returns-clause-shown
+returns-clause-shown c = λ names setup m shown.
     let states = c.args.states in
     let now = c.execute-reply.new.self in
     let events = c.handed.ensures ∙ ap (λ n. take n (batch_of now)) c.count.ensures in
