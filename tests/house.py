@@ -1,7 +1,8 @@
 #!/usr/bin/env python3
 """Looks whether the sources keep those house rules of docs/CONTRIBUTING.md that can be counted: how long functions, files and lines
 are, how many loops a function has, and how many answers in a row a proof leaves out. Of each page that people read it counts the
-words, and those of its sentences. The glossary may explain a term only once, and none that nobody uses."""
+words, and those of its sentences. The glossary may explain a term only once, and none that nobody uses. The name of a public type
+may stand in several crates only with one meaning."""
 
 import os
 import re
@@ -26,6 +27,26 @@ FIGURES = re.compile(r"^<!-- figures.*?^<!-- end -->$", re.M | re.S)
 # What is no prose: code, tables, headings and quotations. Code within a sentence is one word.
 NO_PROSE = re.compile(r"^```.*?^```$|^(?:[|#>]| {4}\S)[^\n]*$", re.M | re.S)
 TERM = re.compile(r"\*\*(.+?)\*\*")
+PUBLIC_TYPE = re.compile(r"^pub (?:struct|enum|trait|type) (\w+)", re.M)
+# The rings, which name their types alike, each of its own.
+RINGS = {"dr_plain", "dr_plain_senders", "dr_ring"}
+# The names of other public types that stand in several crates, each with its one meaning.
+ONE_MEANING = {
+    "Around": "what all workers of an exchange share",
+    "Cause": "why a record of a file is at fault",
+    "Delivered": "what a producer's worker gives back",
+    "End": "what a thread calls an exchange through",
+    "Exchange": "what brings events from producers to handlers",
+    "Joined": "what came back of an exchange's workers",
+    "Journal": "what keeps each event that came, in order",
+    "Look": "a load of a word that other ends store",
+    "OpenFault": "why an exchange or a file is not opened",
+    "RecordFault": "why a record is not taken",
+    "RunOutcome": "what came of a run in one call",
+    "Served": "what a handler's worker gives back",
+    "ServesPromise": "what a handler's worker promises of that",
+    "View": "what a seat stands for",
+}
 
 
 def functions(lines):
@@ -116,9 +137,24 @@ def faults_of_terms(top):
             yield f"{page}: nothing else says {it}"
 
 
+def faults_of_types(top):
+    """The name of a public type stands in one crate, or in each with the same meaning."""
+    crates = {}
+    for name in sorted(os.listdir(f"{top}/crates")):
+        if name.startswith("dr_") and not name.endswith("_tests"):
+            for path in files(f"{top}/crates/{name}/src", ".rt"):
+                for it in PUBLIC_TYPE.findall(open(path, encoding="utf-8").read()):
+                    crates.setdefault(it, set()).add(name)
+    several = {it: sorted(among) for it, among in crates.items() if len(among) > 1 and not among <= RINGS}
+    for it in sorted(several.keys() - ONE_MEANING.keys()):
+        yield f"{it} stands in {', '.join(several[it])}: rename it, or give tests/house.py its one meaning"
+    for it in sorted(ONE_MEANING.keys() - several.keys()):
+        yield f"tests/house.py: {it} does not stand in several crates"
+
+
 def main():
     looked = []
-    found = [*faults(TOP, looked), *faults_of_pages(TOP), *faults_of_terms(TOP)]
+    found = [*faults(TOP, looked), *faults_of_pages(TOP), *faults_of_terms(TOP), *faults_of_types(TOP)]
     for it in found:
         print(it.removeprefix(f"{TOP}/"))
     print(f"house rules: {len(looked)} files of crates, {len(found)} faults")

@@ -216,7 +216,7 @@ done
 # Output that cannot be written: at the last flush, in the midst of a run, and where it is help.
 { printf 'ring,4,single\nwith,a\nstart\n'; yes claim,0,9 | head -n 10000; } > "$room/many.csv"
 { yes 0,deposit,1,100 | head -n 10000; } > "$room/deposits.csv"
-for words in 'drive first_event.csv' "drive $room/many.csv" 'replay accounts.csv' "replay $room/deposits.csv" 'check replay accounts.csv' --help 'drive --help'; do
+for words in 'drive first_event.csv' "drive $room/many.csv" 'show first_event.csv' "show $room/many.csv" 'replay accounts.csv' "replay $room/deposits.csv" 'check replay accounts.csv' --help 'drive --help'; do
     # shellcheck disable=SC2086 # the words are apart
     run_full 4 $'cannot write\n' $words
     # shellcheck disable=SC2086

@@ -121,7 +121,7 @@ class Cut:
         around = dict(os.environ, LD_PRELOAD=self.shim, **shim) if shim else None
         return subprocess.Popen(words, env=around, stdin=subprocess.PIPE, stdout=subprocess.PIPE, stderr=subprocess.PIPE)
 
-    def serve(self, operations, **shim):
+    def ask(self, operations, **shim):
         """A run over these operations, which come in bursts, each once the one before is answered. The input stays open until all are
         answered, or the ledger has ended by itself."""
         ran = self.start(shim)
@@ -155,7 +155,7 @@ class Cut:
         """Makes a run, and cuts it at each moment."""
         self.lay({})
         operations = [any_operation(self.rng) for _ in range(self.rng.choice((3, 12, 40)))]
-        said, told, status = self.serve(operations, LOG=self.path("log"))
+        said, told, status = self.ask(operations, LOG=self.path("log"))
         if status != 0 or said.count("\n") != len(operations):
             return self.fail(f"run {run}: status {status}, `{told.strip()}`")
         disks, wanted = {name: Disk() for name in NAMES}, [record_of(line) for line in operations]
@@ -179,7 +179,7 @@ class Cut:
         self.lay(left)
         # (a new file may be anything until its header is on the disk)
         foreign = [it for it, disk in disks.items() if len(disk.bytes) < len(HEADER) and records_of(left[it]) is None]
-        _, told, status = self.serve([], **shim)
+        _, told, status = self.ask([], **shim)
         if foreign:
             if (status, told, answered) != (2, f"{foreign[0]}: not-a-journal\n", 0):
                 self.fail(f"{name}: status {status}, `{told.strip()}`, of a new file after {answered} answers")
@@ -203,7 +203,7 @@ class Cut:
             wanted, bank = [record_of(line) for line in operations], Bank()
             answers = [bank.answer(line) for line in operations][max(before) :]
             self.lay({it: torn(wanted[:count]) for it, count in zip(NAMES, before) if count})
-            said, told, status = self.serve(operations[max(before) :], KIND=kind, AT=str(n), ERROR=str(error))
+            said, told, status = self.ask(operations[max(before) :], KIND=kind, AT=str(n), ERROR=str(error))
             lines, stored = said.splitlines(), self.stored()
             least = [max(before) + len(lines) if lines else count for count in before]
             if lines != answers[: len(lines)] or any(it != wanted[: len(it)] for it in stored):
@@ -214,7 +214,7 @@ class Cut:
                 return
             elif status != 4 or not told.endswith(("cannot write\n", "failed\n")):
                 self.fail(f"{name}: status {status}, `{told.strip()}`")
-            elif self.serve([])[1:] != (f"recovered {max(map(len, stored))}\n", 0):
+            elif self.ask([])[1:] != (f"recovered {max(map(len, stored))}\n", 0):
                 self.fail(f"{name}: no start after it")
         self.fail(f"{kind}: no run met no failure")
 
@@ -222,7 +222,7 @@ class Cut:
         """While a sync of this file goes on, nothing is answered."""
         self.cases += 1
         self.lay({})
-        self.serve([any_operation(self.rng)])
+        self.ask([any_operation(self.rng)])
         held = self.path("held")
         ran = self.start({"HOLD": held, "HELD": str(os.stat(self.path(name)).st_ino)})
         ran.stderr.readline()

@@ -3,7 +3,7 @@
 
     tests/ledger/kill.py PROGRAM [--kills N] [--seed WORD]
 
-A run sends operations at random in bursts, and ends by SIGKILL: some while it serves, some before it says what it recovered, some
+A run sends operations at random in bursts, and ends by SIGKILL: some while it answers, some before it says what it recovered, some
 while its files grow, for which they were cut behind their last batch. Then the journal and the replica, read by a second reading, each
 have exactly the first operations that were sent, at least as many as were answered; each answer is that of a bank of its own; and the
 next run recovers what the longer of them has. The script prints a line for each failure, and then a count; its status is 0 where none
@@ -23,8 +23,8 @@ from bank import Bank, any_operation, record_of, records_of
 
 # After so many kills the files are new ones.
 ANEW = 10
-# In which moment a run is killed, and how often: a serving one after up to so many seconds, and the others sooner.
-MOMENTS = ("serving",) * 6 + ("recovering",) * 2 + ("growing",) * 2
+# In which moment a run is killed, and how often: an answering one after up to so many seconds, and the others sooner.
+MOMENTS = ("answering",) * 6 + ("recovering",) * 2 + ("growing",) * 2
 LONGEST, SHORT = 0.2, 0.02
 
 
@@ -65,7 +65,7 @@ class Killed:
     def fail(self, why):
         self.failures.append(f"FAILED: kill {self.kill}: {why}")
 
-    def serve(self, ran, until):
+    def ask(self, ran, until):
         """Sends operations until a moment, and gives those that were sent, and the lines that came whole."""
         sent, lines, burst = [], [], self.rng.choice((1, 5, 50, 400))
         reader = threading.Thread(target=lambda: lines.extend(line[:-1].decode() for line in ran.stdout if line.endswith(b"\n")))
@@ -112,12 +112,12 @@ class Killed:
         ran = self.start()
         if moment == "recovering":
             time.sleep(self.rng.random() * SHORT)
-            sent, lines = self.serve(ran, 0)
+            sent, lines = self.ask(ran, 0)
         else:
             said = ran.stderr.readline().decode().strip()
             if said != f"recovered {len(self.stored)}":
                 self.fail(f"it said `{said}`, and {len(self.stored)} are stored")
-            sent, lines = self.serve(ran, time.monotonic() + self.rng.random() * (SHORT if moment == "growing" else LONGEST))
+            sent, lines = self.ask(ran, time.monotonic() + self.rng.random() * (SHORT if moment == "growing" else LONGEST))
         ran.wait()
         for stream in (ran.stdout, ran.stderr):
             stream.close()

@@ -3,7 +3,7 @@
 
     tests/ledger/runs.py PROGRAM
 
-Each file of operations of `rows/replay` is served whole, and then once more; the answers are those of a bank of its own, and what
+Each file of operations of `rows/replay` is answered whole, and then once more; the answers are those of a bank of its own, and what
 `journal` prints replays to the report of the file itself. Then come files that are none of a ledger's, a journal cut at each byte,
 outputs that fail, and signals. The script prints a line for each failure, and then a count; its status is 0 where none failed.
 """
@@ -54,11 +54,11 @@ class Runs:
         ran.stderr.readline()
         return ran
 
-    def serve(self, text, *more):
+    def ask(self, text, *more):
         return self.run("ledger", "--journal", self.path("journal"), *more, text=text)
 
     def both(self, text):
-        return self.serve(text, "--replica", self.path("replica"))
+        return self.ask(text, "--replica", self.path("replica"))
 
     def read(self, name):
         with open(self.path(name), "rb") as file:
@@ -73,8 +73,8 @@ def answers(bank, lines):
     return "".join(bank.answer(line) + "\n" for line in lines)
 
 
-def serve_rows(runs):
-    """Files that replay takes are served, and what is stored replays as they do."""
+def answer_rows(runs):
+    """Files that replay takes are answered, and what is stored replays as they do."""
     for case in cases_of(f"{ROWS}/files.txt"):
         report = case.wanted.out.decode()
         count = int(report.split("\n", 1)[0].split()[1])
@@ -82,26 +82,26 @@ def serve_rows(runs):
         runs.fresh()
         bank = Bank()
         wanted = answers(bank, lines)
-        runs.judge(f"serving {case.name}", runs.both(case.text), (0, wanted, "recovered 0\n"))
+        runs.judge(f"answering {case.name}", runs.both(case.text), (0, wanted, "recovered 0\n"))
         runs.judge(f"the journal of {case.name}", records_of(runs.read("journal")), [record_of(line) for line in lines])
         runs.judge(f"the replica of {case.name}", records_of(runs.read("replica")), [record_of(line) for line in lines])
         status, printed, told = runs.run("journal", runs.path("journal"))
         runs.judge(f"what {case.name} is printed as", (status, printed, told), (0, "".join(line + "\n" for line in lines), ""))
         runs.judge(f"the replay of {case.name}", runs.run("replay", "-", text=printed.encode()), (0, report, ""))
         again = answers(bank, lines)
-        runs.judge(f"serving {case.name} again", runs.both(case.text), (0, again, f"recovered {count}\n"))
+        runs.judge(f"answering {case.name} again", runs.both(case.text), (0, again, f"recovered {count}\n"))
 
 
 def refuse_rows(runs):
     """Files that replay refuses are refused at the same record, and what comes before it is answered."""
     for case in cases_of(f"{ROWS}/faults.txt"):
         runs.fresh()
-        status, said, told = runs.serve(case.text)
+        status, said, told = runs.ask(case.text)
         k = int(case.wanted.err.split()[1][:-1])
-        runs.judge(f"serving {case.name}", (status, said.count("\n"), told), (2, k - 1, "recovered 0\n" + case.wanted.err.decode()))
+        runs.judge(f"answering {case.name}", (status, said.count("\n"), told), (2, k - 1, "recovered 0\n" + case.wanted.err.decode()))
     runs.fresh()
     text = b"0,deposit,1,5\n0,withdraw,1,9\nx\n0,deposit,1,5\n"
-    runs.judge("a bad record behind two", runs.serve(text), (2, "0 applied 5\n1 refused 5\n", "recovered 0\nrecord 3: bad record\n"))
+    runs.judge("a bad record behind two", runs.ask(text), (2, "0 applied 5\n1 refused 5\n", "recovered 0\nrecord 3: bad record\n"))
     runs.judge("what is stored of it", len(records_of(runs.read("journal"))), 2)
 
 
@@ -122,7 +122,7 @@ def refuse_files(runs):
     runs.both(b"0,deposit,1,5\n")
     journal = runs.read("journal")
     os.remove(runs.path("journal"))
-    runs.serve(b"0,deposit,1,6\n")
+    runs.ask(b"0,deposit,1,6\n")
     other, replica = runs.read("journal"), runs.read("replica")
     runs.judge("two ledgers", runs.both(b""), (2, "", "replica: differs\n"))
     runs.judge("two ledgers, untouched", (runs.read("journal"), runs.read("replica")), (other, replica))
@@ -131,14 +131,14 @@ def refuse_files(runs):
     runs.judge("the first printed from standard input", runs.run("journal", "-", text=journal), (0, "0,deposit,1,5\n", ""))
     runs.fresh()
     runs.write("journal", b"DISRUPT1abc\x01\x02\x00")
-    runs.judge("a record that is no operation", runs.serve(b""), (2, "", "record 1: bad record\n"))
+    runs.judge("a record that is no operation", runs.ask(b""), (2, "", "record 1: bad record\n"))
     runs.judge("the same printed", runs.run("journal", runs.path("journal")), (2, "", "record 1: bad record\n"))
 
 
 def level_files(runs):
     """Journal and replica give each other what only one of them has."""
     runs.fresh()
-    runs.serve(b"0,deposit,1,5\n0,deposit,1,6\n")
+    runs.ask(b"0,deposit,1,5\n0,deposit,1,6\n")
     runs.judge("a replica that is missing", runs.both(b""), (0, "", "recovered 2\n"))
     runs.judge("a replica that was made", records_of(runs.read("replica")), records_of(runs.read("journal")))
     os.remove(runs.path("journal"))
@@ -152,9 +152,9 @@ def level_long_files(runs):
     lines = [any_operation(rng) for _ in range(20_000)]
     first, second = ("".join(line + "\n" for line in part).encode() for part in (lines[:10_000], lines[10_000:]))
     runs.fresh()
-    runs.serve(first)
+    runs.ask(first)
     half = runs.read("journal")
-    runs.serve(second)
+    runs.ask(second)
     whole = runs.read("journal")
     wanted = [record_of(line) for line in lines]
     for name, journal, replica in (("replica", whole, half), ("journal", half, whole)):
@@ -163,7 +163,7 @@ def level_long_files(runs):
         runs.judge(f"a {name} of half as many", runs.both(b""), (0, "", "recovered 20000\n"))
         runs.judge(f"both, once the {name} is levelled", [records_of(runs.read(role)) == wanted for role in ("journal", "replica")], [True, True])
     runs.write("journal", half)
-    runs.serve(b"0,deposit,1,5\n")
+    runs.ask(b"0,deposit,1,5\n")
     other = runs.read("journal")
     for journal, replica in ((whole, other), (other, whole)):
         runs.write("journal", journal)
@@ -176,17 +176,17 @@ def cut_files(runs):
     """Of a journal that is cut anywhere those batches are there that are whole. Others' data, zeros too, stay as they are."""
     runs.fresh()
     for lines in ("0,deposit,1,5\n1,deposit,2,6\n", "2,withdraw,1,4\n", "0,transfer,2,1,3\n0,deposit,3,1\n0,deposit,3,2\n"):
-        runs.serve(lines.encode())
+        runs.ask(lines.encode())
     whole = runs.read("journal").rstrip(b"\0")
     for length in range(len(whole) + 3):
         left = whole[:length].ljust(length, b"\0")
         runs.write("journal", left)
         found = records_of(left)
-        runs.judge(f"a journal of {length} bytes", runs.serve(b""), (0, "", f"recovered {len(found)}\n"))
+        runs.judge(f"a journal of {length} bytes", runs.ask(b""), (0, "", f"recovered {len(found)}\n"))
         runs.judge(f"what is left of {length} bytes", records_of(runs.read("journal")), found)
     for left in (b"\0", bytes(8), bytes(1 << 20), b"DISRUPT2" + whole[8:], b"\0" + whole[1:], b"0,deposit,1,5\n"):
         runs.write("journal", left)
-        runs.judge(f"a file that begins with {left[:10]}", runs.serve(b"0,deposit,1,5\n"), (2, "", "journal: not-a-journal\n"))
+        runs.judge(f"a file that begins with {left[:10]}", runs.ask(b"0,deposit,1,5\n"), (2, "", "journal: not-a-journal\n"))
         runs.judge(f"a file that begins with {left[:10]}, untouched", runs.read("journal"), left)
 
 
@@ -198,7 +198,7 @@ def fail_outputs(runs):
         words = [runs.program, "ledger", "--journal", runs.path("journal")]
         ran = subprocess.run(words, input=text, stdout=full, stderr=subprocess.PIPE, timeout=60, check=False)
     runs.judge("an output that is full", (ran.returncode, ran.stderr), (4, b"recovered 0\ncannot write\n"))
-    runs.judge("what is stored then", runs.serve(b""), (0, "", "recovered 2\n"))
+    runs.judge("what is stored then", runs.ask(b""), (0, "", "recovered 2\n"))
     reading, writing = os.pipe()
     ran = runs.started(stdout=writing)
     os.close(writing)
@@ -209,7 +209,7 @@ def fail_outputs(runs):
     runs.judge("an output that nobody reads", (ran.wait(60), ran.stderr.read()), (4, b"cannot write\n"))
     ran.stdin.close()
     ran.stderr.close()
-    runs.judge("what is stored after that", runs.serve(b""), (0, "", "recovered 4\n"))
+    runs.judge("what is stored after that", runs.ask(b""), (0, "", "recovered 4\n"))
 
 
 def interrupt(runs):
@@ -223,14 +223,14 @@ def interrupt(runs):
         ran.send_signal(number)
         said, told = ran.communicate(timeout=60)
         runs.judge(f"ended by {number.name}", (ran.returncode, said, told), (-number, b"", b""))
-        runs.judge(f"after {number.name}", runs.serve(b"0,withdraw,1,1\n"), (0, "2 applied 10\n", "recovered 2\n"))
+        runs.judge(f"after {number.name}", runs.ask(b"0,withdraw,1,1\n"), (0, "2 applied 10\n", "recovered 2\n"))
 
 
 def refuse_second(runs):
     """A second ledger on the same journal is refused, while the first goes on."""
     runs.fresh()
     with runs.started() as first:
-        runs.judge("a second ledger", runs.serve(b"0,deposit,1,5\n"), (4, "", "journal: in-use\n"))
+        runs.judge("a second ledger", runs.ask(b"0,deposit,1,5\n"), (4, "", "journal: in-use\n"))
         first.stdin.write(b"0,deposit,1,5\n")
         first.stdin.flush()
         runs.judge("the first, at once", first.stdout.readline(), b"0 applied 5\n")
@@ -244,7 +244,7 @@ def refuse_second(runs):
         runs.judge("its end", first.wait(), 0)
 
 
-def serve_many(runs):
+def answer_many(runs):
     """Many operations, over which the journal grows."""
     runs.fresh()
     rng = random.Random("many")
@@ -258,7 +258,7 @@ def main():
     signal.signal(signal.SIGINT, signal.default_int_handler)
     with tempfile.TemporaryDirectory(prefix="ledger-") as folder:
         runs = Runs(os.path.abspath(sys.argv[1]), folder)
-        for part in (serve_rows, refuse_rows, refuse_files, cut_files, level_files, level_long_files, fail_outputs, interrupt, refuse_second, serve_many):
+        for part in (answer_rows, refuse_rows, refuse_files, cut_files, level_files, level_long_files, fail_outputs, interrupt, refuse_second, answer_many):
             part(runs)
     print(f"{sys.argv[1]}: {runs.cases} looks at a ledger, {runs.failed} failed")
     return 1 if runs.failed else 0

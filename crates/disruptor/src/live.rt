@@ -28,8 +28,12 @@ fn start(
     begin_with_replica(rt.alloc(), &mut journal, &mut replica)
 }
 
-/// Serves standard input, and answers on standard output.
-pub(crate) fn serve(rt: &HostRuntime, journal: &str, replica: Option<String>) -> Result<(), Fault> {
+/// Answers the operations of standard input on standard output.
+pub(crate) fn answer_all(
+    rt: &HostRuntime,
+    journal: &str,
+    replica: Option<String>,
+) -> Result<(), Fault> {
     let (mut ledger, count) = start(rt, journal, replica).map_err(Fault::Start)?;
     if rt.eprintln(format_args!("recovered {count}")).is_err() {
         return Err(Fault::Write);
@@ -38,7 +42,7 @@ pub(crate) fn serve(rt: &HostRuntime, journal: &str, replica: Option<String>) ->
     let mut input = Counted::new(rt.stdin());
     let mut output = Counted::new(io::writer(rt));
     ledger
-        .serve(&mut stream, &mut input, &mut output)
+        .answer_all(&mut stream, &mut input, &mut output)
         .map_err(Fault::Ledger)
 }
 

@@ -19,7 +19,7 @@ use crate::page::{AFTER, BEFORE};
 use crate::progress::Progress;
 use crate::watched::{Input, Output};
 use dr_check::{CheckFault, check_drive, check_replay};
-use dr_command_line::{By, LineFault, Plan, Tool, plan};
+use dr_command_line::{By, Errand, LineFault, Tool, errand};
 use dr_drive::{DriveFault, drive_telling};
 use dr_files::FileFault;
 use dr_ledger::{LedgerFault, StartFault};
@@ -95,7 +95,7 @@ impl Fault {
     }
 }
 
-fn read_plan(rt: &HostRuntime) -> Result<Plan, LineFault> {
+fn read_errand(rt: &HostRuntime) -> Result<Errand, LineFault> {
     let words = match env::args(rt) {
         Ok(words) => words,
         Err(error) if error.kind() == io::ErrorKind::OutOfMemory => {
@@ -104,7 +104,7 @@ fn read_plan(rt: &HostRuntime) -> Result<Plan, LineFault> {
         Err(_) => return Err(LineFault::NotUtf8),
     };
     let words: Vec<String> = words.collect(rt.alloc())?;
-    plan(rt.alloc(), words.as_slice())
+    errand(rt.alloc(), words.as_slice())
 }
 
 /// What is run over a file.
@@ -314,17 +314,21 @@ fn check_file(rt: &HostRuntime, tool: Tool, file: &str) -> Result<(), Fault> {
 }
 
 fn run<T: Threads + Wait + Sync>(rt: &HostRuntime, workers: &T) -> Result<(), Fault> {
-    let (file, output, task) = match read_plan(rt).map_err(Fault::Line)? {
-        Plan::Help(text) => return print(rt, text),
-        Plan::Check { tool, file } => return check_file(rt, tool, file.as_str()),
-        Plan::Ledger { journal, replica } => return live::serve(rt, journal.as_str(), replica),
-        Plan::Journal { file } => return live::print(rt, file.as_str()),
-        Plan::Drive {
+    let (file, output, task) = match read_errand(rt).map_err(Fault::Line)? {
+        Errand::Help(text) => return print(rt, text),
+        Errand::Check { tool, file } => return check_file(rt, tool, file.as_str()),
+        Errand::Ledger { journal, replica } => return live::answer_all(
+            rt,
+            journal.as_str(),
+            replica,
+        ),
+        Errand::Journal { file } => return live::print(rt, file.as_str()),
+        Errand::Drive {
             file,
             states,
             output,
         } => (file, output, Task::Drive { states }),
-        Plan::Show {
+        Errand::Show {
             file,
             from,
             steps,
@@ -333,7 +337,7 @@ fn run<T: Threads + Wait + Sync>(rt: &HostRuntime, workers: &T) -> Result<(), Fa
             let window = Window { from, steps };
             (file, output, Task::Show { window })
         }
-        Plan::Replay {
+        Errand::Replay {
             file,
             size,
             by,

@@ -3,7 +3,7 @@
 use crate::fault::Fault;
 use crate::graphs::{TWO, graph};
 use crate::telling::Lines;
-use dr_disruptor::{LiveSender, Ran, RunFault, WaitStrategy, Way, run_senders};
+use dr_disruptor::{LiveSender, RunFault, RunOutcome, WaitStrategy, Way, run_senders};
 use dr_graph::Graph;
 use dr_meaning::{InPlaceHandler, Refusal};
 use dr_plain_senders::{Sender, Settled};
@@ -34,7 +34,7 @@ impl InPlaceHandler<u64> for Merged {
 }
 
 /// What came of two handlers, with what each sender answered.
-type Merging = Ran<u64, Vec<Merged>, Settled<u64>, Vec<Result<(), Refusal>>>;
+type Merging = RunOutcome<u64, Vec<Merged>, Settled<u64>, Vec<Result<(), Refusal>>>;
 
 /// Sends three numbers by each of two senders, which count on from 0 and from 100.
 fn ran<R: Threads + Wait + Copy + Send + 'static>(

@@ -1,7 +1,7 @@
 -- How a program ends whose command line is refused.
 use Rattle.std.specs.Prelude.{ℕ, List, codes, string_bytes}
-use Rattle.dr_command_line.specs.declared.plans.LineFault.{LineFault}
-use Rattle.dr_command_line.specs.declared.plans.LineFault.TheVariants as refused
+use Rattle.dr_command_line.specs.declared.errands.LineFault.{LineFault}
+use Rattle.dr_command_line.specs.declared.errands.LineFault.TheVariants as refused
 
 -- 1 where the words are at fault, 3 where there is no memory
 abbrev pub line_status : LineFault → ℕ

@@ -1,9 +1,9 @@
 //! The command line of the program `disruptor`: what it asks for, or why it is refused.
 #![tactic(auto)]
 
-mod plans;
+mod errands;
 mod show;
 mod words;
 
-pub use plans::{By, LineFault, Plan, Tool};
-pub use words::plan;
+pub use errands::{By, Errand, LineFault, Tool};
+pub use words::errand;

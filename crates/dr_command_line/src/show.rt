@@ -1,6 +1,6 @@
 //! The words of `show`.
 
-use crate::plans::Plan;
+use crate::errands::Errand;
 use crate::words::{FILE, file_of, file_word, output_option, word_of};
 use clap::{Arg, ArgMatches, Command, value_parser};
 use std::alloc::{AllocError, Global};
@@ -49,12 +49,12 @@ pub(crate) fn show_command<'a>(alloc: Global) -> Result<Command<'a>, AllocError>
         .arg(file_word(alloc, FILE))
 }
 
-pub(crate) fn show_plan(alloc: Global, matches: &ArgMatches<'_>) -> Result<Plan, AllocError> {
+pub(crate) fn show_errand(alloc: Global, matches: &ArgMatches<'_>) -> Result<Errand, AllocError> {
     let file = file_of(alloc, matches)?;
     let from: Option<u64> = matches.get_one("from");
     let steps: Option<u64> = matches.get_one("steps");
     let output = word_of(alloc, matches, "output")?;
-    Ok(Plan::Show {
+    Ok(Errand::Show {
         file,
         from: from.unwrap_or(1),
         steps: steps.unwrap_or(USUAL_STEPS),

@@ -1,7 +1,7 @@
 //! The words of a command line, read.
 
-use crate::plans::{By, LineFault, Plan, Tool};
-use crate::show::{show_command, show_plan};
+use crate::errands::{By, Errand, LineFault, Tool};
+use crate::show::{show_command, show_errand};
 use clap::error::ErrorKind;
 use clap::{Arg, ArgAction, ArgMatches, Command, Error, value_parser};
 use dr_seq::Size;
@@ -336,10 +336,10 @@ fn usage(alloc: Global, error: &Error) -> Result<String, AllocError> {
     String::from_str(alloc, text.as_str().trim_end())
 }
 
-fn refused(alloc: Global, error: &Error) -> Result<Plan, LineFault> {
+fn refused(alloc: Global, error: &Error) -> Result<Errand, LineFault> {
     match error.kind() {
         ErrorKind::OutOfMemory => Err(LineFault::Memory),
-        ErrorKind::DisplayHelp | ErrorKind::DisplayVersion => Ok(Plan::Help(error.to_string(
+        ErrorKind::DisplayHelp | ErrorKind::DisplayVersion => Ok(Errand::Help(error.to_string(
             alloc,
         )?)),
         _ => Err(LineFault::Usage(usage(alloc, error)?)),
@@ -382,7 +382,7 @@ fn size_of(matches: &ArgMatches<'_>) -> Result<Size, LineFault> {
     }
 }
 
-fn replay_plan(alloc: Global, matches: &ArgMatches<'_>) -> Result<Plan, LineFault> {
+fn replay_errand(alloc: Global, matches: &ArgMatches<'_>) -> Result<Errand, LineFault> {
     let size = size_of(matches)?;
     let file = file_of(alloc, matches)?;
     let by = match matches.get_str("by") {
@@ -391,7 +391,7 @@ fn replay_plan(alloc: Global, matches: &ArgMatches<'_>) -> Result<Plan, LineFaul
         _ => By::Plain,
     };
     let output = word_of(alloc, matches, "output")?;
-    Ok(Plan::Replay {
+    Ok(Errand::Replay {
         file,
         size,
         by,
@@ -399,59 +399,59 @@ fn replay_plan(alloc: Global, matches: &ArgMatches<'_>) -> Result<Plan, LineFaul
     })
 }
 
-fn check_plan(alloc: Global, matches: &ArgMatches<'_>) -> Result<Plan, AllocError> {
+fn check_errand(alloc: Global, matches: &ArgMatches<'_>) -> Result<Errand, AllocError> {
     let tool = match matches.get_str("tool") {
         Some("replay") => Tool::Replay,
         _ => Tool::Drive,
     };
     let file = file_of(alloc, matches)?;
-    Ok(Plan::Check { tool, file })
+    Ok(Errand::Check { tool, file })
 }
 
-fn drive_plan(alloc: Global, matches: &ArgMatches<'_>) -> Result<Plan, AllocError> {
+fn drive_errand(alloc: Global, matches: &ArgMatches<'_>) -> Result<Errand, AllocError> {
     let file = file_of(alloc, matches)?;
     let states = matches.get_flag("state");
     let output = word_of(alloc, matches, "output")?;
-    Ok(Plan::Drive {
+    Ok(Errand::Drive {
         file,
         states,
         output,
     })
 }
 
-fn ledger_plan(alloc: Global, matches: &ArgMatches<'_>) -> Result<Plan, AllocError> {
+fn ledger_errand(alloc: Global, matches: &ArgMatches<'_>) -> Result<Errand, AllocError> {
     let journal = match word_of(alloc, matches, "journal")? {
         Some(journal) => journal,
         None => String::new(alloc),
     };
     let replica = word_of(alloc, matches, "replica")?;
-    Ok(Plan::Ledger { journal, replica })
+    Ok(Errand::Ledger { journal, replica })
 }
 
-fn journal_plan(alloc: Global, matches: &ArgMatches<'_>) -> Result<Plan, AllocError> {
+fn journal_errand(alloc: Global, matches: &ArgMatches<'_>) -> Result<Errand, AllocError> {
     let file = file_of(alloc, matches)?;
-    Ok(Plan::Journal { file })
+    Ok(Errand::Journal { file })
 }
 
-fn plan_of(alloc: Global, matches: &ArgMatches<'_>) -> Result<Plan, LineFault> {
+fn errand_of(alloc: Global, matches: &ArgMatches<'_>) -> Result<Errand, LineFault> {
     if let Some(matches) = matches.subcommand_matches("replay") {
-        return replay_plan(alloc, matches);
+        return replay_errand(alloc, matches);
     }
     if let Some(matches) = matches.subcommand_matches("check") {
-        return Ok(check_plan(alloc, matches)?);
+        return Ok(check_errand(alloc, matches)?);
     }
     if let Some(matches) = matches.subcommand_matches("show") {
-        return Ok(show_plan(alloc, matches)?);
+        return Ok(show_errand(alloc, matches)?);
     }
     if let Some(matches) = matches.subcommand_matches("ledger") {
-        return Ok(ledger_plan(alloc, matches)?);
+        return Ok(ledger_errand(alloc, matches)?);
     }
     if let Some(matches) = matches.subcommand_matches("journal") {
-        return Ok(journal_plan(alloc, matches)?);
+        return Ok(journal_errand(alloc, matches)?);
     }
     match matches.subcommand_matches("drive") {
-        Some(matches) => Ok(drive_plan(alloc, matches)?),
-        None => Ok(Plan::Drive {
+        Some(matches) => Ok(drive_errand(alloc, matches)?),
+        None => Ok(Errand::Drive {
             file: String::new(alloc),
             states: false,
             output: None,
@@ -461,9 +461,9 @@ fn plan_of(alloc: Global, matches: &ArgMatches<'_>) -> Result<Plan, LineFault> {
 
 /// Reads a command line: the words as `env::args` gives them, of which the first is the program's own
 /// name. An error is what a program prints, and with which status it ends.
-pub fn plan(alloc: Global, words: &[String]) -> Result<Plan, LineFault> {
+pub fn errand(alloc: Global, words: &[String]) -> Result<Errand, LineFault> {
     match command(alloc)?.try_get_matches_from(words) {
-        Ok(matches) => plan_of(alloc, &matches),
+        Ok(matches) => errand_of(alloc, &matches),
         Err(error) => refused(alloc, &error),
     }
 }

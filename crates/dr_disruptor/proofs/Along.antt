@@ -8,9 +8,9 @@ use Rattle.dr_plain.specs.declared.settled.Settled.{Settled}
 use Rattle.dr_plain.specs.Calls.Ends.{SenderEnd}
 use Rattle.dr_plain.specs.Meaning.Records.{events_of}
 use Rattle.dr_plain.specs.Meaning.Shape.{Shape}
-use Rattle.dr_disruptor.specs.declared.running.Ran.{Ran}
+use Rattle.dr_disruptor.specs.declared.running.RunOutcome.{RunOutcome}
 use Rattle.dr_disruptor.specs.Handlers.{WentThrough}
-use Rattle.dr_disruptor.specs.Running.{IsRanBy}
+use Rattle.dr_disruptor.specs.Running.{IsOutcomeBy}
 
 -- a handler that holds something of the events that it was shown, as of none of them at first, and that each call keeps
 module _ {E A : Type 0} (goes : Relation E A) (Has : A → List E → Type 0)
@@ -21,7 +21,7 @@ module _ {E A : Type 0} (goes : Relation E A) (Has : A → List E → Type 0)
 
 -- as many events were sent as are counted
 pub sent_count : {E S T A B : Type 0} {sends : S → B → S → Type 0} {sender_in : S → SenderEnd E} {goes : Relation E A} {listed : T → List A}
-    {went : ℕ → List E → T → T → Type 0} {most : ℕ} {shape : Ptr → Shape} {events : List E} {handlers : T} {ran : Ran E T (Settled E) B}
-    (r : IsRanBy sends sender_in goes listed went most shape events handlers ran)
+    {went : ℕ → List E → T → T → Type 0} {most : ℕ} {shape : Ptr → Shape} {events : List E} {handlers : T} {ran : RunOutcome E T (Settled E) B}
+    (r : IsOutcomeBy sends sender_in goes listed went most shape events handlers ran)
     → ran.settled.published ≡ length (events_of (sender_in r.back).knows.published)
 sent_count {sender_in} r = r.settled.published ∙ ap length r.settled.sent ∙ sym (length-map (sender_in r.back).knows.published _)

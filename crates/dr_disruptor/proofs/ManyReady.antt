@@ -19,7 +19,7 @@ use Rattle.dr_plain_senders.specs.Calls.Making.{receiver_at, sender_at}
 use Rattle.dr_plain_senders.specs.Calls.Settling.{AreAllEnds, HasRun}
 use Rattle.dr_plain_senders.specs.declared.record.ReceiverRecord.{ReceiverRecord}
 use Rattle.dr_disruptor.specs.declared.fault.RunFault.TheVariants as fault
-use Rattle.dr_disruptor.specs.declared.feeds.Sent.{Sent}
+use Rattle.dr_disruptor.specs.declared.feeds.Delivered.{Delivered}
 use Rattle.dr_disruptor.specs.declared.served.Served.{Served}
 use Rattle.dr_disruptor.specs.Feeding.{AreGiven, AreSent, Feeder, IsUnsent, LeavesClosed, fed_sender, given_feed}
 use Rattle.dr_plain_senders.specs.Calls.InPlace.{SawSome, does_in_place, has_one_stretch}
@@ -56,7 +56,7 @@ module _ {E : Type 0} where
 
   -- what senders' threads gave back are all senders of the ring again
   pub senders_back : {A F : Type 0} (gives : F → SenderEnd E → A → SenderEnd E → Type 0) (feeds : List F) (ss : List (SenderEnd E)) (rs : List (ReceiverEnd E))
-      → (t : HalterStand E) (sent : List (Sent E A)) → All (λ f. LeavesSender (gives f)) feeds → AreSent gives feeds ss sent → AreAllEnds ss rs t
+      → (t : HalterStand E) (sent : List (Delivered E A)) → All (λ f. LeavesSender (gives f)) feeds → AreSent gives feeds ss sent → AreAllEnds ss rs t
       → AreAllEnds (map (λ b. b.sender) sent) rs t
   senders_back {F = F} gives feeds ss rs t sent leave are all = record {
     senders = length-map sent (λ b. b.sender) ∙ are.many ∙ all.senders;
@@ -107,7 +107,7 @@ module _ {E : Type 0} where
 
   -- each closure was given the sender at its place
   pub feeds_sent : {R A F : Type 0} (gives : F → SenderEnd E → A → SenderEnd E → Type 0) (feeds : List F) (ws : List (Feeder R E A F)) (ss : List (SenderEnd E))
-      → (sent : List (Sent E A)) → map fed_sender ws ≡ ss → map given_feed ws ≡ feeds
+      → (sent : List (Delivered E A)) → map fed_sender ws ≡ ss → map given_feed ws ≡ feeds
       → AreGiven (λ p r. LeavesClosed gives p.feed.value p.end.value r) ws sent → AreSent gives feeds ss sent
   feeds_sent gives feeds ws ss sent ends given are = record {
     many = are.many ∙ sym (length-map ws fed_sender) ∙ ap length ends;

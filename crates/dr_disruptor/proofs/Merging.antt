@@ -31,12 +31,12 @@ use Rattle.dr_plain_senders.specs.Calls.Making.{AreFreshEnds, at_ring, receiver_
 use Rattle.dr_plain_senders.proofs.Beginning.{kept_new_world, receiver_fresh, receivers_count, sender_fresh, senders_count}
 use Rattle.dr_plain_senders.proofs.Keeps.{keeps_runs}
 use Rattle.dr_plain_senders.proofs.Places.{one_value}
-use Rattle.dr_disruptor.specs.declared.feeds.Sent.{Sent}
+use Rattle.dr_disruptor.specs.declared.feeds.Delivered.{Delivered}
 use Rattle.dr_disruptor.specs.declared.served.Served.{Served}
 use Rattle.dr_disruptor.specs.Feeding.{AreSent, LeavesClosed}
 use Rattle.dr_disruptor.specs.Handlers.{AllWentThrough}
 use Rattle.dr_plain_senders.specs.Calls.InPlace.{SawSome, does_in_place, events_in, has_one_stretch, sending_of}
-use Rattle.dr_disruptor.specs.Merging.{HaltsOnly, IsRanOver, IsWoundUp, new_receivers, new_sender}
+use Rattle.dr_disruptor.specs.Merging.{HaltsOnly, IsOutcomeOver, IsWoundUp, new_receivers, new_sender}
 use Rattle.dr_disruptor.specs.Serving.{AreServed, Worker, given_end, given_handler}
 use Rattle.dr_plain_senders.proofs.InPlaceReceiving.{saw_most}
 use Rattle.dr_plain_senders.proofs.MarksFound.{MarksWithin, marks_within}
@@ -61,7 +61,7 @@ module _ {E : Type 0} where
   published_is e = elim (cases_Bool (has_one_stretch e.plan e.knows.own e.writes)) [ inl one ↦ rw one refl | inr more ↦ rw more refl ]
 
 module _ {E A B F : Type 0} (goes : Relation E A) (room : ℕ) (k : Shape E) (blank : E) (gives : F → SenderEnd E → B → SenderEnd E → Type 0) (feeds : List F)
-    (starts : List A) (ss : List (SenderEnd E)) (rs : List (ReceiverEnd E)) (t : HalterStand E) (ws : List (Worker (ReceiverEnd E) A)) (sent : List (Sent E B))
+    (starts : List A) (ss : List (SenderEnd E)) (rs : List (ReceiverEnd E)) (t : HalterStand E) (ws : List (Worker (ReceiverEnd E) A)) (sent : List (Delivered E B))
     (handlers : List A) (settled : Settled E) (values : List E) (answers : List B)
     (shape : IsShape k) (fresh : AreFreshEnds k ss rs t) (ends : map given_end ws ≡ rs) (begun : map given_handler ws ≡ starts)
     (are : AreSent gives feeds ss sent) (wound : IsWoundUp goes room ws sent t handlers settled values answers) where
@@ -107,7 +107,7 @@ module _ {E A B F : Type 0} (goes : Relation E A) (room : ℕ) (k : Shape E) (bl
   many_senders = are.many ∙ ap length fresh.senders ∙ length-map (fresh_senders 0 k.senders) (sender_at t.ring k) ∙ senders_count E 0 k.senders
 
   pub record SenderPlace (p : ℕ) : Type 0 where
-    pub back : Sent E B
+    pub back : Delivered E B
     pub at_back : get_elem? sent p ≡ some back
     pub feed : F
     pub at_feed : get_elem? feeds p ≡ some feed
@@ -132,7 +132,7 @@ module _ {E A B F : Type 0} (goes : Relation E A) (room : ℕ) (k : Shape E) (bl
         at_feed = at_feed;
         sending = subst (λ (x : SenderEnd E). LeavesClosed gives feed x b.0) new sending;
         at_world = ap (λ (l : List (SenderRecord E)). get_elem? l p) wound.ends.run.senders
-            ∙ map_there (λ (x : SenderEnd E). x.knows) (map (λ (s : Sent E B). s.sender) sent) p b.0.sender (map_there (λ (s : Sent E B). s.sender) sent p b.0 b.1);
+            ∙ map_there (λ (x : SenderEnd E). x.knows) (map (λ (s : Delivered E B). s.sender) sent) p b.0.sender (map_there (λ (s : Delivered E B). s.sender) sent p b.0 b.1);
       }
 
   -- the handlers
@@ -227,7 +227,7 @@ module _ {E A B F : Type 0} (goes : Relation E A) (room : ℕ) (k : Shape E) (bl
 
   pub merge : IsMerge (map (λ s. (sending_of s.sender).published) sent) events
   merge =
-      let published : Sent E B → List E = λ s. (sending_of s.sender).published in
+      let published : Delivered E B → List E = λ s. (sending_of s.sender).published in
       let all : length (map published sent) ≡ length sent = length-map sent published in
       let placed = many_senders in
       merged blank (map published sent) w.stages
@@ -248,10 +248,10 @@ module _ {E A B F : Type 0} (goes : Relation E A) (room : ℕ) (k : Shape E) (bl
   halts_new = subst (λ (e : HalterStand E). HaltsOnly e wound.after) (fresh.halter ∙ ap (λ (r : TableId). at_ring r k record { looks = [] }) same_ring) wound.halts
 
   -- so the run is over a new ring of this shape
-  pub ran_over : {T : Type 0} (listed : T → List A) (went : ℕ → List E → T → T → Type 0) (team after : T) (list : Vec B) → list.items ≡ answers → length feeds ≡ k.senders
+  pub outcome_over : {T : Type 0} (listed : T → List A) (went : ℕ → List E → T → T → Type 0) (team after : T) (list : Vec B) → list.items ≡ answers → length feeds ≡ k.senders
       → listed team ≡ starts → listed after ≡ handlers → ((through : List E) → AllWentThrough goes room through starts handlers → went room through team after)
-      → IsRanOver gives goes listed went room k feeds team (record { handlers = after; settled = settled; events = values; sent = list })
-  ran_over listed went team after list same many team_is after_is go = record {
+      → IsOutcomeOver gives goes listed went room k feeds team (record { handlers = after; settled = settled; events = values; sent = list })
+  outcome_over listed went team after list same many team_is after_is go = record {
     senders = sent;
     ring = ring;
     many = many_senders ∙ sym many;

@@ -21,8 +21,8 @@ use Rattle.dr_plain_senders.specs.Calls.Making.{at_ring, receiver_at, sender_at}
 use Rattle.dr_plain_senders.specs.Calls.Settling.{GivesBack, HasRun, handler_counts}
 use Rattle.dr_disruptor.specs.declared.fault.RunFault.{RunFault}
 use Rattle.dr_disruptor.specs.declared.fault.RunFault.TheVariants.{Handlers, Memory, Senders}
-use Rattle.dr_disruptor.specs.declared.feeds.Sent.{Sent}
-use Rattle.dr_disruptor.specs.declared.running.Ran.{Ran}
+use Rattle.dr_disruptor.specs.declared.feeds.Delivered.{Delivered}
+use Rattle.dr_disruptor.specs.declared.running.RunOutcome.{RunOutcome}
 use Rattle.dr_disruptor.specs.declared.served.Served.{Served}
 use Rattle.dr_disruptor.specs.Feeding.{LeavesClosed}
 use Rattle.dr_plain_senders.specs.Calls.InPlace.{SawSome, does_in_place, sending_of}
@@ -74,7 +74,7 @@ module _ {E : Type 0} where
     pub counts : settled.handlers.items ≡ map (λ e. handler_counts e.knows) rs
 
   -- what the handlers' workers gave back, once the ring was halted, and how all ends came together
-  pub record IsWoundUp {A B : Type 0} (goes : Relation E A) (room : ℕ) (workers : List (Worker (ReceiverEnd E) A)) (sent : List (Sent E B)) (halter : HalterStand E)
+  pub record IsWoundUp {A B : Type 0} (goes : Relation E A) (room : ℕ) (workers : List (Worker (ReceiverEnd E) A)) (sent : List (Delivered E B)) (halter : HalterStand E)
       (handlers : List A) (settled : Settled E) (values : List E) (answers : List B) : Type 0 where
     pub served : List (Served (ReceiverEnd E) A)
     pub kept : AreServed receiver_place (λ e. received_of e.knows) (λ e. e.knows.told) SawSome does_in_place goes room (map given_end workers) (map given_handler workers) served
@@ -91,14 +91,14 @@ module _ {E : Type 0} where
     pub through : went most events handlers after
 
   -- what came of a new ring of this shape, over which each of these closures sent by a sender of its own
-  pub record IsRanOver {F T A B : Type 0} (gives : F → SenderEnd E → B → SenderEnd E → Type 0) (goes : Relation E A) (listed : T → List A)
-      (went : ℕ → List E → T → T → Type 0) (most : ℕ) (k : Shape E) (feeds : List F) (handlers : T) (ran : Ran E T (Settled E) (Vec B)) : Type 0 where
+  pub record IsOutcomeOver {F T A B : Type 0} (gives : F → SenderEnd E → B → SenderEnd E → Type 0) (goes : Relation E A) (listed : T → List A)
+      (went : ℕ → List E → T → T → Type 0) (most : ℕ) (k : Shape E) (feeds : List F) (handlers : T) (ran : RunOutcome E T (Settled E) (Vec B)) : Type 0 where
     -- what the senders' threads gave back: each closure was given the new sender at its place, and all that it claimed is published
-    pub senders : List (Sent E B)
+    pub senders : List (Delivered E B)
     pub ring : TableId
     pub many : length senders ≡ length feeds
     pub sending : (p : ℕ) (feed : F) → get_elem? feeds p ≡ some feed
-        → (back : Sent E B) × (get_elem? senders p ≡ some back) × LeavesClosed gives feed (new_sender ring k p) back
+        → (back : Delivered E B) × (get_elem? senders p ≡ some back) × LeavesClosed gives feed (new_sender ring k p) back
     pub answers : ran.sent.items ≡ map (λ s. s.answer) senders
     -- the ends as they came together at last, whose halter halted the ring once
     pub receivers : List (ReceiverEnd E)
@@ -118,6 +118,6 @@ module _ {E : Type 0} where
     pub back : GivesBack k ran.settled.claimed (map (λ s. s.sender) senders) ran.events
 
 -- so it is of a new ring of this shape, whose events lie somewhere
-abbrev pub IsRanByAll : {E F T A B : Type 0} → (F → SenderEnd E → B → SenderEnd E → Type 0) → Relation E A → (T → List A) → (ℕ → List E → T → T → Type 0) → ℕ
-    → (Ptr → Shape E) → List F → T → Ran E T (Settled E) (Vec B) → Type 0
-IsRanByAll gives goes listed went most shape feeds handlers ran = (strip : Ptr) × IsRanOver gives goes listed went most (shape strip) feeds handlers ran
+abbrev pub IsOutcomeByAll : {E F T A B : Type 0} → (F → SenderEnd E → B → SenderEnd E → Type 0) → Relation E A → (T → List A) → (ℕ → List E → T → T → Type 0) → ℕ
+    → (Ptr → Shape E) → List F → T → RunOutcome E T (Settled E) (Vec B) → Type 0
+IsOutcomeByAll gives goes listed went most shape feeds handlers ran = (strip : Ptr) × IsOutcomeOver gives goes listed went most (shape strip) feeds handlers ran

@@ -18,7 +18,7 @@ use Rattle.dr_plain.specs.Meaning.Settling.{FoundUnhalted, Settles}
 use Rattle.dr_plain.specs.Meaning.Shape.{Shape, handlers_of}
 use Rattle.dr_disruptor.specs.declared.fault.RunFault.{RunFault}
 use Rattle.dr_disruptor.specs.declared.fault.RunFault.TheVariants.{Handlers, Memory}
-use Rattle.dr_disruptor.specs.declared.running.Ran.{Ran}
+use Rattle.dr_disruptor.specs.declared.running.RunOutcome.{RunOutcome}
 use Rattle.dr_disruptor.specs.Serving.{CameBackServed}
 
 -- of a graph of so many handlers, where so many were given: that these differ, and else a lack of memory or of a thread
@@ -62,8 +62,8 @@ pub record AreSettled {E : Type 0} (back : SenderEnd E) (settled : Settled E) (v
   pub events : map (λ event. Some event) values ≡ settled.sender.value.cells
 
 -- what came of a closure's sending over a new ring of such a shape and these events: it went from the sender of that ring to one that published some events, and each handler went through exactly those, in batches of at most so many, as the receiver at its place of the graph took them
-pub record IsRanBy {E S T A B : Type 0} (sends : S → B → S → Type 0) (sender_in : S → SenderEnd E) (goes : Relation E A) (listed : T → List A)
-    (went : ℕ → List E → T → T → Type 0) (most : ℕ) (shape : Ptr → Shape) (events : List E) (handlers : T) (ran : Ran E T (Settled E) B) : Type 0 where
+pub record IsOutcomeBy {E S T A B : Type 0} (sends : S → B → S → Type 0) (sender_in : S → SenderEnd E) (goes : Relation E A) (listed : T → List A)
+    (went : ℕ → List E → T → T → Type 0) (most : ℕ) (shape : Ptr → Shape) (events : List E) (handlers : T) (ran : RunOutcome E T (Settled E) B) : Type 0 where
   pub strip : Ptr
   pub given : S
   pub back : S

@@ -18,7 +18,7 @@ use std::thread::{self, Promise, PromisedHandle, Threads, join_promised};
 
 /// What a sender's thread gives back: its end, and what its closure answered.
 #[derive(Drop)]
-pub struct Sent<E, A> {
+pub struct Delivered<E, A> {
     pub sender: Sender<E>,
     pub answer: A,
 }
@@ -75,12 +75,12 @@ impl<R, E, A, F> Drop for FeedsPromise<R, E, A, F> {
     }
 }
 
-impl<R, E, A, F: SendsBy<R, E, A>> Promise<Sent<E, A>> for FeedsPromise<R, E, A, F> {
+impl<R, E, A, F: SendsBy<R, E, A>> Promise<Delivered<E, A>> for FeedsPromise<R, E, A, F> {
     ghost kept_by = { λ p r. LeavesClosed F.gives p.feed.value p.end.value r };
 }
 
 /// The thread of a sender that a closure sends by.
-pub(crate) type Feeder<R, E, A, F> = PromisedHandle<Sent<E, A>, FeedsPromise<R, E, A, F>>;
+pub(crate) type Feeder<R, E, A, F> = PromisedHandle<Delivered<E, A>, FeedsPromise<R, E, A, F>>;
 
 // Calls a closure with a sender that wakes those who wait for what it publishes.
 fn feed_one<R: Wait + Copy, E, A, F: SendsBy<R, E, A>>(
@@ -89,7 +89,7 @@ fn feed_one<R: Wait + Copy, E, A, F: SendsBy<R, E, A>>(
     feed: F,
     bell: Arc<Bell, Global>,
     strategy: WaitStrategy,
-) -> Sent<E, A>
+) -> Delivered<E, A>
     requires callable { F.callable feed }
     requires unsent { IsUnsent sender }
     ensures { LeavesClosed F.gives feed sender result }
@@ -97,7 +97,7 @@ fn feed_one<R: Wait + Copy, E, A, F: SendsBy<R, E, A>>(
     let mut live = LiveSender::new(rt, sender, bell, strategy);
     let answer = feed.send_by(&mut live);
     let (sender, _bell) = live.into_end();
-    Sent { sender, answer }
+    Delivered { sender, answer }
 }
 
 // Starts a thread for each closure with the end at its place. Where one cannot be started the earlier ones are in `started`.

@@ -1,7 +1,7 @@
 //! A ring with its threads, in one call, for events of any type.
 //!
 //! [`run`] makes the ring of a graph over the events that it is given, starts a thread for each handler, calls a closure
-//! with the ring's sender, and hands back the handlers and the events ([`Ran`]). Events are filled where they lie
+//! with the ring's sender, and hands back the handlers and the events ([`RunOutcome`]). Events are filled where they lie
 //! ([`LiveSender::publish_with`]), and handlers are shown them there. [`run_senders`] has several senders, each of which a
 //! closure on a thread of its own sends by, and [`run_here`] has all on the calling thread. Begin with `specs/Running`.
 #![tactic(auto)]
@@ -29,10 +29,10 @@ pub use dr_workers::WaitStrategy;
 pub use events::new_events;
 pub use fault::RunFault;
 pub use feed::Feed;
-pub use feeds::Sent;
+pub use feeds::Delivered;
 pub use here::Here;
 pub use one_of::OneOf;
-pub use running::{Ran, run};
+pub use running::{RunOutcome, run};
 pub use running_here::run_here;
 pub use running_senders::run_senders;
 pub use sender::{LiveSender, SeveralSender};

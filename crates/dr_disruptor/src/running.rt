@@ -12,7 +12,7 @@ ghost use Rattle.dr_plain.specs.Calls.Settling.{AreAllEnds, IsHalterOf};
 ghost use Rattle.dr_plain.specs.Meaning.Records.{events_of};
 ghost use Rattle.dr_disruptor.specs.Handlers.{AllWentThrough};
 ghost use Rattle.dr_disruptor.specs.Serving.{AreInBatches, IsIdle, given_end, given_handler};
-ghost use Rattle.dr_disruptor.specs.Running.{AreServedBack, AreSettled, IsRanBy, refusal_of, shape_of};
+ghost use Rattle.dr_disruptor.specs.Running.{AreServedBack, AreSettled, IsOutcomeBy, refusal_of, shape_of};
 
 use crate::fault::RunFault;
 use crate::sender::LiveSender;
@@ -31,7 +31,7 @@ use std::thread::Threads;
 
 /// What came of a run.
 #[derive(Drop)]
-pub struct Ran<E, T, S, A> {
+pub struct RunOutcome<E, T, S, A> {
     /// The handlers.
     pub handlers: T,
     /// How many events were published, and how far each handler came.
@@ -167,12 +167,12 @@ pub fn run<
     handlers: T,
     way: Way,
     send: F,
-) -> Result<Ran<E, T, Settled<E>, A>, RunFault>
+) -> Result<RunOutcome<E, T, Settled<E>, A>, RunFault>
     requires callable { F.IsAlwaysCallable send }
     requires events { length events.items ≡ size }
     requires batch { 0 < way.batch }
     requires place { (given : SenderEnd E) (answer : A) (back : SenderEnd E) → FnOnceReturnsAtMut F.FnOnce send given answer back → sender_place back ≡ sender_place given }
-    ensures ran { IfOk result (IsRanBy (FnOnceReturnsAtMut F.FnOnce send) (λ sender. sender) H.goes T.listed T.went way.batch (shape_of graph.now.upstreams size) events.items handlers) }
+    ensures ran { IfOk result (IsOutcomeBy (FnOnceReturnsAtMut F.FnOnce send) (λ sender. sender) H.goes T.listed T.went way.batch (shape_of graph.now.upstreams size) events.items handlers) }
     ensures many { IfOk result (λ _. length (T.listed handlers) ≡ length graph.now.upstreams) }
     ensures refused { IfErr result (λ e. e ≡ refusal_of (length graph.now.upstreams) (length (T.listed handlers))) }
 {
@@ -183,7 +183,7 @@ pub fn run<
     let mut live = LiveSender::new(rt, sender, bell, way.strategy);
     let sent = send(&mut live);
     let (list, settled, events) = wind_up(rt, alloc, live, workers, halter, way.batch)?;
-    Ok(Ran {
+    Ok(RunOutcome {
         handlers: T::from_list(list),
         settled,
         events,

@@ -8,12 +8,12 @@ ghost use Rattle.dr_plain.specs.Calls.Settling.{AreAllEnds, IsHalterOf};
 ghost use Rattle.dr_plain.specs.Meaning.Records.{events_of};
 ghost use Rattle.dr_disruptor.specs.Handlers.{AllWentThrough};
 ghost use Rattle.dr_disruptor.specs.Here.{HereEnd, sending_here};
-ghost use Rattle.dr_disruptor.specs.Running.{AreServedBack, AreSettled, IsRanBy, refusal_of, shape_of};
+ghost use Rattle.dr_disruptor.specs.Running.{AreServedBack, AreSettled, IsOutcomeBy, refusal_of, shape_of};
 
 use crate::fault::RunFault;
 use crate::feed::Feed;
 use crate::here::Here;
-use crate::running::{Ran, open};
+use crate::running::{RunOutcome, open};
 use crate::sender::LiveSender;
 use crate::team::Team;
 use crate::way::Way;
@@ -71,11 +71,11 @@ pub fn run_here<
     handlers: T,
     way: Way,
     send: F,
-) -> Result<Ran<E, T, Settled<E>, A>, RunFault>
+) -> Result<RunOutcome<E, T, Settled<E>, A>, RunFault>
     requires events { length events.items ≡ size }
     requires batch { 0 < way.batch }
     // Each handler of a new ring went through just what the feed published, in order, in batches.
-    ensures ran { IfOk result (IsRanBy (λ (given : HereEnd E H) (answer : A) (back : HereEnd E H). F.gives send answer (sending_here given).published (sending_here back).published) (λ here. here.sender) H.goes T.listed T.went way.batch (shape_of graph.now.upstreams size) events.items handlers) }
+    ensures ran { IfOk result (IsOutcomeBy (λ (given : HereEnd E H) (answer : A) (back : HereEnd E H). F.gives send answer (sending_here given).published (sending_here back).published) (λ here. here.sender) H.goes T.listed T.went way.batch (shape_of graph.now.upstreams size) events.items handlers) }
     // It takes as many handlers as the graph has; any other fault than that is `Memory`.
     ensures many { IfOk result (λ _. length (T.listed handlers) ≡ length graph.now.upstreams) }
     ensures refused { IfErr result (λ e. e ≡ refusal_of (length graph.now.upstreams) (length (T.listed handlers))) }
@@ -87,7 +87,7 @@ pub fn run_here<
     let mut live = LiveSender::new(rt, here, bell, WaitStrategy::Spinning);
     let sent = send.feed(&mut live);
     let (list, settled, events) = wind_up_here(rt, alloc, live, halter)?;
-    Ok(Ran {
+    Ok(RunOutcome {
         handlers: T::from_list(list),
         settled,
         events,

@@ -10,12 +10,12 @@ ghost use Rattle.dr_plain_senders.specs.Calls.Making.{AreFreshEnds};
 ghost use Rattle.dr_plain_senders.specs.Calls.Settling.{AreAllEnds};
 ghost use Rattle.dr_plain_senders.specs.Calls.Ends.{received_of};
 ghost use Rattle.dr_disruptor.specs.Feeding.{AreSent, IsUnsent};
-ghost use Rattle.dr_disruptor.specs.Merging.{IsRanByAll, IsWoundUp, LeavesSender, refusal_of, shape_of};
+ghost use Rattle.dr_disruptor.specs.Merging.{IsOutcomeByAll, IsWoundUp, LeavesSender, refusal_of, shape_of};
 ghost use Rattle.dr_disruptor.specs.Serving.{AreInBatches, IsIdle, given_end, given_handler};
 
 use crate::fault::RunFault;
-use crate::feeds::{SendsBy, Sent, ended, feed_all};
-use crate::running::Ran;
+use crate::feeds::{Delivered, SendsBy, ended, feed_all};
+use crate::running::RunOutcome;
 use crate::sender::LiveSender;
 use crate::team::Team;
 use crate::way::Way;
@@ -128,7 +128,7 @@ fn fed<
     feeds: Vec<F>,
     bell: &Arc<Bell, Global>,
     strategy: WaitStrategy,
-) -> Result<(Halter<E>, Vec<Worker<Receiver<E>, H>>, Vec<Sent<E, A>>), AllocError>
+) -> Result<(Halter<E>, Vec<Worker<Receiver<E>, H>>, Vec<Delivered<E, A>>), AllocError>
     // The closures send before this run halts the ring.
     requires before { ends.0.stored ≡ [] }
     requires many { length senders.items ≡ length feeds.items }
@@ -155,7 +155,7 @@ fn fed<
 // What the senders' threads gave back, each kind in a list of its own.
 fn senders_apart<E: Drop, A: Drop>(
     alloc: Global,
-    sent: Vec<Sent<E, A>>,
+    sent: Vec<Delivered<E, A>>,
 ) -> Result<(Vec<Sender<E>>, Vec<A>), AllocError>
     ensures senders { IfOk result (λ r. r.0.items ≡ map (λ s. s.sender) sent.items) }
     ensures answers { IfOk result (λ r. r.1.items ≡ map (λ s. s.answer) sent.items) }
@@ -164,7 +164,7 @@ fn senders_apart<E: Drop, A: Drop>(
     let mut senders = Vec::with_capacity(alloc, many)?;
     let mut answers = Vec::with_capacity(alloc, many)?;
     for one in sent {
-        let Sent { sender, answer } = one;
+        let Delivered { sender, answer } = one;
         senders.push(sender)?;
         answers.push(answer)?;
     }
@@ -175,7 +175,7 @@ fn senders_apart<E: Drop, A: Drop>(
 fn wind_up<R: Threads, E: Drop, H: InPlaceHandler<E> + Drop, A: Drop>(
     rt: &R,
     alloc: Global,
-    ends: (Halter<E>, Vec<Worker<Receiver<E>, H>>, Vec<Sent<E, A>>),
+    ends: (Halter<E>, Vec<Worker<Receiver<E>, H>>, Vec<Delivered<E, A>>),
     bell: &Bell,
     batch: u64,
 ) -> Result<Wound<E, H, A>, AllocError>
@@ -218,12 +218,12 @@ pub fn run_senders<
     handlers: T,
     way: Way,
     feeds: Vec<F>,
-) -> Result<Ran<E, T, Settled<E>, Vec<A>>, RunFault>
+) -> Result<RunOutcome<E, T, Settled<E>, Vec<A>>, RunFault>
     requires callable { All (λ f. F.IsAlwaysCallable f) feeds.items }
     requires events { length events.items ≡ size }
     requires batch { 0 < way.batch }
     requires place { All (λ f. LeavesSender (FnOnceReturnsAtMut F.FnOnce f)) feeds.items }
-    ensures ran { IfOk result (IsRanByAll (FnOnceReturnsAtMut F.FnOnce) H.goes T.listed T.went way.batch (shape_of graph.now.upstreams size events.items (length feeds.items)) feeds.items handlers) }
+    ensures ran { IfOk result (IsOutcomeByAll (FnOnceReturnsAtMut F.FnOnce) H.goes T.listed T.went way.batch (shape_of graph.now.upstreams size events.items (length feeds.items)) feeds.items handlers) }
     ensures many { IfOk result (λ _. length (T.listed handlers) ≡ length graph.now.upstreams) }
     ensures few { IfOk result (λ _. has_bad_producers (Multi (length feeds.items)) ≡ false) }
     ensures refused { IfErr result (λ e. e ≡ refusal_of (length graph.now.upstreams) (length (T.listed handlers)) (length feeds.items)) }
@@ -234,7 +234,7 @@ pub fn run_senders<
     let ends = begin(rt, alloc, halter, receivers, list, &bell, way)?;
     let ends = fed(rt, alloc, ends, senders, feeds, &bell, way.strategy)?;
     let (list, settled, events, sent) = wind_up(&rt, alloc, ends, &bell, way.batch)?;
-    Ok(Ran {
+    Ok(RunOutcome {
         handlers: T::from_list(list),
         settled,
         events,

@@ -9,15 +9,15 @@ use Rattle.dr_workers.specs.declared.ended.Ended.{Ended}
 use Rattle.dr_workers.specs.declared.fault.WorkFault.{WorkFault}
 use Rattle.dr_workers.specs.declared.producer.Produced.{Produced}
 use Rattle.dr_runs.proofs.Elements.{at_below, value_at}
-use Rattle.dr_disruptor_lock.specs.declared.sending.Sent.{Sent}
+use Rattle.dr_disruptor_lock.specs.declared.sending.Delivered.{Delivered}
 use Rattle.dr_disruptor_lock.specs.Joining.{endings_from}
 use Rattle.dr_disruptor_lock.specs.Running.{AreFine, fronts}
 
 -- what the workers gave back of their scripts is what they sent of them
-pub fronts_sent : {L : Type 0} (scripts : List (List Event)) (sent : List (Sent L)) → length sent ≡ length scripts
-    → ((p : ℕ) (script : List Event) (back : Sent L) → get_elem? scripts p ≡ some script → get_elem? sent p ≡ some back
+pub fronts_sent : {L : Type 0} (scripts : List (List Event)) (sent : List (Delivered L)) → length sent ≡ length scripts
+    → ((p : ℕ) (script : List Event) (back : Delivered L) → get_elem? scripts p ≡ some script → get_elem? sent p ≡ some back
     → back.script.items ≡ take back.produced.sent script)
-    → map (λ (s : Sent L). s.script.items) sent ≡ fronts scripts (map (λ (s : Sent L). s.produced) sent)
+    → map (λ (s : Delivered L). s.script.items) sent ≡ fronts scripts (map (λ (s : Delivered L). s.produced) sent)
 fronts_sent [] [] many each = refl
 fronts_sent [] (b ∷ sent) many each = absurd (omega arith)
 fronts_sent (x ∷ scripts) [] many each = absurd (omega arith)

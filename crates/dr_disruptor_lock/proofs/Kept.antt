@@ -11,7 +11,7 @@ use Rattle.dr_lock.specs.Calls.Lock.{EndView, HasHalted}
 use Rattle.dr_lock.specs.Meaning.History.{History}
 use Rattle.dr_disruptor_lock.specs.declared.jobs.Job.{Job}
 use Rattle.dr_disruptor_lock.specs.declared.jobs.Task.{Task}
-use Rattle.dr_disruptor_lock.specs.declared.sending.Sent.{Sent}
+use Rattle.dr_disruptor_lock.specs.declared.sending.Delivered.{Delivered}
 use Rattle.dr_disruptor_lock.specs.declared.serving.Served.{Served}
 use Rattle.dr_disruptor_lock.specs.declared.workers.Joined.{Joined}
 use Rattle.dr_disruptor_lock.specs.Joining.{AreSent, AreServed, IsJoined}
@@ -30,14 +30,14 @@ module _ {W B : Type 0} (Keeps : W → B → Type 0) where
       (w, at_index workers h w (omega arith) is, subst (Keeps w) (value_at backs h back back at) kept)
 
 -- all tasks were done by those who promised it
-pub are_sent : {L : Type 0} (begun : History Event) (size : ℕ) (workers : List (Producer L)) (tasks : List (Task L)) (sent : List (Sent L))
+pub are_sent : {L : Type 0} (begun : History Event) (size : ℕ) (workers : List (Producer L)) (tasks : List (Task L)) (sent : List (Delivered L))
     → map given_task workers ≡ tasks
     → ((h : ℕ) (w : Producer L) → get_elem? workers h ≡ some w → given_size w ≡ size) → length sent ≡ length workers
-    → EachKeeps (λ (w : Producer L) (back : Sent L). Sending begun (given_size w) (given_task w) back) workers sent → AreSent begun size tasks sent
+    → EachKeeps (λ (w : Producer L) (back : Delivered L). Sending begun (given_size w) (given_task w) back) workers sent → AreSent begun size tasks sent
 are_sent {L} begun size workers tasks sent given sizes many each = record {
   many = many ∙ sym (length-map workers given_task) ∙ ap length given;
   each = λ p back at.
-      let (w, at_w, sending) = kept_at (λ (w : Producer L) (back : Sent L). Sending begun (given_size w) (given_task w) back) workers sent many each p back at in (
+      let (w, at_w, sending) = kept_at (λ (w : Producer L) (back : Delivered L). Sending begun (given_size w) (given_task w) back) workers sent many each p back at in (
         given_task w,
         ap (λ (l : List (Task L)). get_elem? l p) (sym given) ∙ at_map given_task workers p w at_w,
         subst (λ (n : ℕ). Sending begun n (given_task w) back) (sizes p w at_w) sending,

@@ -12,12 +12,12 @@ use Rattle.dr_lock.specs.Meaning.Audit.{IsAudited}
 use Rattle.dr_workers.specs.Meaning.Merge.{IsMerge}
 use Rattle.dr_disruptor.specs.Handlers.{AllWentThrough}
 use Rattle.dr_disruptor.specs.Merging.{AllWentThroughMerge}
-use Rattle.dr_disruptor_lock.specs.declared.running.Ran.{Ran}
-use Rattle.dr_disruptor_lock.specs.Running.{AreFine, IsRan, fronts}
+use Rattle.dr_disruptor_lock.specs.declared.running.RunOutcome.{RunOutcome}
+use Rattle.dr_disruptor_lock.specs.Running.{AreFine, IsOutcome, fronts}
 use Rattle.dr_disruptor_lock.proofs.Fronts.{both_ok, fine_at, fronts_whole}
 
-module _ {A : Type 0} (goes : Relation Event A) (begun : History Event) (size : ℕ) (scripts : List (List Event)) (starts : List A) (ran : Ran A)
-    (is : IsRan goes begun size scripts starts ran) where
+module _ {A : Type 0} (goes : Relation Event A) (begun : History Event) (size : ℕ) (scripts : List (List Event)) (starts : List A) (ran : RunOutcome A)
+    (is : IsOutcome goes begun size scripts starts ran) where
   -- all of each script was sent
   all_sent : AreFine ran.endings.items → fronts scripts is.produced ≡ scripts
   all_sent fine = fronts_whole scripts is.produced is.many.2 (λ p script back at there.

@@ -24,13 +24,13 @@ use Rattle.dr_disruptor_lock.specs.declared.comparing.HistoryFault.{HistoryFault
 use Rattle.dr_disruptor_lock.specs.declared.comparing.HistoryFault.TheVariants.{Audit, Shown}
 use Rattle.dr_disruptor_lock.specs.declared.jobs.Job.{Job}
 use Rattle.dr_disruptor_lock.specs.declared.jobs.Task.{Task}
-use Rattle.dr_disruptor_lock.specs.declared.running.Ran.{Ran}
-use Rattle.dr_disruptor_lock.specs.declared.sending.Sent.{Sent}
+use Rattle.dr_disruptor_lock.specs.declared.running.RunOutcome.{RunOutcome}
+use Rattle.dr_disruptor_lock.specs.declared.sending.Delivered.{Delivered}
 use Rattle.dr_disruptor_lock.specs.declared.serving.Served.{Served}
 use Rattle.dr_disruptor_lock.specs.declared.workers.Joined.{Joined}
 use Rattle.dr_disruptor_lock.specs.Jobs.{AreJobs, AreTasks, IsJobOf, IsTaskOf}
 use Rattle.dr_disruptor_lock.specs.Joining.{IsJoined, IsSettled, endings_from}
-use Rattle.dr_disruptor_lock.specs.Running.{HasSent, HasServed, IsAmiss, IsHistoryOf, IsRan, fronts}
+use Rattle.dr_disruptor_lock.specs.Running.{HasSent, HasServed, IsAmiss, IsHistoryOf, IsOutcome, fronts}
 use Rattle.dr_disruptor_lock.specs.Serving.{Sending, Serving}
 use Rattle.dr_disruptor_lock.specs.Watching.{HasListed, IsNew, IsUnlike}
 use Rattle.dr_disruptor_lock.proofs.Filled.{all_full}
@@ -80,7 +80,7 @@ has_served {A = A} begun goes h start job back serving is same =
     }
 
 -- a sender's worker that was given the task of its number
-has_sent : {L : Type 0} (begun : History Event) (size p : ℕ) (script : List Event) (task : Task L) (back : Sent L) → Sending begun size task back → IsTaskOf p task
+has_sent : {L : Type 0} (begun : History Event) (size p : ℕ) (script : List Event) (task : Task L) (back : Delivered L) → Sending begun size task back → IsTaskOf p task
     → task.script.items ≡ script → HasSent begun p size script back.end back.produced
 has_sent begun size p script task back sending is same =
     let calls = sending.calls.calls in
@@ -110,21 +110,21 @@ went_through begun goes start job back events serving new has =
 -- Of all.
 
 module _ {L A : Type 0} (begun : History Event) (size : ℕ) (goes : Relation Event A) (scripts : List (List Event)) (starts : List A) (halter : EndView Event)
-    (jobs : List (Job L A)) (tasks : List (Task L)) (joined : Joined L A) (had : ℕ) (ran : Ran A)
+    (jobs : List (Job L A)) (tasks : List (Task L)) (joined : Joined L A) (had : ℕ) (ran : RunOutcome A)
     (same_starts : map (λ (j : Job L A). j.watching.handler) jobs ≡ starts) (are_jobs : AreJobs jobs)
     (same_scripts : map (λ (t : Task L). t.script.items) tasks ≡ scripts) (are_tasks : AreTasks tasks)
     (is : IsJoined begun size goes halter jobs tasks joined) (came : IsSettled begun had joined ran) where
   abbrev served : List (Served L A)
   served = joined.served.items
 
-  abbrev sent : List (Sent L)
+  abbrev sent : List (Delivered L)
   sent = joined.sent.items
 
   abbrev faults : List (Option WorkFault)
   faults = map (λ (s : Served L A). s.fault) served
 
   abbrev sent_faults : List (Option WorkFault)
-  sent_faults = map (λ (s : Sent L). s.produced.fault) sent
+  sent_faults = map (λ (s : Delivered L). s.produced.fault) sent
 
   many_served : length served ≡ length starts
   many_served = is.served.many ∙ sym (length-map jobs (λ (j : Job L A). j.watching.handler)) ∙ ap length same_starts
@@ -161,7 +161,7 @@ module _ {L A : Type 0} (begun : History Event) (size : ℕ) (goes : Relation Ev
   -- and of the sender at a place
   record OfSender (p : ℕ) (script : List Event) : Type 0 where
     task : Task L
-    back : Sent L
+    back : Delivered L
     at_back : get_elem? sent p ≡ some back
     sending : Sending begun size task back
     of : IsTaskOf p task
@@ -198,7 +198,7 @@ module _ {L A : Type 0} (begun : History Event) (size : ℕ) (goes : Relation Ev
       → get_elem? ran.endings.items (length starts + p) ≡ some (record { who = 16 + p; fault = x.back.produced.fault })
   sender_ended_so p script x =
       let long : length (endings_from 0 faults) ≡ length starts = endings_many 0 faults ∙ length-map served (λ (s : Served L A). s.fault) ∙ many_served in
-      let one = ending_at 16 sent_faults [] p x.back.produced.fault (at_map (λ (s : Sent L). s.produced.fault) sent p x.back x.at_back) in
+      let one = ending_at 16 sent_faults [] p x.back.produced.fault (at_map (λ (s : Delivered L). s.produced.fault) sent p x.back x.at_back) in
       let alone : endings_from 16 sent_faults ++ [] ≡ endings_from 16 sent_faults = append-nil (endings_from 16 sent_faults) in
       let here = sym (ap (λ (l : List Ended). get_elem? l p) alone) ∙ one in
       ap (λ (n : ℕ). get_elem? ran.endings.items (n + p)) (sym long)
@@ -208,7 +208,7 @@ module _ {L A : Type 0} (begun : History Event) (size : ℕ) (goes : Relation Ev
   many_ended : length (endings_from 0 faults) + length (endings_from 16 sent_faults) ≡ length starts + length scripts
   many_ended =
       let first : length (endings_from 0 faults) ≡ length starts = endings_many 0 faults ∙ length-map served (λ (s : Served L A). s.fault) ∙ many_served in
-      let rest : length (endings_from 16 sent_faults) ≡ length scripts = endings_many 16 sent_faults ∙ length-map sent (λ (s : Sent L). s.produced.fault) ∙ many_sent in
+      let rest : length (endings_from 16 sent_faults) ≡ length scripts = endings_many 16 sent_faults ∙ length-map sent (λ (s : Delivered L). s.produced.fault) ∙ many_sent in
       omega arith
 
   -- all handlers went through a list that each of them listed
@@ -228,26 +228,26 @@ module _ {L A : Type 0} (begun : History Event) (size : ℕ) (goes : Relation Ev
   }
 
   -- what was sent of the scripts
-  were_sent : map (λ (s : Sent L). s.script.items) sent ≡ fronts scripts (map (λ (s : Sent L). s.produced) sent)
+  were_sent : map (λ (s : Delivered L). s.script.items) sent ≡ fronts scripts (map (λ (s : Delivered L). s.produced) sent)
   were_sent = fronts_sent scripts sent many_sent (λ p script back at there_it.
       let x = of_sender p script at in
       let same : x.back ≡ back = some-injective x.back back (sym x.at_back ∙ there_it) in
-      subst (λ (b : Sent L). b.script.items ≡ take b.produced.sent script) same
+      subst (λ (b : Delivered L). b.script.items ≡ take b.produced.sent script) same
       (subst (λ (l : List Event). x.back.script.items ≡ take x.back.produced.sent l) x.items x.sending.script))
 
-  pub is_ran : halter ≡ no_calls → had ≡ length begun.entries → IsRan goes begun size scripts starts ran
-  is_ran unused same = record {
+  pub is_outcome : halter ≡ no_calls → had ≡ length begun.entries → IsOutcome goes begun size scripts starts ran
+  is_outcome unused same = record {
     halter = joined.halter;
     outlets = map (λ (s : Served L A). s.end) served;
-    inlets = map (λ (s : Sent L). s.end) sent;
-    produced = map (λ (s : Sent L). s.produced) sent;
+    inlets = map (λ (s : Delivered L). s.end) sent;
+    produced = map (λ (s : Delivered L). s.produced) sent;
     halted = subst (λ (e : EndView Event). HasHalted e joined.halter) unused is.halted;
     many = (
       length-map served (λ (s : Served L A). s.end) ∙ many_served,
-      length-map sent (λ (s : Sent L). s.end) ∙ many_sent,
-      length-map sent (λ (s : Sent L). s.produced) ∙ many_sent,
+      length-map sent (λ (s : Delivered L). s.end) ∙ many_sent,
+      length-map sent (λ (s : Delivered L). s.produced) ∙ many_sent,
     );
-    history = subst (λ (n : ℕ). IsHistoryOf begun n (joined.halter ∷ map (λ (s : Served L A). s.end) served ++ map (λ (s : Sent L). s.end) sent) ran.recorded.history)
+    history = subst (λ (n : ℕ). IsHistoryOf begun n (joined.halter ∷ map (λ (s : Served L A). s.end) served ++ map (λ (s : Delivered L). s.end) sent) ran.recorded.history)
         same came.history;
     serving = λ h start at.
         let x = of_handler h start at in (
@@ -263,25 +263,25 @@ module _ {L A : Type 0} (begun : History Event) (size : ℕ) (goes : Relation Ev
         let x = of_sender p script at in (
           x.back.produced,
           x.back.end,
-          at_map (λ (s : Sent L). s.produced) sent p x.back x.at_back,
-          at_map (λ (s : Sent L). s.end) sent p x.back x.at_back,
+          at_map (λ (s : Delivered L). s.produced) sent p x.back x.at_back,
+          at_map (λ (s : Delivered L). s.end) sent p x.back x.at_back,
           sender_ended_so p script x,
           has_sent begun size p script x.task x.back x.sending x.of x.items,
         );
     ended = ap length came.endings ∙ length-append (endings_from 0 faults) (endings_from 16 sent_faults) ∙ many_ended;
     audited = where_ok _
-        (λ list. IsAudited (transcript ran.recorded.history) (handlers begun.core.setup) (fronts scripts (map (λ (s : Sent L). s.produced) sent)) list.items)
+        (λ list. IsAudited (transcript ran.recorded.history) (handlers begun.core.setup) (fronts scripts (map (λ (s : Delivered L). s.produced) sent)) list.items)
         ran.list
         (λ list found.
-        subst (λ (c : Setup). IsAudited (transcript ran.recorded.history) (handlers c) (fronts scripts (map (λ (s : Sent L). s.produced) sent)) list.items)
+        subst (λ (c : Setup). IsAudited (transcript ran.recorded.history) (handlers c) (fronts scripts (map (λ (s : Delivered L). s.produced) sent)) list.items)
         came.history.goes_on.setup
         (subst (λ (l : List (List Event)). IsAudited (transcript ran.recorded.history) (handlers ran.recorded.history.core.setup) l list.items) were_sent found))
         came.audited;
-    amiss = where_err _ (IsAmiss (transcript ran.recorded.history) (handlers begun.core.setup) (fronts scripts (map (λ (s : Sent L). s.produced) sent))
+    amiss = where_err _ (IsAmiss (transcript ran.recorded.history) (handlers begun.core.setup) (fronts scripts (map (λ (s : Delivered L). s.produced) sent))
         (λ list h. h < length starts)) ran.list
         (λ f found.
-        amiss_as (transcript ran.recorded.history) ran.recorded.history.core.setup begun.core.setup (map (λ (s : Sent L). s.script.items) sent)
-        (fronts scripts (map (λ (s : Sent L). s.produced) sent))
+        amiss_as (transcript ran.recorded.history) ran.recorded.history.core.setup begun.core.setup (map (λ (s : Delivered L). s.script.items) sent)
+        (fronts scripts (map (λ (s : Delivered L). s.produced) sent))
         (IsUnlike (map (λ (s : Served L A). s.watching) served)) (λ list h. h < length starts) f came.history.goes_on.setup were_sent
         (λ list h unlike. let below = unlike.0 in let many = length-map served (λ (s : Served L A). s.watching) ∙ many_served in omega arith) found)
         came.amiss;

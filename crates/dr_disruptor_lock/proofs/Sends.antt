@@ -8,10 +8,10 @@ use Rattle.dr_workers.specs.declared.fault.WorkFault.TheVariants.{Stopped}
 use Rattle.dr_lock.specs.Calls.Asking.{InletAsks}
 use Rattle.dr_lock.specs.Meaning.History.{History}
 use Rattle.dr_disruptor_lock.specs.declared.jobs.Task.{Task}
-use Rattle.dr_disruptor_lock.specs.declared.sending.Sent.{Sent}
+use Rattle.dr_disruptor_lock.specs.declared.sending.Delivered.{Delivered}
 use Rattle.dr_disruptor_lock.specs.Serving.{Sending}
 
-module _ {L : Type 0} (begun : History Event) (size cut : ℕ) (task : Task L) (events : List Event) (back : Sent L) (same : events ≡ task.script.items)
+module _ {L : Type 0} (begun : History Event) (size cut : ℕ) (task : Task L) (events : List Event) (back : Delivered L) (same : events ≡ task.script.items)
     (is : cut ≡ max (size / 4) 1) where
   pub sends : SomeCalls (InletAsks begun task.p) task.end back.end (worker.Sends cut events (λ passage. ⊥) (λ passage. ⊥) back.produced)
       → back.produced.sent ≤ length events

@@ -12,8 +12,8 @@ use Rattle.dr_lock.specs.Meaning.Audit.{IsAudited}
 use Rattle.dr_lock.specs.Meaning.History.{History, transcript}
 use Rattle.dr_disruptor_lock.specs.declared.jobs.Job.{Job}
 use Rattle.dr_disruptor_lock.specs.declared.jobs.Task.{Task}
-use Rattle.dr_disruptor_lock.specs.declared.running.Ran.{Ran}
-use Rattle.dr_disruptor_lock.specs.declared.sending.Sent.{Sent}
+use Rattle.dr_disruptor_lock.specs.declared.running.RunOutcome.{RunOutcome}
+use Rattle.dr_disruptor_lock.specs.declared.sending.Delivered.{Delivered}
 use Rattle.dr_disruptor_lock.specs.declared.serving.Served.{Served}
 use Rattle.dr_disruptor_lock.specs.declared.workers.Joined.{Joined}
 use Rattle.dr_disruptor_lock.specs.Running.{IsAmiss, IsHistoryOf}
@@ -28,9 +28,9 @@ pub record AreServed {L A : Type 0} (begun : History Event) (goes : Relation Eve
       → (job : Job L A) × (get_elem? jobs h ≡ some job) × Serving begun goes job back
 
 -- and each task
-pub record AreSent {L : Type 0} (begun : History Event) (size : ℕ) (tasks : List (Task L)) (sent : List (Sent L)) : Type 0 where
+pub record AreSent {L : Type 0} (begun : History Event) (size : ℕ) (tasks : List (Task L)) (sent : List (Delivered L)) : Type 0 where
   pub many : length sent ≡ length tasks
-  pub each : (p : ℕ) (back : Sent L) → get_elem? sent p ≡ some back
+  pub each : (p : ℕ) (back : Delivered L) → get_elem? sent p ≡ some back
       → (task : Task L) × (get_elem? tasks p ≡ some task) × Sending begun size task back
 
 -- the exchange was halted, and all ends came back
@@ -45,7 +45,7 @@ endings_from who [] = []
 endings_from who (f ∷ faults) = record { who = who; fault = f } ∷ endings_from (who + 1) faults
 
 -- what came of what all workers gave back
-pub record IsSettled {L A : Type 0} (begun : History Event) (had : ℕ) (joined : Joined L A) (ran : Ran A) : Type 0 where
+pub record IsSettled {L A : Type 0} (begun : History Event) (had : ℕ) (joined : Joined L A) (ran : RunOutcome A) : Type 0 where
   pub history : IsHistoryOf begun had (joined.halter ∷ map (λ s. s.end) joined.served.items ++ map (λ s. s.end) joined.sent.items) ran.recorded.history
   pub afters : ran.handlers.items ≡ map (λ s. s.watching.handler) joined.served.items
   pub endings : ran.endings.items ≡ endings_from 0 (map (λ s. s.fault) joined.served.items) ++ endings_from 16 (map (λ s. s.produced.fault) joined.sent.items)

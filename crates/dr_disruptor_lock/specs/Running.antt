@@ -23,14 +23,14 @@ use Rattle.dr_disruptor_lock.specs.declared.comparing.HistoryFault.{HistoryFault
 use Rattle.dr_disruptor_lock.specs.declared.comparing.HistoryFault.TheVariants.{Audit, Shown}
 use Rattle.dr_disruptor_lock.specs.declared.fault.LockedFault.{LockedFault}
 use Rattle.dr_disruptor_lock.specs.declared.fault.LockedFault.TheVariants as locked
-use Rattle.dr_disruptor_lock.specs.declared.running.Ran.{Ran}
+use Rattle.dr_disruptor_lock.specs.declared.running.RunOutcome.{RunOutcome}
 
 -- no worker ended with a fault
 abbrev pub AreFine : List Ended → Type 0
 AreFine endings = All (λ e. e.fault ≡ None) endings
 
 -- why a run has not both: the first fault of its workers or, where they have none, that of its history
-abbrev pub IsWhyNot : {A : Type 0} → Ran A → LockedFault → Type 0
+abbrev pub IsWhyNot : {A : Type 0} → RunOutcome A → LockedFault → Type 0
 IsWhyNot ran (locked.Run why) = ⊥
 IsWhyNot ran (locked.Worker who why) = first_fault ran.endings.items ≡ Some (record { who = who; fault = why })
 IsWhyNot ran (locked.History why) = AreFine ran.endings.items × (ran.list ≡ Err why)
@@ -67,7 +67,7 @@ IsAmiss t handlers sent IsUnlike (Audit f) = Faults t handlers sent f
 IsAmiss t handlers sent IsUnlike (Shown h) = (list : List Event) × IsAudited t handlers sent list × IsUnlike list h
 
 -- what came of scripts over an exchange that began so, each sent by a worker of its own
-pub record IsRan {A : Type 0} (goes : Relation Event A) (begun : History Event) (size : ℕ) (scripts : List (List Event)) (starts : List A) (ran : Ran A) : Type 0 where
+pub record IsOutcome {A : Type 0} (goes : Relation Event A) (begun : History Event) (size : ℕ) (scripts : List (List Event)) (starts : List A) (ran : RunOutcome A) : Type 0 where
   -- the ends through which the exchange was halted, the handlers were served and the scripts sent, and what was sent
   pub halter : EndView Event
   pub outlets : List (EndView Event)
@@ -91,8 +91,8 @@ pub record IsRan {A : Type 0} (goes : Relation Event A) (begun : History Event) 
   pub amiss : IfErr ran.list (IsAmiss (transcript ran.recorded.history) (handlers begun.core.setup) (fronts scripts produced) (λ list h. h < length starts))
 
 -- so it is over a new exchange of a graph and so many slots, with a producer for each script
-pub record IsRun {A : Type 0} (goes : Relation Event A) (upstreams : List (List ℕ)) (size : ℕ) (scripts : List (List Event)) (starts : List A) (ran : Ran A) : Type 0 where
+pub record IsRun {A : Type 0} (goes : Relation Event A) (upstreams : List (List ℕ)) (size : ℕ) (scripts : List (List Event)) (starts : List A) (ran : RunOutcome A) : Type 0 where
   pub begun : History Event
   pub setup : begun.core.setup ≡ setup_of upstreams size (Multi (length scripts)) (2 ^ 62)
   pub fresh : begun.entries ≡ []
-  pub came : IsRan goes begun size scripts starts ran
+  pub came : IsOutcome goes begun size scripts starts ran

@@ -11,7 +11,7 @@ use Rattle.dr_lock.specs.Meaning.History.{History}
 use Rattle.dr_disruptor_lock.specs.declared.jobs.Job.{Job}
 use Rattle.dr_disruptor_lock.specs.declared.jobs.Task.{Task}
 use Rattle.dr_disruptor_lock.specs.declared.sending.SendsPromise.{SendsPromise}
-use Rattle.dr_disruptor_lock.specs.declared.sending.Sent.{Sent}
+use Rattle.dr_disruptor_lock.specs.declared.sending.Delivered.{Delivered}
 use Rattle.dr_disruptor_lock.specs.declared.serving.Served.{Served}
 use Rattle.dr_disruptor_lock.specs.declared.serving.ServesPromise.{ServesPromise}
 use Rattle.dr_disruptor_lock.specs.Watching.{Watches}
@@ -24,7 +24,7 @@ pub record Serving {L A : Type 0} (begun : History Event) (goes : Relation Event
   pub memory : back.fault ≢ Some Memory
 
 -- a worker's calls sent a script in claims of a quarter of the slots, each as a call of that producer, as much of it as it says and all of it where it has no fault, and it gave back its end and what it sent. With an open gate nobody stops it
-pub record Sending {L : Type 0} (begun : History Event) (size : ℕ) (task : Task L) (back : Sent L) : Type 0 where
+pub record Sending {L : Type 0} (begun : History Event) (size : ℕ) (task : Task L) (back : Delivered L) : Type 0 where
   pub calls : SomeCalls (InletAsks begun task.p) task.end back.end
       (worker.Sends (max (size / 4) 1) task.script.items (λ passage. ⊥) (λ passage. ⊥) back.produced)
   pub within : back.produced.sent ≤ length task.script.items
@@ -34,7 +34,7 @@ pub record Sending {L : Type 0} (begun : History Event) (size : ℕ) (task : Tas
 
 -- a sender's thread, the task that it was given and the number of slots
 abbrev pub Producer : Type 0 → Type 0
-Producer L = PromisedHandle (Sent L) (SendsPromise L)
+Producer L = PromisedHandle (Delivered L) (SendsPromise L)
 
 abbrev pub given_task : {L : Type 0} → Producer L → Task L
 given_task w = w.promise.task.value

@@ -2,7 +2,7 @@
 //!
 //! [`run_locked`] opens the exchange of a graph behind a lock, starts a thread for each handler and one for each
 //! script, which sends it, and hands back the handlers, the history of the exchange, and the one list of events that
-//! all handlers went through ([`Ran`]). Begin with `specs/Running`: it says what each handler went through, and what
+//! all handlers went through ([`RunOutcome`]). Begin with `specs/Running`: it says what each handler went through, and what
 //! the history has of it.
 #![tactic(auto)]
 
@@ -21,4 +21,4 @@ pub use comparing::HistoryFault;
 pub use dr_disruptor::RunFault;
 pub use dr_workers::WaitStrategy;
 pub use fault::LockedFault;
-pub use running::{Ran, run_locked};
+pub use running::{RunOutcome, run_locked};

@@ -7,7 +7,7 @@ ghost use Rattle.dr_meaning.specs.Calls.OpenFault.{has_bad_producers};
 ghost use Rattle.dr_workers.specs.Meaning.FirstFault.{first_fault as first_of};
 ghost use Rattle.dr_disruptor.specs.Handlers.{AllWentThrough};
 ghost use Rattle.dr_disruptor.specs.Merging.{AllWentThroughMerge, refusal_of};
-ghost use Rattle.dr_disruptor_lock.specs.Running.{AreFine, IsRan, IsRun, IsWhyNot};
+ghost use Rattle.dr_disruptor_lock.specs.Running.{AreFine, IsOutcome, IsRun, IsWhyNot};
 
 use crate::around::Around;
 use crate::comparing::HistoryFault;
@@ -29,7 +29,7 @@ use std::thread::Threads;
 
 /// What came of a run.
 #[derive(Drop)]
-pub struct Ran<H> {
+pub struct RunOutcome<H> {
     /// The handlers, in the graph's order.
     pub handlers: Vec<H>,
     /// The exchange with its history: each call that it kept, and the events of its batches.
@@ -41,7 +41,7 @@ pub struct Ran<H> {
     pub endings: Vec<Ended>,
 }
 
-impl<H: Drop> Ran<H> {
+impl<H: Drop> RunOutcome<H> {
     /// The fault that is answered for the workers, if one of them has any.
     pub fn fault(&self) -> Option<WorkerFault>
         // A lack of memory comes before a stop, that before a refusal; of one kind, the least number's comes.
@@ -63,7 +63,7 @@ impl<H: Drop> Ran<H> {
         if let Some(first) = self.fault() {
             return Err(LockedFault::from(first));
         }
-        let Ran { handlers, list, .. } = self;
+        let RunOutcome { handlers, list, .. } = self;
         match list {
             Ok(list) => Ok((handlers, list)),
             Err(amiss) => Err(LockedFault::from(amiss)),
@@ -153,13 +153,13 @@ fn run_over<
     scripts: Vec<Vec<Event>>,
     events: usize,
     strategy: WaitStrategy,
-) -> Result<Ran<H>, AllocError>
+) -> Result<RunOutcome<H>, AllocError>
     requires name { blank.name ≡ L.name }
     requires parts { blank.parts ≡ L.parts }
     requires ends { blank.parts ≡ 65 }
     requires begun { recorded.history ≡ L.begun }
     requires few { length scripts.items ≤ 16 }
-    ensures { IfOk result (IsRan H.goes recorded.history size (map (λ s. s.items) scripts.items) handlers.items) }
+    ensures { IfOk result (IsOutcome H.goes recorded.history size (map (λ s. s.items) scripts.items) handlers.items) }
 {
     let mut shared = Shared::<Event, L>::new(recorded, blank);
     let halter = new_end(&mut shared)?;
@@ -197,7 +197,7 @@ pub fn run_locked<R: Threads + Wait + Sync, H: InPlaceHandler<Event> + Drop + Se
     handlers: Vec<H>,
     scripts: Vec<Vec<Event>>,
     strategy: WaitStrategy,
-) -> Result<Ran<H>, RunFault>
+) -> Result<RunOutcome<H>, RunFault>
     // Where no worker has a fault and the history agrees, all handlers went through the list, a merge of the scripts.
     ensures whole { IfOk result (λ ran. IfOk ran.list (λ list. AreFine ran.endings.items → AllWentThroughMerge (AllWentThrough H.goes) 256 (map (λ s. s.items) scripts.items) list.items handlers.items ran.handlers.items)) }
     // It went over a new exchange of this graph and size, and the list is of what was sent of the scripts, whatever the faults.

@@ -15,7 +15,7 @@ use std::thread::Promise;
 
 /// What a worker gives back: its end, what it sent of its script, and how it ended.
 #[derive(Drop)]
-pub struct Sent<L: Ledger> {
+pub struct Delivered<L: Ledger> {
     pub end: End<Event, L>,
     pub script: Vec<Event>,
     pub produced: Produced,
@@ -46,12 +46,12 @@ impl<L: Ledger> Drop for SendsPromise<L> {
     }
 }
 
-impl<L: Exchange<Event>> Promise<Sent<L>> for SendsPromise<L> {
+impl<L: Exchange<Event>> Promise<Delivered<L>> for SendsPromise<L> {
     ghost kept_by = { λ p back. Sending L.begun p.size p.task.value back };
 }
 
 /// Sends a script in claims of a quarter of the slots, and rings the bell with each publication.
-pub fn send<L: Exchange<Event>, R: Wait>(around: &Around<'_, L, R>, task: Task<L>) -> Sent<L>
+pub fn send<L: Exchange<Event>, R: Wait>(around: &Around<'_, L, R>, task: Task<L>) -> Delivered<L>
     // By calls of this producer the script is sent, all of it where there is no fault.
     ensures { Sending L.begun around.now.size task result }
 {
@@ -72,7 +72,7 @@ pub fn send<L: Exchange<Event>, R: Wait>(around: &Around<'_, L, R>, task: Task<L
     script.truncate(produced.sent as usize);
     let back = inlet.into_end();
     let end = back.into_end();
-    Sent {
+    Delivered {
         end,
         script,
         produced,

@@ -5,8 +5,8 @@ ghost use Rattle.dr_disruptor_lock.specs.Joining.{IsSettled, endings_from};
 ghost use Rattle.dr_disruptor_lock.specs.Running.{IsHistoryOf};
 
 use crate::comparing::compared;
-use crate::running::Ran;
-use crate::sending::Sent;
+use crate::running::RunOutcome;
+use crate::sending::Delivered;
 use crate::serving::Served;
 use crate::watching::Watching;
 use crate::workers::Joined;
@@ -47,7 +47,7 @@ fn handlers_apart<L: Ledger, H: Drop>(
 // What senders' workers gave back: what was sent of each script, and the ends and how they ended behind the handlers'.
 fn senders_apart<L: Ledger>(
     alloc: Global,
-    sent: Vec<Sent<L>>,
+    sent: Vec<Delivered<L>>,
     ends: &mut Vec<End<Event, L>>,
     endings: &mut Vec<Ended>,
 ) -> Result<Vec<Vec<Event>>, AllocError>
@@ -58,7 +58,7 @@ fn senders_apart<L: Ledger>(
 {
     let mut scripts = Vec::with_capacity(alloc, sent.len())?;
     for one in sent {
-        let Sent {
+        let Delivered {
             end,
             script,
             produced,
@@ -108,7 +108,7 @@ pub(crate) fn settled<L: Exchange<Event>, H: Drop>(
     alloc: Global,
     shared: Shared<Event, L>,
     joined: Joined<L, H>,
-) -> Result<Ran<H>, AllocError>
+) -> Result<RunOutcome<H>, AllocError>
     requires given { shared.given ≡ 1 + length joined.served.items + length joined.sent.items }
     requires few { length joined.sent.items ≤ 16 }
     ensures { IfOk result (IsSettled L.begun shared.begun joined) }
@@ -126,7 +126,7 @@ pub(crate) fn settled<L: Exchange<Event>, H: Drop>(
     let recorded = taken_out(shared, ends);
     let list = compared(alloc, &recorded, scripts.as_slice(), watchings.as_slice());
     let handlers = handlers_of(alloc, watchings)?;
-    Ok(Ran {
+    Ok(RunOutcome {
         handlers,
         recorded,
         list,

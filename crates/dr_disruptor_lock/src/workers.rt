@@ -8,7 +8,7 @@ ghost use Rattle.dr_disruptor_lock.specs.Serving.{given_job};
 
 use crate::around::Around;
 use crate::jobs::{Job, Task};
-use crate::sending::{SendsPromise, Sent, send};
+use crate::sending::{Delivered, SendsPromise, send};
 use crate::serving::{Served, ServesPromise, serve};
 use dr_lock::{End, Exchange, halt};
 use dr_meaning::InPlaceHandler;
@@ -23,7 +23,7 @@ use std::thread::{self, PromisedHandle, Threads};
 pub struct Joined<L: Ledger, H> {
     pub halter: End<Event, L>,
     pub served: Vec<Served<L, H>>,
-    pub sent: Vec<Sent<L>>,
+    pub sent: Vec<Delivered<L>>,
 }
 
 // Starts a thread for each task, and joins them. An error is that memory ran out or that a thread could not be
@@ -32,13 +32,13 @@ fn send_all<L: Exchange<Event> + Send + Sync, R: Threads + Wait + Sync>(
     alloc: Global,
     around: &Around<'_, L, R>,
     tasks: Vec<Task<L>>,
-) -> Result<Vec<Sent<L>>, AllocError>
+) -> Result<Vec<Delivered<L>>, AllocError>
     ensures { IfOk result (λ sent. AreSent L.begun around.now.size tasks.items sent.items) }
 {
     thread::scope(
         thread::scope_env(),
         around.rt,
-        move |scope| -> Result<Vec<Sent<L>>, AllocError>
+        move |scope| -> Result<Vec<Delivered<L>>, AllocError>
             requires shared { IsSync L.row }
             requires workers { IsSync R.row }
             ensures { IfOk result (λ sent. AreSent L.begun around.entry.now.size tasks.items sent.items) }

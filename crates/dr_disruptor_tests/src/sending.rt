@@ -5,7 +5,7 @@ ghost use Rattle.dr_plain.specs.Calls.Ends.{sender_place};
 
 use crate::checks::{check, diamond, size};
 use crate::work::Tally;
-use dr_disruptor::{LiveSender, Ran, WaitStrategy, Way, run};
+use dr_disruptor::{LiveSender, RunOutcome, WaitStrategy, Way, run};
 use dr_plain::{Sender, Settled};
 use std::alloc::Global;
 use std::process::Abort;
@@ -15,7 +15,7 @@ use std::thread::Threads;
 const LAST: [u64; 3] = [10, 11, 12];
 
 /// What came of some numbers over a diamond.
-type Numbers = Ran<u64, Vec<Tally>, Settled<u64>, u64>;
+type Numbers = RunOutcome<u64, Vec<Tally>, Settled<u64>, u64>;
 
 /// Sends the numbers from 1 to 5, the first two one at a time.
 fn one_by_one<R: Threads + Wait + Abort + Copy + Send + 'static>(

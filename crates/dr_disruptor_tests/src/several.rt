@@ -13,14 +13,14 @@ use std::sync::Wait;
 use std::thread::Threads;
 
 /// What a closure answers: how its calls ended, and how many events it published.
-type Sent = (Result<(), Refusal>, u64);
+type Answer = (Result<(), Refusal>, u64);
 
 /// What two handlers came to, and what two closures answered, of which one counts from 0 and one from 100.
 fn merged<R: Threads + Wait + Abort + Copy + Send + 'static>(
     rt: R,
     alloc: Global,
     way: Way,
-) -> (InOrder, Count, Vec<Sent>)
+) -> (InOrder, Count, Vec<Answer>)
     requires { 0 < way.batch }
 {
     let graph = chain(&rt, alloc);

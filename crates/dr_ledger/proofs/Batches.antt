@@ -16,7 +16,7 @@ use Rattle.dr_journal.specs.Calls.Journals.{IsAtRest, records_of}
 use Rattle.dr_journal.specs.Calls.Parts.{device_of}
 use Rattle.dr_journal.specs.declared.journal.Journal.{Journal}
 use Rattle.dr_ledger.specs.Batches.{IsCopyAtRest, Replies, Stores, Takes}
-use Rattle.dr_ledger.specs.Serving.{AreAnswered, IsKept, Leaves, Written}
+use Rattle.dr_ledger.specs.Answering.{AreAnswered, IsKept, Leaves, Written}
 use Rattle.dr_ledger.specs.Standing.{Copies, HasBooked, Holds, IsAtWork, IsBeginning, Say, StandsForThem, business_of, journal_of, replica_of}
 use Rattle.dr_ledger.specs.declared.fault.LedgerFault.{LedgerFault}
 use Rattle.dr_ledger.specs.declared.fault.LedgerFault.TheVariants as fault

@@ -5,7 +5,7 @@ use Rattle.std.specs.declared.alloc.Global.{Global}
 use Rattle.dr_seq.specs.declared.event.Event.{Event}
 use Rattle.dr_journal.specs.Calls.Journals.{IsBeforeOrAfter, bytes_of}
 use Rattle.dr_journal.specs.Calls.Records.{event_in}
-use Rattle.dr_ledger.specs.Serving.{IsKept}
+use Rattle.dr_ledger.specs.Answering.{IsKept}
 use Rattle.dr_ledger.specs.Standing.{IsBeginning, Say, StandsForThem}
 
 pub say_more : (before batch : List (List ℕ)) (past events : List Event) → Say before past → Say batch events → Say (before ++ batch) (past ++ events)

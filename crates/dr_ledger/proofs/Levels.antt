@@ -5,7 +5,7 @@ use Rattle.dr_journal.specs.Calls.Journals.{CrashLeaves, IsAtRest, records_of}
 use Rattle.dr_journal.specs.Calls.Parts.{device_of}
 use Rattle.dr_journal.specs.declared.journal.Journal.{Journal}
 use Rattle.dr_ledger.specs.Coming.{HasCome, SayFirst, records_read, waiting_of}
-use Rattle.dr_ledger.specs.Serving.{IsKept}
+use Rattle.dr_ledger.specs.Answering.{IsKept}
 use Rattle.dr_ledger.specs.Standing.{Say}
 use Rattle.dr_ledger.specs.Starting.{AreBooked, IsLevel, Levels, TellsLevel}
 use Rattle.dr_ledger.specs.declared.accounts.Accounts.{Accounts}

@@ -3,7 +3,7 @@ use Rattle.std.proofs.Common.{inl, inr, ⊎_elim, ℕ, List, [], ◌++◌, arith
 use Rattle.dr_seq.specs.declared.event.Event.{Event}
 use Rattle.dr_journal.specs.Calls.Journals.{IsBeforeOrAfter}
 use Rattle.dr_journal.specs.Meaning.Disk.{LeavesOnly}
-use Rattle.dr_ledger.specs.Serving.{IsKept}
+use Rattle.dr_ledger.specs.Answering.{IsKept}
 use Rattle.dr_ledger.specs.Standing.{Say}
 use Rattle.dr_ledger.proofs.Kept.{kept_batch, kept_first, kept_longer, kept_on}
 

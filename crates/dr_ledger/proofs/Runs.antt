@@ -12,7 +12,7 @@ use Rattle.dr_operations.specs.declared.cause.Cause.{Cause}
 use Rattle.dr_operations.specs.declared.event_stream.EventStream.{EventStream}
 use Rattle.dr_ledger.specs.Batches.{IsOfBatch, TurnCame}
 use Rattle.dr_ledger.specs.Faults.{fault_of_file}
-use Rattle.dr_ledger.specs.Serving.{AreAnswered, Came, Leaves}
+use Rattle.dr_ledger.specs.Answering.{AreAnswered, Came, Leaves}
 use Rattle.dr_ledger.specs.Standing.{Holds, IsAtWork, IsBeginning, journal_of}
 use Rattle.dr_ledger.specs.declared.fault.LedgerFault.{LedgerFault}
 use Rattle.dr_ledger.specs.declared.fault.LedgerFault.TheVariants as fault

@@ -12,7 +12,7 @@ use Rattle.dr_journal.specs.Calls.Parts.{device_of}
 use Rattle.dr_journal.specs.Meaning.Format.{recovered}
 use Rattle.dr_journal.specs.declared.file.FileDevice.{FileDevice}
 use Rattle.dr_journal.specs.declared.journal.Journal.{Journal}
-use Rattle.dr_ledger.specs.Serving.{IsKept}
+use Rattle.dr_ledger.specs.Answering.{IsKept}
 use Rattle.dr_ledger.specs.Standing.{Holds, IsBeginning, Say}
 use Rattle.dr_ledger.specs.Starting.{AreBetween, OnlyGains}
 use Rattle.dr_ledger.proofs.Batches.{left_at_rest}

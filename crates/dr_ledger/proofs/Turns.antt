@@ -6,7 +6,7 @@ use Rattle.dr_journal.specs.Calls.Journals.{CrashLeaves}
 use Rattle.dr_journal.specs.Calls.Parts.{device_of}
 use Rattle.dr_operations.specs.declared.event_stream.EventStream.{EventStream}
 use Rattle.dr_ledger.specs.Batches.{Takes, Turned}
-use Rattle.dr_ledger.specs.Serving.{IsKept, Leaves, Served, Written}
+use Rattle.dr_ledger.specs.Answering.{AnsweredAll, IsKept, Leaves, Written}
 use Rattle.dr_ledger.specs.Standing.{IsAtWork, journal_of}
 use Rattle.dr_ledger.specs.declared.fault.LedgerFault.{LedgerFault}
 use Rattle.dr_ledger.specs.declared.fault.LedgerFault.TheVariants as fault
@@ -72,7 +72,7 @@ module _ {D : Type 0} (seen : D → List ℕ) (may_leave : D → List ℕ → Ty
 
       -- the last turn
       pub turns_out : Turned seen may_leave moment left_since (Ok false) mid new (record { before = b; after = c }) t u l m (past ++ first.came)
-          → Served seen may_leave moment left_since (Ok tt) old new (record { before = a; after = c }) s k past
+          → AnsweredAll seen may_leave moment left_since (Ok tt) old new (record { before = a; after = c }) s k past
       turns_out later = record {
         came = first.came ++ later.came;
         leaves = leaves_on seen may_leave (Ok false) new a b c past first.came later.came first.leaves.1 later.leaves;
@@ -82,7 +82,7 @@ module _ {D : Type 0} (seen : D → List ℕ) (may_leave : D → List ℕ → Ty
 
       pub turns_bad : (e : LedgerFault)
           → Turned seen may_leave moment left_since (Err e) mid new (record { before = b; after = c }) t u l m (past ++ first.came)
-          → Served seen may_leave moment left_since (Err e) old new (record { before = a; after = c }) s k past
+          → AnsweredAll seen may_leave moment left_since (Err e) old new (record { before = a; after = c }) s k past
       turns_bad e later = record {
         came = first.came ++ later.came;
         leaves = same_leaves Bool (Unit {0}) seen may_leave e new (record { before = a; after = c }) past (first.came ++ later.came) (leaves_on seen may_leave {B = Bool} (Err e) new a b c past first.came later.came first.leaves.1 later.leaves);
@@ -92,7 +92,7 @@ module _ {D : Type 0} (seen : D → List ℕ) (may_leave : D → List ℕ → Ty
 
     -- so many turns that no more are made
     pub turns_stop : Turned seen may_leave moment left_since (Ok true) old mid (record { before = a; after = b }) s t k l past
-        → Served seen may_leave moment left_since (Err fault.Memory) old mid (record { before = a; after = b }) s k past
+        → AnsweredAll seen may_leave moment left_since (Err fault.Memory) old mid (record { before = a; after = b }) s k past
     turns_stop first = record {
       came = first.came;
       leaves = rests seen may_leave {A = Unit {0}} (Err fault.Memory) mid (record { before = a; after = b }) past first.came first.leaves.0 first.leaves.1;

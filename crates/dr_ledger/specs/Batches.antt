@@ -9,7 +9,7 @@ use Rattle.dr_operations.specs.declared.event_stream.EventStream.{EventStream}
 use Rattle.dr_ledger.specs.declared.fault.LedgerFault.{LedgerFault}
 use Rattle.dr_ledger.specs.declared.fault.LedgerFault.TheVariants as fault
 use Rattle.dr_ledger.specs.declared.ledger.Ledger.{Ledger}
-use Rattle.dr_ledger.specs.Serving.{AreAnswered, AreCut, IsKept, Leaves, Written}
+use Rattle.dr_ledger.specs.Answering.{AreAnswered, AreCut, IsKept, Leaves, Written}
 use Rattle.dr_ledger.specs.Standing.{Copies, HasBooked, Holds, IsBeginning, journal_of, replica_of}
 
 module _ {D : Type 0} (seen : D → List ℕ) (may_leave : D → List ℕ → Type 0) where

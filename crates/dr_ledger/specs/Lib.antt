@@ -1,6 +1,6 @@
 pub mod Faults
 pub mod Standing
-pub mod Serving
+pub mod Answering
 pub mod Batches
 pub mod Coming
 pub mod Starting

@@ -10,7 +10,7 @@ use Rattle.dr_journal.specs.Meaning.Format.{recovered}
 use Rattle.dr_journal.specs.declared.file.FileDevice.{FileDevice}
 use Rattle.dr_journal.specs.declared.journal.Journal.{Journal}
 use Rattle.dr_ledger.specs.Coming.{HasCome, IsOnlyRead, SayFirst, records_read, role_of, waiting_of}
-use Rattle.dr_ledger.specs.Serving.{IsKept}
+use Rattle.dr_ledger.specs.Answering.{IsKept}
 use Rattle.dr_ledger.specs.Standing.{Holds, IsAtWork, IsBeginning, Say, journal_of, replica_of}
 use Rattle.dr_ledger.specs.declared.accounts.Accounts.{Accounts}
 use Rattle.dr_ledger.specs.declared.coming.Coming.{Coming}

@@ -1,4 +1,4 @@
-//! A ledger, and how it serves an input.
+//! A ledger, and how it answers an input.
 
 ghost use Rattle.std.specs.Prelude.{◌≡◌, ◌⊎◌, ◌≤◌, ◌<◌, ◌+◌, ◌-◌, ◌^◌, ◌++◌, [], List, OnOk, IfErr, IsErrOf};
 ghost use Rattle.dr_seq.specs.declared.event.Event.{Event};
@@ -7,7 +7,7 @@ ghost use Rattle.dr_journal.specs.Calls.Journals.{CrashLeaves, bytes_of};
 ghost use Rattle.dr_journal.specs.declared.fault.JournalFault.TheVariants.{Failed};
 ghost use Rattle.dr_ledger.specs.declared.fault.LedgerFault.TheVariants.{Disk};
 ghost use Rattle.dr_ledger.specs.Standing.{Copies, HasBooked, Holds, IsAtWork, Say, business_of, disk_faults, journal_of, replica_faults, replica_of};
-ghost use Rattle.dr_ledger.specs.Serving.{IsKept, Served};
+ghost use Rattle.dr_ledger.specs.Answering.{AnsweredAll, IsKept};
 ghost use Rattle.dr_ledger.specs.Batches.{AreAtRest, CountsTurns, CountsWrites, IsCopyAtRest, IsOfAnswer, IsOfBatch, IsOfStore, Replies, Stores, Takes, Turned};
 
 use crate::LedgerFault;
@@ -169,8 +169,8 @@ impl<D: Device> Ledger<D> {
         then
     }
 
-    /// Serves an input to its end: turn after turn, until one says that no more may come.
-    pub fn serve<R: Read, W: Write>(
+    /// Answers an input to its end: turn after turn, until one says that no more may come.
+    pub fn answer_all<R: Read, W: Write>(
         &mut self,
         stream: &mut EventStream,
         input: &mut Counted<R>,
@@ -180,7 +180,7 @@ impl<D: Device> Ledger<D> {
         requires reads { faults_of input.old < 2 ^ 64 - 1 }
         requires writes { faults_of output.old < 2 ^ 64 - 1 }
         // Whatever the ledger stood for, some operations came, are stored and are answered.
-        ensures serves { (past : List Event) → IsAtWork D.seen D.may_leave self.old past → Served D.seen D.may_leave D.moment D.left_since result self.old self.new (record { before = W.contents (inner_of output.old); after = W.contents (inner_of output.new) }) stream.old (R.remaining (inner_of input.old)) past }
+        ensures answers { (past : List Event) → IsAtWork D.seen D.may_leave self.old past → AnsweredAll D.seen D.may_leave D.moment D.left_since result self.old self.new (record { before = W.contents (inner_of output.old); after = W.contents (inner_of output.new) }) stream.old (R.remaining (inner_of input.old)) past }
         // A failed read or write is answered where one failed, and nowhere else; so is a failure of a disk.
         ensures counted { CountsTurns result (faults_of input.old) (faults_of input.new) (faults_of output.old) (faults_of output.new) }
         ensures reliable { OnOk result (disk_faults D.faults self.new ≡ disk_faults D.faults self.old) }

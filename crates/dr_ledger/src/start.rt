@@ -6,7 +6,7 @@ ghost use Rattle.dr_journal.specs.Calls.Journals.{CrashLeaves, IsAtRest, faults_
 ghost use Rattle.dr_journal.specs.Calls.Opened.{file_faults, file_left, file_seen};
 ghost use Rattle.dr_ledger.specs.Batches.{AreAtRest, IsOfStore};
 ghost use Rattle.dr_ledger.specs.Coming.{IsFresh, IsOnlyRead, records_read, role_of, waiting_of};
-ghost use Rattle.dr_ledger.specs.Serving.{IsKept};
+ghost use Rattle.dr_ledger.specs.Answering.{IsKept};
 ghost use Rattle.dr_ledger.specs.Standing.{Copies, Holds, IsAtWork, disk_faults, journal_of, replica_of};
 ghost use Rattle.dr_ledger.specs.Starting.{Agrees, AreBooked, AreTaken, BooksAll, Evens, HasNoMore, IsLevel, IsTaken, Levels, StartsFrom, StartsFromBoth, TellsStart, TellsStartFromBoth};
 ghost use Rattle.dr_ledger.specs.declared.fault.LedgerFault.TheVariants.{Disk};

@@ -20,7 +20,7 @@ use Rattle.dr_files.specs.declared.fault.FileFault.TheVariants as file
 use Rattle.dr_operations.specs.declared.cause.Cause.{Cause}
 use Rattle.dr_replay.specs.declared.fault.ReplayFault.{ReplayFault}
 use Rattle.dr_replay.specs.declared.fault.ReplayFault.TheVariants as fault
-use Rattle.dr_replay.specs.declared.ring.Ran.{Ran}
+use Rattle.dr_replay.specs.declared.ring.Returned.{Returned}
 use Rattle.dr_replay.specs.Meaning.Exchange.{lock_setup, setup_for}
 use Rattle.dr_replay.specs.Meaning.Scripts.{producers_in, script_in, scripts_in}
 use Rattle.dr_accounts.specs.Report.{report_of}
@@ -54,7 +54,7 @@ only_memory endings (file.Input k cause) is = no_other endings (fault.File (file
 only_memory endings file.Read is = no_other endings (fault.File file.Read) refl is
 only_memory endings file.Write is = no_other endings (fault.File file.Write) refl is
 
-of_workers : (may_stop : ℕ → Type 0) (ran : Ran) (e : ReplayFault) → AreStopped may_stop (endings_of ran) → UnlessMemory (AreServed (endings_of ran)) e
+of_workers : (may_stop : ℕ → Type 0) (ran : Returned) (e : ReplayFault) → AreStopped may_stop (endings_of ran) → UnlessMemory (AreServed (endings_of ran)) e
     → IsFirstOf (endings_of ran) e
     → IsOfWorkers may_stop ring_workers e
 of_workers may_stop ran (fault.File f) stopped served is = only_memory (endings_of ran) f is
@@ -62,14 +62,14 @@ of_workers may_stop ran (fault.Worker who f) stopped served is = (endings_of ran
 of_workers may_stop ran (fault.Audit f) stopped served is = no_other (endings_of ran) (fault.Audit f) refl is
 
 -- what a run over a new ring came to is what is answered
-module _ {A : Type 0} {may_stop must_stop : ℕ → ℕ → Type 0} {size : ℕ} (events : List Event) (ran : Ran) (t : HalterEnd)
+module _ {A : Type 0} {may_stop must_stop : ℕ → ℕ → Type 0} {size : ℕ} (events : List Event) (ran : Returned) (t : HalterEnd)
     (over : HasRun ran.sender (ends_of ran) t → RunOver may_stop must_stop size events)
     (same : (run : HasRun ran.sender (ends_of ran) t) → (over run).ran ≡ ran) where
   pub came_of : (r : Result A ReplayFault) → CameTogether ran t r → IfOk r (λ x. AreThrough events ran) → IfErr r (IsFirstOf (endings_of ran))
       → CameOf may_stop must_stop size r events
   came_of (Ok x) came through first = (over came, subst (AreThrough events) (sym (same came)) through)
   came_of (Err (fault.Worker who f)) came through first =
-      (over came, subst (λ (x : Ran). IsFirstOf (endings_of x) (fault.Worker who f)) (sym (same came)) first)
+      (over came, subst (λ (x : Returned). IsFirstOf (endings_of x) (fault.Worker who f)) (sym (same came)) first)
   came_of (Err (fault.Audit f)) came through first = no_other (endings_of ran) (fault.Audit f) refl first
   came_of (Err (fault.File file.Memory)) came through first = tt
   came_of (Err (fault.File (file.Input k cause))) came through first = tt
@@ -91,7 +91,7 @@ served_unless endings (fault.File f) served is = tt
 served_unless endings (fault.Worker who f) served is = served is
 served_unless endings (fault.Audit f) served is = served is
 
-pub ends_of_workers : {A P : Type 0} (may_stop : ℕ → Type 0) (ran : Ran) (r : Result A ReplayFault) → AreStopped may_stop (endings_of ran)
+pub ends_of_workers : {A P : Type 0} (may_stop : ℕ → Type 0) (ran : Returned) (r : Result A ReplayFault) → AreStopped may_stop (endings_of ran)
     → (P → AreServed (endings_of ran))
     → IfErr r (UnlessMemory P) → IfErr r (IsFirstOf (endings_of ran)) → IfErr r (IsOfWorkers may_stop ring_workers)
 ends_of_workers may_stop ran (Ok x) stopped served holds is = tt

@@ -23,7 +23,7 @@ use Rattle.dr_workers.specs.declared.fault.WorkFault.TheVariants.{Memory, Stoppe
 use Rattle.dr_reports.specs.Keeping.{AnswersFor, IsServed}
 use Rattle.dr_replay.specs.declared.given_back.Delivered.{Delivered}
 use Rattle.dr_replay.specs.declared.lock_workers.Joined.{Joined}
-use Rattle.dr_replay.specs.declared.ring.Ran.{Ran}
+use Rattle.dr_replay.specs.declared.ring.Returned.{Returned}
 use Rattle.dr_replay.specs.Calls.LockWorkers.{HasSent}
 use Rattle.dr_replay.specs.Inside.LockWorkers.{IsJoined}
 use Rattle.dr_replay.specs.Meaning.Scripts.{producers_in, script_in, scripts_in}
@@ -107,7 +107,7 @@ sends_heed cut event events may_stop must_stop produced calls is fine must =
 
 -- over a ring
 module _ (may_stop must_stop : ℕ → ℕ → Type 0) (size : ℕ) where
-  pub run_heeds : (events : List Event) (s : SenderEnd) (j r b : ReceiverEnd) (ran : Ran) → IsRun may_stop must_stop size events s j r b ran
+  pub run_heeds : (events : List Event) (s : SenderEnd) (j r b : ReceiverEnd) (ran : Returned) → IsRun may_stop must_stop size events s j r b ran
       → j.knows.received ≡ [] → r.knows.received ≡ [] → b.knows.received ≡ [] → AreThrough events ran → NoneHadToStop must_stop events
   run_heeds [] s j r b ran is first second third through = tt
   run_heeds (event ∷ events) s j r b ran is first second third through =

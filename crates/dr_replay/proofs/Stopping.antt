@@ -14,7 +14,7 @@ use Rattle.dr_workers.specs.declared.fault.WorkFault.TheVariants.{Refused, Stopp
 use Rattle.dr_reports.specs.Keeping.{error_of}
 use Rattle.dr_replay.proofs.Unrefused.{sender_served}
 use Rattle.dr_replay.specs.declared.lock_workers.Joined.{Joined}
-use Rattle.dr_replay.specs.declared.ring.Ran.{Ran}
+use Rattle.dr_replay.specs.declared.ring.Returned.{Returned}
 use Rattle.dr_replay.specs.Inside.LockWorkers.{IsJoined, endings_in}
 use Rattle.dr_replay.specs.Calls.Workers.{AreServed, AreStopped, IsRun, endings_of, lock_endings, numbered}
 
@@ -60,7 +60,7 @@ module _ (may_stop : ℕ → Type 0) where
       more 0 journal others first (more 1 replica later second (more 2 business sent third rest))
 
 -- over a ring, each at one of the passages at which its gate may stop it
-pub run_stopped : (may_stop : ℕ → ℕ → Type 0) {must_stop : ℕ → ℕ → Type 0} {size : ℕ} (events : List Event) (s : SenderEnd) (j r b : ReceiverEnd) (ran : Ran)
+pub run_stopped : (may_stop : ℕ → ℕ → Type 0) {must_stop : ℕ → ℕ → Type 0} {size : ℕ} (events : List Event) (s : SenderEnd) (j r b : ReceiverEnd) (ran : Returned)
     → IsRun may_stop must_stop size events s j r b ran → AreStopped (λ who. (passage : ℕ) × may_stop who passage) (endings_of ran)
 run_stopped may_stop events s j r b ran is =
     let at_some_passage : ℕ → Type 0 = λ who. (passage : ℕ) × may_stop who passage in
@@ -73,7 +73,7 @@ run_stopped may_stop events s j r b ran is =
     (more at_some_passage 16 ran.produced.fault [] is.sending.sends.stopped (All-nil (λ (e : Ended). e.fault ≡ Some Stopped → at_some_passage e.who)))))
 
 -- and over a new ring that nobody else halted none was refused a call
-pub run_served : {may_stop must_stop : ℕ → ℕ → Type 0} {size : ℕ} (k : Shape) (events : List Event) (s : SenderEnd) (j r b : ReceiverEnd) (ran : Ran)
+pub run_served : {may_stop must_stop : ℕ → ℕ → Type 0} {size : ℕ} (k : Shape) (events : List Event) (s : SenderEnd) (j r b : ReceiverEnd) (ran : Returned)
     → IsRun may_stop must_stop size events s j r b ran → s.knows ≡ fresh_sender k → k.size ≡ size → k.limit ≡ 2 ^ 62 → length events ≤ 2 ^ 62
     → j.knows.completed ≡ 0 → r.knows.completed ≡ 0 → b.knows.completed ≡ 0 → FoundUnhalted ran.sender.knows → AreServed (endings_of ran)
 run_served {size = size} k events s j r b ran is fresh slots limit short first second third unhalted =

@@ -40,9 +40,9 @@ use std::sync::Wait;
 use std::thread;
 use std::thread::{Promise, PromisedHandle, Threads};
 
-/// What came of an exchange.
+/// What came back of a ring: its sender, how that ended, and the three workers.
 #[derive(Drop)]
-pub struct Ran {
+pub struct Returned {
     pub sender: Sender,
     pub produced: Produced,
     pub journal: Worked,
@@ -120,7 +120,7 @@ fn served<R: Threads + Wait, G: Gate, J: Promise<Worked>, K: Promise<Worked>, B:
         PromisedHandle<Worked, K>,
         PromisedHandle<Worked, B>,
     ),
-) -> Ran
+) -> Returned
     ensures sending { IsSending size events.now (G.may_stop gate.now 16) (G.must_stop gate.now 16) sender result.sender result.produced }
     ensures closed { sender.knows.sent.pending ≡ [] → result.sender.knows.closed ≡ true }
     ensures journal { J.kept_by handles.0.promise result.journal }
@@ -135,7 +135,7 @@ fn served<R: Threads + Wait, G: Gate, J: Promise<Worked>, K: Promise<Worked>, B:
     let journal = journal.join(rt);
     let replica = replica.join(rt);
     let business = business.join(rt);
-    Ran {
+    Returned {
         sender,
         produced,
         journal,
@@ -155,14 +155,14 @@ fn exchange<R: Threads + Wait + Sync, G: Gate + Sync>(
     sender: Sender,
     receivers: (Receiver, Receiver, Receiver),
     bell: &Bell,
-) -> Result<Ran, Sender>
+) -> Result<Returned, Sender>
     ensures { ComesOf (G.may_stop gate.now) (G.must_stop gate.now) size events.now sender receivers result }
 {
     let (journal, replica, business) = receivers;
     thread::scope(
         thread::scope_env(),
         rt,
-        move |scope| -> Result<Ran, Sender>
+        move |scope| -> Result<Returned, Sender>
             ensures { ComesOf (G.may_stop gate.entry.now) (G.must_stop gate.entry.now) size events.entry.now sender (journal, replica, business) result }
         {
             let promise = PartOf::<Journal, G>::of(&journal, gate, JOURNAL);
@@ -187,7 +187,7 @@ fn exchange<R: Threads + Wait + Sync, G: Gate + Sync>(
 }
 
 // How the workers ended.
-fn endings(ran: &Ran) -> [Ended; 4]
+fn endings(ran: &Returned) -> [Ended; 4]
     ensures { result ≡ endings_of ran.now }
 {
     [
@@ -227,7 +227,7 @@ fn listed(
 }
 
 // Brings the ends together, and then the parts of the report.
-fn finish(alloc: Global, ran: Ran, halter: Halter) -> Result<Report, ReplayFault>
+fn finish(alloc: Global, ran: Returned, halter: Halter) -> Result<Report, ReplayFault>
     requires ends { AreAllEnds ran.sender (ends_of ran) halter }
     requires unhalted { halter.knows.halted ≡ false }
     ensures text { (events : List Event) → Says events ran → IfOk result (λ report. text_of report ≡ report_of events) }
@@ -238,7 +238,7 @@ fn finish(alloc: Global, ran: Ran, halter: Halter) -> Result<Report, ReplayFault
     ensures came { CameTogether ran halter result }
 {
     let endings = endings(&ran);
-    let Ran {
+    let Returned {
         sender,
         produced: _,
         journal,

@@ -2,7 +2,7 @@
 //! list of events that the history has at the end.
 #![tactic(auto)]
 
-use dr_disruptor_lock::{Ran, RunFault, WaitStrategy, run_locked};
+use dr_disruptor_lock::{RunFault, RunOutcome, WaitStrategy, run_locked};
 use dr_graph::{Graph, GraphBuilder};
 use dr_meaning::InPlaceHandler;
 use dr_seq::{Event, Size};
@@ -35,7 +35,7 @@ fn graph(alloc: Global) -> Result<Graph, RunFault> {
 }
 
 /// Sends a hundred ones and a hundred twos through the handlers of a graph, each by a sender of its own.
-fn send<R: Threads + Wait + Sync>(rt: &R, alloc: Global) -> Result<Ran<Adder>, RunFault> {
+fn send<R: Threads + Wait + Sync>(rt: &R, alloc: Global) -> Result<RunOutcome<Adder>, RunFault> {
     let adders = vec![in alloc; Adder { total: 0 }, Adder { total: 0 }]?;
     let ones = vec![in alloc; Event {
         first: 1,

@@ -7,7 +7,7 @@ use Rattle.dr_ring.specs.Calls.Settling.{HasRun}
 use Rattle.dr_reports.specs.Passing.{replay_graph}
 use Rattle.dr_replay.specs.Calls.Workers.{AreThrough, IsFirstOf, IsRun, endings_of, ends_of}
 use Rattle.dr_files.specs.declared.fault.FileFault.TheVariants as file
-use Rattle.dr_replay.specs.declared.ring.Ran.{Ran}
+use Rattle.dr_replay.specs.declared.ring.Returned.{Returned}
 use Rattle.dr_replay.specs.declared.fault.ReplayFault.{ReplayFault}
 use Rattle.dr_replay.specs.declared.fault.ReplayFault.TheVariants as fault
 
@@ -19,7 +19,7 @@ pub record RunOver (may_stop must_stop : ℕ → ℕ → Type 0) (size : ℕ) (e
   pub business : ReceiverEnd
   pub halter : HalterEnd
   pub fresh : AreFreshEnds (record { upstreams = replay_graph; size = size; limit = 2 ^ 62 }) sender (journal ∷ replica ∷ business ∷ []) halter
-  pub ran : Ran
+  pub ran : Returned
   pub run : IsRun may_stop must_stop size events sender journal replica business ran
   -- the ends that came back are those of one run, which the halter never halted
   pub came : HasRun ran.sender (ends_of ran) halter

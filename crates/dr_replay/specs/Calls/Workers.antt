@@ -27,7 +27,7 @@ use Rattle.dr_replay.specs.declared.fault.ReplayFault.{ReplayFault}
 use Rattle.dr_replay.specs.declared.fault.ReplayFault.TheVariants as fault
 use Rattle.dr_reports.specs.Keeping.{Keeps, error_of}
 use Rattle.dr_replay.specs.Calls.Sending.{SendsInClaims}
-use Rattle.dr_replay.specs.declared.ring.Ran.{Ran}
+use Rattle.dr_replay.specs.declared.ring.Returned.{Returned}
 use Rattle.dr_accounts.specs.Handlers.{Books, Copies, IsBusinessOf, IsJournalOf, IsReplicaOf, Journals}
 use Rattle.dr_reports.specs.declared.worker.Worked.{Worked}
 use Rattle.dr_accounts.specs.Report.{journal_part, replica_part, business_part}
@@ -54,7 +54,7 @@ abbrev pub KeepsBusiness : (ℕ → Type 0) → (ℕ → Type 0) → ReceiverEnd
 KeepsBusiness may_stop must_stop given back = Keeps (λ old event s end new. Books old event new) (λ b. IsBusinessOf b []) (λ b. b.failed) business_part may_stop must_stop given back
 
 -- what came of an exchange: the sender published the first of the events, all of them where it has no fault, and closed, and each worker keeps its promise
-pub record IsRun (may_stop must_stop : ℕ → ℕ → Type 0) (size : ℕ) (events : List Event) (s : SenderEnd) (j r b : ReceiverEnd) (ran : Ran) : Type 0 where
+pub record IsRun (may_stop must_stop : ℕ → ℕ → Type 0) (size : ℕ) (events : List Event) (s : SenderEnd) (j r b : ReceiverEnd) (ran : Returned) : Type 0 where
   pub sending : IsSending size events (may_stop 16) (must_stop 16) s ran.sender ran.produced
   pub closed : s.knows.sent.pending ≡ [] → ran.sender.knows.closed ≡ true
   pub journal : KeepsJournal (may_stop 0) (must_stop 0) j ran.journal
@@ -62,23 +62,23 @@ pub record IsRun (may_stop must_stop : ℕ → ℕ → Type 0) (size : ℕ) (eve
   pub business : KeepsBusiness (may_stop 2) (must_stop 2) b ran.business
 
 -- what comes of an exchange: such a run; or, where a thread is lacking, its sender, which closed it and sent nothing
-abbrev pub ComesOf : (may_stop must_stop : ℕ → ℕ → Type 0) → ℕ → List Event → SenderEnd → ReceiverEnd × ReceiverEnd × ReceiverEnd → Result Ran SenderEnd → Type 0
+abbrev pub ComesOf : (may_stop must_stop : ℕ → ℕ → Type 0) → ℕ → List Event → SenderEnd → ReceiverEnd × ReceiverEnd × ReceiverEnd → Result Returned SenderEnd → Type 0
 ComesOf may_stop must_stop size events s ends (Ok ran) = IsRun may_stop must_stop size events s ends.0 ends.1 ends.2 ran
 ComesOf may_stop must_stop size events s ends (Err sender) = ClosesOnceDone s sender
 
 -- what is told of some events, unless a worker has a fault
-pub record Says (events : List Event) (ran : Ran) : Type 0 where
+pub record Says (events : List Event) (ran : Returned) : Type 0 where
   pub all : ran.produced.fault ≡ None → ran.sender.knows.sent.published ≡ events
   pub journal : IfOk ran.journal.part (λ text. (ran.journal.receiver.knows.told ≡ true) × (string_bytes text ≡ journal_part ran.journal.receiver.knows.received))
   pub replica : IfOk ran.replica.part (λ text. (ran.replica.receiver.knows.told ≡ true) × (string_bytes text ≡ replica_part ran.replica.receiver.knows.received))
   pub business : IfOk ran.business.part (λ text. (ran.business.receiver.knows.told ≡ true) × (string_bytes text ≡ business_part ran.business.receiver.knows.received))
 
 -- the receivers of an exchange, in the graph's order
-abbrev pub ends_of : Ran → List ReceiverEnd
+abbrev pub ends_of : Returned → List ReceiverEnd
 ends_of ran = ran.journal.receiver ∷ ran.replica.receiver ∷ ran.business.receiver ∷ []
 
 -- each handler's end received these events, and no worker has a fault
-pub record AreThrough (events : List Event) (ran : Ran) : Type 0 where
+pub record AreThrough (events : List Event) (ran : Returned) : Type 0 where
   pub sender : ran.produced.fault ≡ None
   pub journal : (ran.journal.receiver.knows.received ≡ events) × (error_of ran.journal.part ≡ None)
   pub replica : (ran.replica.receiver.knows.received ≡ events) × (error_of ran.replica.part ≡ None)
@@ -96,7 +96,7 @@ NoneHadToStop must_stop [] = Unit {0}
 NoneHadToStop must_stop (event ∷ events) = All (λ who. must_stop who 0 → ⊥) ring_workers
 
 -- how the workers of an exchange ended
-abbrev pub endings_of : Ran → List Ended
+abbrev pub endings_of : Returned → List Ended
 endings_of ran =
     record { who = 0; fault = error_of ran.journal.part }
     ∷ record { who = 1; fault = error_of ran.replica.part }
@@ -133,7 +133,7 @@ UnlessMemory Holds (fault.File f) = Unit {0}
 UnlessMemory Holds other = Holds
 
 -- one run came to all ends of an exchange, unless memory ran out before they came together
-abbrev pub CameTogether : {A : Type 0} → Ran → HalterEnd → Result A ReplayFault → Type 0
+abbrev pub CameTogether : {A : Type 0} → Returned → HalterEnd → Result A ReplayFault → Type 0
 CameTogether ran halter (Ok x) = HasRun ran.sender (ends_of ran) halter
 CameTogether ran halter (Err e) = UnlessMemory (HasRun ran.sender (ends_of ran) halter) e
 

@@ -7,6 +7,8 @@ use Rattle.example_ticks.proofs.Counting.{all_sent, counted_all}
 use Rattle.example_ticks.specs.declared.Tick.{Tick}
 use Rattle.example_ticks.proofs.counted.Goals as goal
 
+-- Each step has the name of what the source calls or matches there: `join-first` is the first join, `in-Ok` the arm of `let Ok(second)`
+-- (a further one has its function's name behind, as `in-Ok-start_third`), `close-closed-2` the close after `produce`.
 pub finish-settled-requires-clause-ends : goal.finish-settled-requires-clause-ends
 finish-settled-requires-clause-ends g c =
     let first = rw c.in_ok-first.ensures at c.join-first.ensures in

@@ -14,7 +14,7 @@ use Rattle.dr_disruptor.specs.Handlers.{AllWentThrough}
 use Rattle.dr_disruptor.specs.Merging.{IsWoundUp, shape_of}
 use Rattle.dr_disruptor.specs.Serving.{AreInBatches, IsIdle, Worker, given_end, given_handler}
 use Rattle.dr_disruptor.proofs.ManyReady.{all_idle, all_unsent, memory_is, received_by, senders_back}
-use Rattle.dr_disruptor.proofs.Merging.{all_through, ran_over}
+use Rattle.dr_disruptor.proofs.Merging.{all_through, outcome_over}
 use Rattle.dr_disruptor.proofs.running_senders.run_senders.Goals as goal
 
 pub begin-requires-clause-idle : goal.begin-requires-clause-idle
@@ -89,7 +89,7 @@ returns-clause-ran g c =
     let team = c.args.handlers in
     let listed = g.T.Team.listed team in (
       strip,
-      ran_over goes most k blank gives feeds listed made.senders.items made.receivers.items made.halter workers sent wound.list.items wound.settled
+      outcome_over goes most k blank gives feeds listed made.senders.items made.receivers.items made.halter workers sent wound.list.items wound.settled
           wound.events wound.sent.items shape fresh given starts fed.ensures.sent is g.T.Team.listed g.T.Team.went team c.from_list.result wound.sent refl refl refl c.from_list.ensures
           (λ events through. g.met.T.Team.go most events team c.from_list.result (subst (λ l. AllWentThrough goes most events listed l) (sym c.from_list.ensures) through)),
     )

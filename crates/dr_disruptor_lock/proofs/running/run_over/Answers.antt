@@ -6,10 +6,10 @@ use Rattle.dr_lock.specs.Calls.Lock.{SharedView}
 use Rattle.dr_lock.specs.Meaning.History.{History}
 use Rattle.dr_disruptor_lock.specs.declared.jobs.Task.{Task}
 use Rattle.dr_disruptor_lock.specs.Joining.{IsSettled}
-use Rattle.dr_disruptor_lock.specs.Running.{IsRan}
+use Rattle.dr_disruptor_lock.specs.Running.{IsOutcome}
 use Rattle.dr_disruptor_lock.proofs.Fronts.{where_ok}
 use Rattle.dr_disruptor_lock.proofs.Listing.{map_map}
-use Rattle.dr_disruptor_lock.proofs.Returned.{is_ran}
+use Rattle.dr_disruptor_lock.proofs.Returned.{is_outcome}
 use Rattle.dr_disruptor_lock.proofs.running.run_over.Goals as goal
 
 pub settled-requires-clause-given : goal.settled-requires-clause-given
@@ -36,10 +36,10 @@ returns-in-Ok g c =
     c.in_ok-tasks.ensures.begun ∙ c.in_ok-jobs.ensures.begun ∙ ap (λ (s : SharedView). s.begun) c.in_ok-halter.ensures.given ∙ c.new-shared.ensures.begun
     ∙ ap (λ (h : History Event). length h.entries) c.requires.begun
     in
-    let of_begun : IfOk c.settled.result (IsRan g.H.InPlaceHandler.goes begun c.args.size scripts c.args.handlers.items) =
-    where_ok (IsSettled begun c.tasks_of.new.shared.begun c.in-Ok.joined) (IsRan g.H.InPlaceHandler.goes begun c.args.size scripts c.args.handlers.items) c.settled.result
-    (λ ran came. is_ran begun c.args.size g.H.InPlaceHandler.goes scripts c.args.handlers.items c.in_ok-halter.halter c.in_ok-jobs.jobs.items tasks c.in-Ok.joined
+    let of_begun : IfOk c.settled.result (IsOutcome g.H.InPlaceHandler.goes begun c.args.size scripts c.args.handlers.items) =
+    where_ok (IsSettled begun c.tasks_of.new.shared.begun c.in-Ok.joined) (IsOutcome g.H.InPlaceHandler.goes begun c.args.size scripts c.args.handlers.items) c.settled.result
+    (λ ran came. is_outcome begun c.args.size g.H.InPlaceHandler.goes scripts c.args.handlers.items c.in_ok-halter.halter c.in_ok-jobs.jobs.items tasks c.in-Ok.joined
     c.tasks_of.new.shared.begun ran
     c.in_ok-jobs.ensures.handlers c.in_ok-jobs.ensures.fresh listed c.in_ok-tasks.ensures.fresh is came c.in_ok-halter.ensures.unused had) c.settled.ensures
     in
-    subst (λ (b : History Event). IfOk c.settled.result (IsRan g.H.InPlaceHandler.goes b c.args.size scripts c.args.handlers.items)) (sym c.requires.begun) of_begun
+    subst (λ (b : History Event). IfOk c.settled.result (IsOutcome g.H.InPlaceHandler.goes b c.args.size scripts c.args.handlers.items)) (sym c.requires.begun) of_begun

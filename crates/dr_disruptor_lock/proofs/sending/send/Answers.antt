@@ -3,7 +3,7 @@ use Rattle.dr_seq.specs.declared.event.Event.{Event}
 use Rattle.dr_lock.specs.Calls.Asking.{InletAsks}
 use Rattle.dr_lock.specs.declared.locked.LockedInlet.{LockedInlet}
 use Rattle.dr_workers.specs.Calls.Serving.{Sends}
-use Rattle.dr_disruptor_lock.specs.declared.sending.Sent.{Sent}
+use Rattle.dr_disruptor_lock.specs.declared.sending.Delivered.{Delivered}
 use Rattle.dr_lock.proofs.Asked.{asked}
 use Rattle.dr_disruptor_lock.proofs.Sends.{sends}
 use Rattle.dr_disruptor_lock.proofs.sending.send.Goals as goal
@@ -15,7 +15,7 @@ returns g c =
     let task = c.args.task in
     let size = c.args.around.now.size in
     let events = c.as_slice-events.result.now in
-    let back : Sent g.row.L.Denot = record { end = c.into_end-end.result; script = c.truncate.new.self; produced = run.result } in
+    let back : Delivered g.row.L.Denot = record { end = c.into_end-end.result; script = c.truncate.new.self; produced = run.result } in
     let cut : c.max-cut.result ≡ max (size / 4) 1 = c.max-cut.ensures ∙ ap (λ (n : ℕ). max (n / 4) 1) c.get.ensures.value in
     let script : events ≡ task.script.items = search rules in
     let number : c.new-inlet.result.p ≡ task.p = ap (λ (inlet : LockedInlet _ _ _). inlet.p) c.new-inlet.ensures ∙ c.new-locked.ensures.number in

@@ -2,7 +2,7 @@ use Rattle.std.proofs.Common.{◌++◌, ◌∙◌, refl}
 use Rattle.std.proofs.lemmas.Result.{err_from_is_err_and}
 use Rattle.dr_files.specs.Counting.{inner_of}
 use Rattle.dr_ledger.proofs.Turns.{begun, turns_bad, turns_on, turns_out, turns_stop}
-use Rattle.dr_ledger.proofs.ledger.Ledger.serve.Goals as goal
+use Rattle.dr_ledger.proofs.ledger.Ledger.answer_all.Goals as goal
 
 pub loop-init : goal.loop-init
 loop-init g c =
@@ -15,8 +15,8 @@ loop-init g c =
       so_far = λ past work. begun d.seen d.may_leave d.moment d.left_since g.met.D.Device.only_now c.args.self.now (g.W.Write.contents (inner_of c.args.output.now)) (g.R.Read.remaining (inner_of c.args.input.now)) c.args.stream.now past work;
     }
 
-pub returns-in_err-turn-clause-serves : goal.returns-in_err-turn-clause-serves
-returns-in_err-turn-clause-serves g c = λ past work.
+pub returns-in_err-turn-clause-answers : goal.returns-in_err-turn-clause-answers
+returns-in_err-turn-clause-answers g c = λ past work.
     let d = g.D.Device in
     let con = g.W.Write.contents in
     let rem = g.R.Read.remaining in
@@ -26,8 +26,8 @@ returns-in_err-turn-clause-serves g c = λ past work.
     rw (p.1, p.2) (turns_bad d.seen d.may_leave d.moment d.left_since c.args.self.now c.loop.self c.turn.new.self (con (inner_of c.args.output.now)) (con (inner_of c.loop.output)) (con (inner_of c.turn.new.output))
     c.args.stream.now c.loop.stream c.turn.new.stream (rem (inner_of c.args.input.now)) (rem (inner_of c.loop.input)) (rem (inner_of c.turn.new.input)) past first c.in_err-turn.field-0.0 later)
 
-pub returns-then-not-branch-clause-serves : goal.returns-then-not-branch-clause-serves
-returns-then-not-branch-clause-serves g c = λ past work.
+pub returns-then-not-branch-clause-answers : goal.returns-then-not-branch-clause-answers
+returns-then-not-branch-clause-answers g c = λ past work.
     let d = g.D.Device in
     let con = g.W.Write.contents in
     let rem = g.R.Read.remaining in
@@ -54,8 +54,8 @@ loop-preserved g c =
           c.args.stream.now c.loop.stream c.turn.new.stream (rem (inner_of c.args.input.now)) (rem (inner_of c.loop.input)) (rem (inner_of c.turn.new.input)) past first later;
     }
 
-pub returns-clause-serves : goal.returns-clause-serves
-returns-clause-serves g c = λ past work.
+pub returns-clause-answers : goal.returns-clause-answers
+returns-clause-answers g c = λ past work.
     let d = g.D.Device in
     let con = g.W.Write.contents in
     let rem = g.R.Read.remaining in

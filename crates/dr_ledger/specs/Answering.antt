@@ -75,7 +75,7 @@ Came (Err other) stream (Some bytes) came = IsBeginning came (to_come stream byt
 
 -- a run: some operations came, are stored and are answered, and at each moment a crash left a beginning of them behind what was stored
 -- before
-pub record Served {D : Type 0} (seen : D → List ℕ) (may_leave : D → List ℕ → Type 0) (moment : D → ℕ) (left_since : D → ℕ → List ℕ → Type 0) (result : Result (Unit {0}) LedgerFault) (old new : Ledger D) (written : Written) (stream : EventStream) (known : Option (List ℕ)) (past : List Event) : Type 0 where
+pub record AnsweredAll {D : Type 0} (seen : D → List ℕ) (may_leave : D → List ℕ → Type 0) (moment : D → ℕ) (left_since : D → ℕ → List ℕ → Type 0) (result : Result (Unit {0}) LedgerFault) (old new : Ledger D) (written : Written) (stream : EventStream) (known : Option (List ℕ)) (past : List Event) : Type 0 where
   pub came : List Event
   pub leaves : Leaves seen may_leave result new written past came
   pub comes : Came result stream known came

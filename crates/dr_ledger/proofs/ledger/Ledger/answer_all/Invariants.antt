@@ -3,7 +3,7 @@ use Rattle.dr_seq.specs.declared.event.Event.{Event}
 use Rattle.dr_files.specs.Counting.{faults_of, inner_of}
 use Rattle.dr_ledger.specs.Batches.{AreAtRest, Turned}
 use Rattle.dr_ledger.specs.Standing.{IsAtWork, disk_faults}
-use Rattle.dr_ledger.proofs.ledger.Ledger.serve.Given as goal
+use Rattle.dr_ledger.proofs.ledger.Ledger.answer_all.Given as goal
 
 abbrev pub invariant-loop : goal.invariant-loop
 invariant-loop g l = record {

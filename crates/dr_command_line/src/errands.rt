@@ -2,7 +2,7 @@
 
 ghost use Rattle.std.specs.Prelude.{◌≡◌, Some};
 ghost use Rattle.dr_command_line.specs.LineFaults.{line_status, line_text};
-ghost use Rattle.dr_command_line.specs.declared.plans.LineFault.TheVariants as fault;
+ghost use Rattle.dr_command_line.specs.declared.errands.LineFault.TheVariants as fault;
 
 use dr_seq::Size;
 use std::alloc::AllocError;
@@ -31,7 +31,7 @@ pub enum Tool {
 
 /// What a command line asks for.
 #[derive(Debug, Drop)]
-pub enum Plan {
+pub enum Errand {
     /// Print this text, and nothing else.
     Help(String),
     /// Look whether a file for this tool is at fault.
@@ -61,7 +61,7 @@ pub enum Plan {
         by: By,
         output: Option<String>,
     },
-    /// Serve operations from standard input, with the named journal, and maybe a replica of it.
+    /// Answer operations from standard input, with the named journal, and maybe a replica of it.
     Ledger {
         journal: String,
         replica: Option<String>,
