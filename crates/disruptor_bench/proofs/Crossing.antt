@@ -6,7 +6,7 @@ use Rattle.std.proofs.Crossing as std
 use Rattle.std.specs.declared.sync.ledger.Ledger.{Ghosts}
 use Rattle.dr_lock.specs.declared.exchange.Exchange.{Ghosts as Begun}
 use Rattle.dr_seq.specs.contracts.event.Event as Event
-use Rattle.dr_lock.proofs.Sent.{end_send, shared_sync}
+use Rattle.dr_lock.proofs.SharedCrossing.{end_send, shared_sync}
 use Rattle.disruptor_bench.specs.contracts.behind_lock.workers.Around as Around
 
 pub event_sync : IsSync Event.the_row

@@ -10,7 +10,7 @@ use Rattle.dr_seq.specs.contracts.event.Event as Event
 use Rattle.dr_seq.specs.contracts.size.Size as Size
 use Rattle.dr_workers.specs.contracts.bell.Bell as Bell
 use Rattle.dr_workers.specs.contracts.strategy.WaitStrategy as WaitStrategy
-use Rattle.dr_lock.proofs.Sent.{end_send, shared_sync}
+use Rattle.dr_lock.proofs.SharedCrossing.{end_send, shared_sync}
 use Rattle.dr_disruptor_lock.specs.contracts.around.Around as Around
 use Rattle.dr_disruptor_lock.specs.contracts.jobs.Job as Job
 use Rattle.dr_disruptor_lock.specs.contracts.jobs.Task as Task

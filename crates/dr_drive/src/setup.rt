@@ -6,7 +6,7 @@ pub mod ring_records;
 ghost use Rattle.std.specs.Prelude.{◌≡◌};
 ghost use Rattle.csv.specs.Records.{fields_of};
 ghost use Rattle.dr_drive.specs.Meaning.Setup.{goes_on_by, missing as missing_in, prepared, started};
-ghost use Rattle.dr_drive.specs.Calls.Shows.{AreNames, IsPreparation, IsRing, PreparesAs, declared_of, stage_of};
+ghost use Rattle.dr_drive.specs.Calls.Shows.{AreNames, IsPreparation, IsRing, PreparesAs, declared_of, setting_up_of};
 
 use crate::exchange::Exchange;
 use crate::fault::{Cause, RecordFault};
@@ -69,7 +69,7 @@ fn go_on(
 /// Takes one record of the setup.
 pub fn prepare(alloc: Global, at: Preparation, row: &ByteRecord) -> Result<Prepared, RecordFault>
     requires { IsPreparation at }
-    ensures { PreparesAs result (prepared (stage_of at) (fields_of row.now)) }
+    ensures { PreparesAs result (prepared (setting_up_of at) (fields_of row.now)) }
 {
     match at {
         Preparation::Empty => {
@@ -91,7 +91,7 @@ pub fn prepare(alloc: Global, at: Preparation, row: &ByteRecord) -> Result<Prepa
 
 /// What a file lacks that ends in its setup.
 pub fn missing(at: &Preparation) -> Cause
-    ensures { result ≡ missing_in (stage_of at.now) }
+    ensures { result ≡ missing_in (setting_up_of at.now) }
 {
     match at {
         Preparation::Empty => Cause::NoRing,

@@ -6,7 +6,7 @@ pub mod Following
 pub mod Audited
 pub mod Findings
 pub mod Replies
-pub mod Sent
+pub mod SharedCrossing
 pub mod Locking
 pub mod Asking
 pub mod Asked

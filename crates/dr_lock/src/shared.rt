@@ -32,7 +32,7 @@ struct Rest<L: Ledger> {
 }
 
 /// A share may be sent, and through a `&Rest` nobody reaches it. The proof is `rest_sync`, in
-/// `proofs/Sent`: each start of a thread with a `&Shared` rests on it.
+/// `proofs/SharedCrossing`: each start of a thread with a `&Shared` rests on it.
 unsafe impl<L: Ledger> Sync for Rest<L> {}
 
 /// That the ledger has a part for each end and one that stays.

@@ -14,7 +14,7 @@ pub mod Scans
 pub mod Polling
 pub mod Publishing
 pub mod Gathering
-pub mod Gathered
+pub mod BroughtTogether
 pub mod Rooms
 pub mod Bringing
 pub mod Finishing

@@ -22,7 +22,7 @@ ghost use Rattle.dr_plain_senders.specs.Inside.Gathering.{AreSendersOf, AreRecei
 ghost use Rattle.dr_plain_senders.specs.Inside.Bringing.{AreTaken, AreBrought, AreHandsOf, AreTogether};
 
 use crate::answers::claimed_in;
-use crate::gathered::Gathered;
+use crate::brought_together::BroughtTogether;
 use crate::laws::{Halter, RingSeat, Words, moments, settling};
 use crate::left::{ReceiverLeft, SenderLeft};
 use crate::owned::Owned;
@@ -226,7 +226,7 @@ pub fn finish<T: Drop>(
     );
     let (ring, halts) = halter.into_left();
     let (words, plan, mut seat, strip) = (&ring.table.shared, &ring.plan, halts.seat, halts.strip);
-    let Gathered {
+    let BroughtTogether {
         mut counts,
         mut hands,
         mut tokens,

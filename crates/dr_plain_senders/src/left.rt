@@ -1,6 +1,6 @@
 //! What ends that are dropped leave in their ring, for when no end is there any more.
 
-use crate::gathered::Gathered;
+use crate::brought_together::BroughtTogether;
 use crate::laws::{RingSeat, Words};
 use crate::owned::Owned;
 use crate::plan::Plan;
@@ -77,7 +77,7 @@ pub struct HalterLeft<T> {
     pub(crate) seat: RingSeat<T>,
     pub(crate) plan: Snapshot<Plan<T>>,
     pub(crate) strip: Strip<T>,
-    pub(crate) gathered: Gathered<T>,
+    pub(crate) gathered: BroughtTogether<T>,
 }
 
 impl<T> Model for HalterLeft<T> {

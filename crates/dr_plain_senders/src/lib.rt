@@ -8,12 +8,12 @@
 
 mod answers;
 mod body;
+mod brought_together;
 mod claiming;
 mod events;
 mod exchanges;
 mod filling;
 mod finishing;
-mod gathered;
 mod giving_up;
 mod in_place;
 mod inlet;

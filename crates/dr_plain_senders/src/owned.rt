@@ -105,7 +105,7 @@ fn blank(marks: &mut Vec<Mark>, size: Size, from: u64, upto: u64)
 }
 
 // The marks say how far each sequence of the last claim came.
-fn settle(marks: &mut Vec<Mark>, size: Size, shown: u64, filled: u64, end: u64)
+fn mark_last_claim(marks: &mut Vec<Mark>, size: Size, shown: u64, filled: u64, end: u64)
     requires { OwnedFits marks.old.items size shown filled end }
     ensures { owned_of marks.new.items end end end ≡ owned_of marks.old.items shown filled end }
 {
@@ -198,7 +198,7 @@ impl Owned {
         requires round { upto ≤ from + length self.old.claimed }
         ensures { self.new ≡ after_claim self.old from (upto - from) }
     {
-        settle(
+        mark_last_claim(
             &mut self.marks,
             self.size,
             self.shown,
@@ -234,7 +234,7 @@ impl Owned {
         if is_in(self.shown, self.filled, sequence) {
             return;
         }
-        settle(
+        mark_last_claim(
             &mut self.marks,
             self.size,
             self.shown,
@@ -266,7 +266,7 @@ impl Owned {
         requires ready { (s : ℕ) → from ≤ s → s < upto → is_ready_by self.old s ≡ true }
         ensures { self.new ≡ after_publication self.old from (upto - from) }
     {
-        settle(
+        mark_last_claim(
             &mut self.marks,
             self.size,
             self.shown,

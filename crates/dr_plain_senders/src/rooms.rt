@@ -3,7 +3,7 @@
 ghost use Rattle.std.specs.Prelude.{◌≡◌, replicate, IfOk};
 ghost use Rattle.dr_plain_senders.specs.Inside.Rooms.{unmarked, AreBlankRows, AreRooms};
 
-use crate::gathered::Gathered;
+use crate::brought_together::BroughtTogether;
 use crate::owned::Owned;
 use crate::plan::Plan;
 use dr_cells::Token;
@@ -16,7 +16,7 @@ use std::alloc::{AllocError, Global};
 #[derive(Drop)]
 pub(crate) struct Rooms<T> {
     pub(crate) words: Vec<u64>,
-    pub(crate) gathered: Gathered<T>,
+    pub(crate) gathered: BroughtTogether<T>,
     pub(crate) marks: Vec<Owned>,
     pub(crate) tokens: Vec<Vec<Token<T>>>,
     pub(crate) parts: Vec<Vec<Token<T>>>,
@@ -51,7 +51,7 @@ impl<T> Rooms<T> {
     {
         let words = vec![in alloc; 0; plan.words()]?;
         let size = plan.size().get() as usize;
-        let gathered = Gathered::of(alloc, plan.handlers(), size)?;
+        let gathered = BroughtTogether::of(alloc, plan.handlers(), size)?;
         let marks = marks_of(alloc, plan.senders(), plan.size())?;
         let tokens = blank_rows(alloc, plan.senders(), size)?;
         let parts = blank_rows(alloc, plan.handlers(), size)?;

@@ -9,7 +9,7 @@ use Rattle.dr_lock.specs.declared.exchange.Exchange.{Ghosts as Begun}
 use Rattle.dr_seq.specs.contracts.event.Event as Event
 use Rattle.dr_seq.specs.contracts.size.Size as Size
 use Rattle.dr_workers.specs.contracts.bell.Bell as Bell
-use Rattle.dr_lock.proofs.Sent.{end_send, shared_sync}
+use Rattle.dr_lock.proofs.SharedCrossing.{end_send, shared_sync}
 use Rattle.dr_replay.specs.contracts.lock_workers.Around as Around
 use Rattle.dr_replay.specs.contracts.lock_workers.Task as Task
 

@@ -15,10 +15,10 @@ use Rattle.dr_drive.specs.declared.fault.Cause.TheVariants.{BadRecord}
 use Rattle.dr_drive.specs.declared.fault.RecordFault.{RecordFault}
 use Rattle.dr_drive.specs.declared.fault.RecordFault.TheVariants as fault
 use Rattle.dr_drive.specs.Meaning.Commands.{command_of}
-use Rattle.dr_drive.specs.Meaning.Setup.{Stage, prepared}
+use Rattle.dr_drive.specs.Meaning.Setup.{SettingUp, prepared}
 use Rattle.dr_drive.specs.Meaning.DriveText.{Phase, Preparing, Running, Taken, obeys, prepares, taken, told}
 use Rattle.dr_drive.specs.Meaning.Lines.{line_of}
-use Rattle.dr_drive.specs.Calls.Shows.{ExchangeShows, Executes, FaultAs, IsPreparation, batch_of, core_of, stage_of}
+use Rattle.dr_drive.specs.Calls.Shows.{ExchangeShows, Executes, FaultAs, IsPreparation, batch_of, core_of, setting_up_of}
 use Rattle.dr_drive.specs.declared.setup.Preparation.{Preparation}
 use Rattle.dr_show.specs.declared.course.Course.{Course}
 use Rattle.dr_show.specs.declared.course.Course.TheVariants as come_to
@@ -28,7 +28,7 @@ use Rattle.dr_show.specs.declared.tool.Window.{Window}
 use Rattle.dr_show.specs.Meaning.PageText.{object_of, record_text, shows}
 use Rattle.dr_show.specs.Meaning.Texts.{bytes_text}
 use Rattle.dr_show.specs.Meaning.StateText.{exchange_text, state_text}
-use Rattle.dr_show.specs.Inside.Courses.{CourseShows, FailsAs, Keeps, Ran, RunningShows, TakesRecord, recents_of}
+use Rattle.dr_show.specs.Inside.Courses.{CourseShows, FailsAs, Keeps, RunsRecord, RunningShows, TakesRecord, recents_of}
 use Rattle.dr_show.specs.Inside.Objects.{command_seen, start_seen}
 use Rattle.dr_show.specs.Inside.Seen.{state_seen}
 use Rattle.dr_show.specs.Inside.Sequences.{Follows, Remembers}
@@ -67,7 +67,7 @@ pub ran_as : (r new : Kept) (phase : Phase) (row : Record) (command : Command Ev
     → upto ≡ (core_of new.exchange).next → length (recents_of new) ≡ length (recents_of r)
     → ((c : Setup) (m : State Event) → Follows c m command reply upto (recents_of r) → Remembers (recents_of new) (step c m command).state)
     → events ≡ take (count_in reply) (batch_of new.exchange) → line ≡ line_of reply events
-    → Ran new line (taken false phase row)
+    → RunsRecord new line (taken false phase row)
 ran_as r new (Preparing stage) row command reply upto events line shown is did counted sized noted handed put = absurd shown
 ran_as r new (Running names c m) row command reply upto events line keeps is did counted sized noted handed put =
     let o : Outcome Event = step c m command in
@@ -122,7 +122,7 @@ command_put told shown k row text line r names c m old new keeps same is put =
     (state_put r.exchange (recents_of r) names c m keeps.exchange (sized r names c m keeps) keeps.remembers)
 
 -- a record that is not taken, in the setup and after it, puts nothing
-pub setup_not_taken : (f : RecordFault) (w : Window) (k : ℕ) (row : Record) (stage : Stage) (old : List ℕ) → FaultAs f (prepared stage row)
+pub setup_not_taken : (f : RecordFault) (w : Window) (k : ℕ) (row : Record) (stage : SettingUp) (old : List ℕ) → FaultAs f (prepared stage row)
     → TakesRecord (Err f) w k row (taken false (Preparing stage) row) old old
 setup_not_taken (fault.Cause cause) w k row stage old is = (ap prepares is, refl)
 setup_not_taken fault.Memory w k row stage old is = tt
@@ -138,7 +138,7 @@ in_setup course p is shown = let at : CourseShows (come_to.Preparing p) shown.0 
 
 pub setup_taken : (result : Result Course RecordFault) (w : Window) (k : ℕ) (row : Record) (old new : List ℕ) (course : Course) (p : Preparation)
     → course ≡ come_to.Preparing p
-    → TakesRecord result w k row (taken false (Preparing (stage_of p)) row) old new → (phase : Phase) → CourseShows course phase → TakesRecord result w k row (taken false phase row) old new
+    → TakesRecord result w k row (taken false (Preparing (setting_up_of p)) row) old new → (phase : Phase) → CourseShows course phase → TakesRecord result w k row (taken false phase row) old new
 setup_taken result w k row old new course p is took phase shown =
     let at : CourseShows (come_to.Preparing p) phase = subst (λ (x : Course). CourseShows x phase) is shown in
     subst (λ (s : Phase). TakesRecord result w k row (taken false s row) old new) (sym at.0) took

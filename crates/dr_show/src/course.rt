@@ -2,7 +2,7 @@
 
 ghost use Rattle.std.specs.Prelude.{◌≡◌, ◌++◌, OnOk, false, if◌then◌else◌, length, string_bytes};
 ghost use Rattle.csv.specs.Records.{fields_of};
-ghost use Rattle.dr_drive.specs.Calls.Shows.{IsPreparation, core_of, stage_of};
+ghost use Rattle.dr_drive.specs.Calls.Shows.{IsPreparation, core_of, setting_up_of};
 ghost use Rattle.dr_drive.specs.Meaning.DriveText.{Phase, Preparing, taken};
 ghost use Rattle.dr_show.specs.Inside.Courses.{CourseShows, RunningObeys, RunningShows, TakesRecord, exchange_of, missing_of, recents_of};
 ghost use Rattle.dr_show.specs.Inside.Objects.{command_seen};
@@ -66,7 +66,7 @@ fn take_setup(
     page: &mut String,
 ) -> Result<Course, RecordFault>
     requires { IsPreparation at }
-    ensures { (window : Window) → TakesRecord result window k (fields_of row.now) (taken false (Preparing (stage_of at)) (fields_of row.now)) (string_bytes page.old) (string_bytes page.new) }
+    ensures { (window : Window) → TakesRecord result window k (fields_of row.now) (taken false (Preparing (setting_up_of at)) (fields_of row.now)) (string_bytes page.old) (string_bytes page.new) }
 {
     match prepare(alloc, at, row) {
         Ok(Prepared::Goes(next)) => {

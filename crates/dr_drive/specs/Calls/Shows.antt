@@ -22,7 +22,7 @@ use Rattle.dr_drive.specs.declared.fault.Cause.{Cause}
 use Rattle.dr_drive.specs.declared.fault.RecordFault.{RecordFault}
 use Rattle.dr_drive.specs.declared.fault.RecordFault.TheVariants as fault
 use Rattle.dr_records.specs.Records.{Field}
-use Rattle.dr_drive.specs.Meaning.Setup.{Declared, Stage, Empty, Ringed, Declaring, Prepared, Goes, Opens}
+use Rattle.dr_drive.specs.Meaning.Setup.{Declared, SettingUp, Empty, Ringed, Declaring, Prepared, Goes, Opens}
 use Rattle.dr_drive.specs.Meaning.DriveText.{Running, Taken}
 
 -- a ring with the handlers of a graph
@@ -47,10 +47,10 @@ abbrev pub declared_of : Kept → Declared
 declared_of d = record { declaration = d.builder; group = d.group }
 
 -- the stage of the setup that a preparation is at
-abbrev pub stage_of : Preparation → Stage
-stage_of at.Empty = Empty
-stage_of (at.Ringed ring) = Ringed ring
-stage_of (at.Declaring ring d) = Declaring ring (declared_of d)
+abbrev pub setting_up_of : Preparation → SettingUp
+setting_up_of at.Empty = Empty
+setting_up_of (at.Ringed ring) = Ringed ring
+setting_up_of (at.Declaring ring d) = Declaring ring (declared_of d)
 
 abbrev pub IsPreparation : Preparation → Type 0
 IsPreparation at.Empty = Unit {0}
@@ -87,7 +87,7 @@ pub record IsOpenedAs (e : Exchange) (t : Result Prepared Cause) : Type 0 where
   pub shows : ExchangeShows e names setup (opening setup)
 
 abbrev pub StepAs : Step → Result Prepared Cause → Type 0
-StepAs (does.Goes p) t = (t ≡ Ok (Goes (stage_of p))) × IsPreparation p
+StepAs (does.Goes p) t = (t ≡ Ok (Goes (setting_up_of p))) × IsPreparation p
 StepAs (does.Opens e) t = IsOpenedAs e t
 
 -- a record does to a preparation what it does to its stage

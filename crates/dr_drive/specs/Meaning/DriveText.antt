@@ -11,11 +11,11 @@ use Rattle.dr_drive.specs.Meaning.Lines.{line_of}
 use Rattle.dr_drive.specs.Meaning.StateLine.{state_line}
 use Rattle.dr_files.specs.Lines.{Line}
 use Rattle.dr_files.specs.Outcome.{Fault, Said}
-use Rattle.dr_drive.specs.Meaning.Setup.{Stage, Empty, Prepared, Goes, Opens, missing, prepared}
+use Rattle.dr_drive.specs.Meaning.Setup.{SettingUp, Empty, Prepared, Goes, Opens, missing, prepared}
 
 -- how far a file has come: in its setup, or at a state of the machine, whose handlers have these names
 pub data Phase : Type 0 where
-  Preparing : Stage → Phase
+  Preparing : SettingUp → Phase
   Running : List Field → Setup → State Event → Phase
 
 -- what a record did: the phase after it, and its line, if it has one

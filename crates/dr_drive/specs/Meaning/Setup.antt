@@ -22,14 +22,14 @@ pub record Declared : Type 0 where
   pub group : Option (List Name)
 
 -- how far a setup has come
-pub data Stage : Type 0 where
-  Empty : Stage  -- no record yet
-  Ringed : Ring → Stage  -- after `ring`: `limit` may follow
-  Declaring : Ring → Declared → Stage  -- after `limit` or a handler
+pub data SettingUp : Type 0 where
+  Empty : SettingUp  -- no record yet
+  Ringed : Ring → SettingUp  -- after `ring`: `limit` may follow
+  Declaring : Ring → Declared → SettingUp  -- after `limit` or a handler
 
 -- what a record of the setup does: the setup goes on, or an exchange opens over handlers of these names, in their built order
 pub data Prepared : Type 0 where
-  Goes : Stage → Prepared
+  Goes : SettingUp → Prepared
   Opens : List Name → Setup → Prepared
 
 -- a power of two, from 1 to 65,536
@@ -128,7 +128,7 @@ started ring d =
     if length d.declaration.names == 0 then Err (Graph NoHandlers) else opened ring (graph_of d.declaration)
 
 -- a setup goes on, where a record is not at fault
-abbrev pub goes_with : {A : Type 0} → (A → Stage) → Result A Cause → Result Prepared Cause
+abbrev pub goes_with : {A : Type 0} → (A → SettingUp) → Result A Cause → Result Prepared Cause
 goes_with stage (Ok next) = Ok (Goes (stage next))
 goes_with stage (Err cause) = Err cause
 
@@ -138,7 +138,7 @@ goes_on_by ring d r =
     if is_record (codes "start") 1 r then started ring d else goes_with (λ next. Declaring ring next) (declared_by d r)
 
 -- what a record does at a stage of the setup, or why it is at fault
-abbrev pub prepared : Stage → Record → Result Prepared Cause
+abbrev pub prepared : SettingUp → Record → Result Prepared Cause
 prepared Empty r = goes_with (λ ring. Ringed ring) (ring_of r)
 prepared (Ringed ring) r =
     if begins_with (codes "limit") r then goes_with (λ limited. Declaring limited no_handlers) (limit_of ring r)
@@ -146,7 +146,7 @@ prepared (Ringed ring) r =
 prepared (Declaring ring d) r = goes_on_by ring d r
 
 -- what a file lacks that ends at a stage of the setup
-abbrev pub missing : Stage → Cause
+abbrev pub missing : SettingUp → Cause
 missing Empty = NoRing
 missing (Ringed ring) = NoStart
 missing (Declaring ring d) = NoStart

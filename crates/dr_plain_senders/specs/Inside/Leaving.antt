@@ -5,8 +5,8 @@ use Rattle.atomic_table.specs.Seated.{TableId}
 use Rattle.dr_plain_senders.specs.Meaning.Shape.{Shape, handlers_of}
 use Rattle.dr_plain_senders.specs.Calls.Plans.{IsPlan}
 use Rattle.dr_plain_senders.specs.Calls.Ends.{SenderEnd, ReceiverEnd, HalterStand, sender_place, receiver_place}
-use Rattle.dr_plain_senders.specs.declared.gathered.Gathered.{Gathered}
-use Rattle.dr_plain_senders.specs.Inside.Gathered.{HasPlaces}
+use Rattle.dr_plain_senders.specs.declared.brought_together.BroughtTogether.{BroughtTogether}
+use Rattle.dr_plain_senders.specs.Inside.BroughtTogether.{HasPlaces}
 use Rattle.dr_plain_senders.specs.Inside.Seats.{End, IsAtTable, IsHalter}
 
 module _ {T : Type 0} where
@@ -21,7 +21,7 @@ module _ {T : Type 0} where
   BelongsHalter ring k e = IsAtTable e.ring ring k × (e.plan ≡ k)
 
   -- a halter's seat stands for it alone, and it has the strip's memory, and places for what the ends bring
-  pub record HalterKeeps (k : Shape T) (me : End T) (start : Ptr) (len : ℕ) (gathered : Gathered T) : Type 0 where
+  pub record HalterKeeps (k : Shape T) (me : End T) (start : Ptr) (len : ℕ) (gathered : BroughtTogether T) : Type 0 where
     pub made : IsPlan k
     pub end : IsHalter me
     pub strip : k.strip ≡ start

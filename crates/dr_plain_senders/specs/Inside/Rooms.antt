@@ -7,7 +7,7 @@ use Rattle.dr_plain_senders.specs.Inside.Owned.{Owned}
 use Rattle.dr_plain_senders.specs.declared.rooms.Rooms.{Rooms}
 use Rattle.dr_plain_senders.specs.Meaning.Shape.{Shape, handlers_of}
 use Rattle.dr_plain_senders.specs.Meaning.Words.{words_of}
-use Rattle.dr_plain_senders.specs.Inside.Gathered.{HasPlaces}
+use Rattle.dr_plain_senders.specs.Inside.BroughtTogether.{HasPlaces}
 
 -- the marks of a sender that has claimed nothing
 abbrev pub unmarked : ℕ → Owned

@@ -7,8 +7,8 @@ use Rattle.dr_runs.specs.Looks.{looks_counted}
 use Rattle.dr_plain_senders.specs.Meaning.Shape.{Shape, handlers_of}
 use Rattle.dr_plain_senders.specs.Calls.Plans.{IsPlan}
 use Rattle.dr_plain_senders.specs.Calls.Ends.{SenderStand, ReceiverStand, HalterStand}
-use Rattle.dr_plain_senders.specs.declared.gathered.Gathered.{Gathered}
-use Rattle.dr_plain_senders.specs.Inside.Gathered.{HasPlaces}
+use Rattle.dr_plain_senders.specs.declared.brought_together.BroughtTogether.{BroughtTogether}
+use Rattle.dr_plain_senders.specs.Inside.BroughtTogether.{HasPlaces}
 use Rattle.dr_plain_senders.specs.Inside.Seats.{End, Sitting, IsAtTable, stored_of, sender_of, receiver_of, halter_of, IsSender, IsReceiver, IsHalter}
 
 -- the table's rule is the ring's, for its plan
@@ -45,7 +45,7 @@ module _ {T : Type 0} where
     pub looks : looked ≡ looks_counted (receiver_of me.0).looks
 
   -- the halter has the strip's memory too, and places for what the ends bring once they come together
-  pub record HalterSits (at seat : TableId) (key k : Shape T) (me : End T) (start : Ptr) (len : ℕ) (gathered : Gathered T) : Type 0 where
+  pub record HalterSits (at seat : TableId) (key k : Shape T) (me : End T) (start : Ptr) (len : ℕ) (gathered : BroughtTogether T) : Type 0 where
     pub table : IsAtTable seat at k
     pub keyed : IsKeyed key k
     pub end : IsHalter me

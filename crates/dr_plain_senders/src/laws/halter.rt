@@ -18,7 +18,7 @@ use super::RingSeat;
 use super::plays::{Halt, LookAround};
 use crate::answers::claimed_in;
 use crate::body::RingBody;
-use crate::gathered::Gathered;
+use crate::brought_together::BroughtTogether;
 use crate::left::HalterLeft;
 use crate::plan::{CLAIM_WORD, HALT_BIT, count_word};
 use dr_cells::Strip;
@@ -34,7 +34,7 @@ pub struct Halter<T> {
     pub(crate) seat: RingSeat<T>,
     // The memory of the events, which comes back once all ends come together.
     pub(crate) strip: Strip<T>,
-    pub(crate) gathered: Gathered<T>,
+    pub(crate) gathered: BroughtTogether<T>,
 }
 
 impl<T> Model for Halter<T> {
@@ -64,7 +64,7 @@ impl<T> Halter<T> {
         ring: Arc<RingBody<T>, Global>,
         seat: RingSeat<T>,
         strip: Strip<T>,
-        gathered: Gathered<T>,
+        gathered: BroughtTogether<T>,
     ) -> Halter<T>
         requires { HalterSits (arc_value ring).table.shared.table_id seat.table_id (arc_value ring).table.shared.key (arc_value ring).plan (end_of seat.me) strip.cells.ptr strip.len gathered }
         ensures { result ≡ halter_stand seat.table_id (arc_value ring).plan seat.me }

@@ -6,7 +6,7 @@ use Rattle.dr_records.specs.Records.{Field, Record}
 use Rattle.dr_drive.specs.declared.fault.Cause.{Cause}
 use Rattle.dr_drive.specs.declared.fault.RecordFault.{RecordFault}
 use Rattle.dr_drive.specs.declared.fault.RecordFault.TheVariants as fault
-use Rattle.dr_drive.specs.Calls.Shows.{ExchangeShows, IsPreparation, stage_of}
+use Rattle.dr_drive.specs.Calls.Shows.{ExchangeShows, IsPreparation, setting_up_of}
 use Rattle.dr_drive.specs.declared.exchange.Exchange.{Exchange}
 use Rattle.dr_drive.specs.Meaning.Setup.{missing}
 use Rattle.dr_drive.specs.Meaning.DriveText.{Phase, Preparing, Running, Taken, taken}
@@ -40,11 +40,11 @@ RunningShows r (Preparing stage) = ⊥
 RunningShows r (Running names c m) = Keeps r names c m
 
 abbrev pub CourseShows : Course → Phase → Type 0
-CourseShows (at.Preparing p) phase = (phase ≡ Preparing (stage_of p)) × IsPreparation p
+CourseShows (at.Preparing p) phase = (phase ≡ Preparing (setting_up_of p)) × IsPreparation p
 CourseShows (at.Running r) phase = RunningShows r phase
 
 -- a record was run: its line, and the phase that is shown now
-pub record Ran (r : Kept) (line : List ℕ) (t : Result Taken Cause) : Type 0 where
+pub record RunsRecord (r : Kept) (line : List ℕ) (t : Result Taken Cause) : Type 0 where
   pub names : List Field
   pub setup : Setup
   pub state : State Event
@@ -57,7 +57,7 @@ FailsAs (fault.Cause cause) t = t ≡ Err cause
 FailsAs fault.Memory t = Unit {0}
 
 abbrev pub RunningObeys : {A : Type 0} → Result A RecordFault → Kept → List ℕ → Phase → Record → Type 0
-RunningObeys (Ok done) r line phase row = Ran r line (taken false phase row)
+RunningObeys (Ok done) r line phase row = RunsRecord r line (taken false phase row)
 RunningObeys (Err f) r line phase row = FailsAs f (taken false phase row)
 
 -- a record, the k-th, was taken, and its object was put where it is shown; one at fault put nothing

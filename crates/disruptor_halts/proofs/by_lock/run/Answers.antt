@@ -1,5 +1,5 @@
 use denote.Param.Send.{IsSync, sendable}
-use Rattle.dr_lock.proofs.Sent.{of_param}
+use Rattle.dr_lock.proofs.SharedCrossing.{of_param}
 use Rattle.disruptor_halts.proofs.Crossing.{seat_send}
 use Rattle.disruptor_halts.proofs.by_lock.run.Goals as goal
 

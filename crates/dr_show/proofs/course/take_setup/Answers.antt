@@ -1,7 +1,7 @@
 use Rattle.std.proofs.Common.{None, string_bytes, ap, ◌∙◌}
 use Rattle.csv.specs.Records.{fields_of}
 use Rattle.dr_meaning.specs.Meaning.Machine.{Setup, opening}
-use Rattle.dr_drive.specs.Calls.Shows.{stage_of}
+use Rattle.dr_drive.specs.Calls.Shows.{setting_up_of}
 use Rattle.dr_drive.specs.Meaning.DriveText.{Running, prepares}
 use Rattle.dr_show.specs.Inside.Sequences.{slots_of}
 use Rattle.dr_show.proofs.Courses.{none_claimed, setup_not_taken, start_put}
@@ -21,4 +21,4 @@ returns-in_ok-put_start-in-Ok-Opens c = λ window.
     }
 
 pub returns-in-Err : goal.returns-in-Err
-returns-in-Err c = λ window. setup_not_taken c.in-Err.fault window c.args.k (fields_of c.args.row.now) (stage_of c.args.at) (string_bytes c.args.page.now) c.in-Err.ensures
+returns-in-Err c = λ window. setup_not_taken c.in-Err.fault window c.args.k (fields_of c.args.row.now) (setting_up_of c.args.at) (string_bytes c.args.page.now) c.in-Err.ensures

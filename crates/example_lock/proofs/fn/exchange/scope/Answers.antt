@@ -1,6 +1,6 @@
 use denote.Param.Send.{IsSync, sendable}
 use Rattle.std.proofs.Crossing as std
-use Rattle.dr_lock.proofs.Sent.{end_send, event_send, of_param, shared_sync}
+use Rattle.dr_lock.proofs.SharedCrossing.{end_send, event_send, of_param, shared_sync}
 use Rattle.example_lock.proofs.fn.exchange.scope.Goals as goal
 
 -- a worker's closure may go to another thread: it has a reference to the shared history, and an end

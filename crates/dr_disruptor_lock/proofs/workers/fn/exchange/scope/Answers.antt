@@ -1,6 +1,6 @@
 use Rattle.std.proofs.Common.{rules, ◌≡◌, ◌∙◌, ◌++◌, ◌∷◌, [], length, map, ap, arith}
 use denote.Param.Send.{IsSync}
-use Rattle.dr_lock.proofs.Sent.{of_param}
+use Rattle.dr_lock.proofs.SharedCrossing.{of_param}
 use Rattle.dr_disruptor_lock.specs.Serving.{given_job}
 use Rattle.dr_disruptor_lock.proofs.Crossing.{crosses, gives}
 use Rattle.dr_disruptor_lock.proofs.Kept.{are_joined}

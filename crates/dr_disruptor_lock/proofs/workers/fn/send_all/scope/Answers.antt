@@ -1,7 +1,7 @@
 use Rattle.std.proofs.Common.{rules, ◌≡◌, ◌∙◌, All, length, map, ap, subst, sym, arith}
 use Rattle.std.proofs.lemmas.List.Elements.{All-push}
 use denote.Param.Send.{IsSync}
-use Rattle.dr_lock.proofs.Sent.{of_param}
+use Rattle.dr_lock.proofs.SharedCrossing.{of_param}
 use Rattle.dr_runs.proofs.Elements.{at_below, value_at}
 use Rattle.dr_disruptor_lock.specs.Serving.{Producer, given_size, given_task}
 use Rattle.dr_disruptor_lock.proofs.Crossing.{crosses, gives}

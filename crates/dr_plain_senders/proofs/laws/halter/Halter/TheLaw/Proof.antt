@@ -19,7 +19,7 @@ use Rattle.dr_plain_senders.specs.contracts.record.Step as step
 use Rattle.dr_plain_senders.proofs.record.Step.TheLaws as step_laws
 use Rattle.dr_plain_senders.specs.contracts.body.RingBody as body
 use Rattle.dr_plain_senders.proofs.body.RingBody.TheLaws as body_laws
-use Rattle.dr_plain_senders.proofs.gathered.Gathered.TheLaws as gathered_laws
+use Rattle.dr_plain_senders.proofs.brought_together.BroughtTogether.TheLaws as gathered_laws
 use Rattle.dr_plain_senders.specs.contracts.laws.halter.Halter.TheInside as C
 use Rattle.dr_plain_senders.proofs.laws.halter.Halter.TheLaw.Statement.{statement}
 

@@ -44,8 +44,8 @@ use Rattle.dr_plain_senders.specs.contracts.record.Step as step
 use Rattle.dr_plain_senders.proofs.record.Step.TheLaws as step_laws
 use Rattle.dr_plain_senders.specs.contracts.body.RingBody as body
 use Rattle.dr_plain_senders.proofs.body.RingBody.TheLaws as body_laws
-use Rattle.dr_plain_senders.specs.contracts.gathered.Gathered as gathered
-use Rattle.dr_plain_senders.proofs.gathered.Gathered.TheLaws as gathered_laws
+use Rattle.dr_plain_senders.specs.contracts.brought_together.BroughtTogether as gathered
+use Rattle.dr_plain_senders.proofs.brought_together.BroughtTogether.TheLaws as gathered_laws
 use Rattle.dr_plain_senders.specs.Inside.Stations.{halter_stand, HalterSits}
 use Rattle.dr_plain_senders.specs.contracts.laws.halter.Halter as halter
 use Rattle.dr_plain_senders.specs.contracts.laws.halter.Halter.TheInside as inside

@@ -1,5 +1,5 @@
 use denote.Param.Send.{IsSync}
-use Rattle.dr_lock.proofs.Sent.{of_param}
+use Rattle.dr_lock.proofs.SharedCrossing.{of_param}
 use Rattle.dr_replay.proofs.Crossing.{crosses, gives}
 use Rattle.dr_replay.proofs.lock_workers.fn.exchange.scope.Goals as goal
 

@@ -1,7 +1,7 @@
 use Rattle.std.proofs.Common.{◌≡◌, ◌∙◌, ◌<◌, ℕ, Vec, Global, get_or, length, ap, arith, subst, sym}
 use Rattle.dr_seq.specs.declared.event.Event.{Event}
 use denote.Param.Send.{IsSync}
-use Rattle.dr_lock.proofs.Sent.{of_param}
+use Rattle.dr_lock.proofs.SharedCrossing.{of_param}
 use Rattle.std.specs.declared.thread.PromisedHandle.{PromisedHandle}
 use Rattle.dr_replay.specs.declared.given_back.Delivered.{Delivered}
 use Rattle.dr_replay.specs.declared.given_back.SentBy.{SentBy}

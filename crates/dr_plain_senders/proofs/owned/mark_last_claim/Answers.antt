@@ -2,7 +2,7 @@ use Rattle.std.proofs.Common.{◌-◌, ◌∙◌, arith}
 use Rattle.dr_seq.proofs.Sizes.{size_positive}
 use Rattle.dr_plain_senders.specs.Inside.Owned.{wiped}
 use Rattle.dr_plain_senders.proofs.Marking.{plain_is, as_many}
-use Rattle.dr_plain_senders.proofs.owned.settle.Goals as goal
+use Rattle.dr_plain_senders.proofs.owned.mark_last_claim.Goals as goal
 
 pub hide-requires-clause-order : goal.hide-requires-clause-order
 hide-requires-clause-order c = let order = c.requires.order in let a = order.0 in let b = order.1 in (omega arith, order.2)
