@@ -36,7 +36,7 @@ EACH = (
     "tests/ledger/memory.py disruptor",
     "tests/durable.py example_durable",
 )
-QUIET = ("tests/progress.py disruptor", "tests/waits.py disruptor_waits disruptor")
+QUIET = ("tests/progress.py disruptor", "tests/opening.py disruptor", "tests/waits.py disruptor_waits disruptor")
 # What LLVM's build alone is tried with, and the tests of scripts, which need none.
 ONCE = (
     "tests/library.py disruptor",

@@ -20,16 +20,13 @@ pub(crate) const BEFORE: &str = "\
       --claimed: #8a6a14; --written: #a85f16; --published: #6aa5f2; --on-published: #0d131a; --mark: #f6c65b;
     }
   }
-  * { box-sizing: border-box; }
-  [hidden] { display: none !important; }
+  * { box-sizing: border-box; } [hidden] { display: none !important; }
   body { margin: 0; font: 14px/1.45 system-ui, sans-serif; color: var(--ink); background: var(--ground); }
   header { position: sticky; top: 0; z-index: 1; padding: 8px 14px; background: var(--paper); border-bottom: 1px solid var(--line); }
   header, .row { display: flex; gap: 8px 12px; align-items: center; flex-wrap: wrap; }
-  h1 { font-size: 16px; margin: 0; }
-  h2 { font-size: 14px; margin: 0 0 4px; }
+  h1 { font-size: 16px; margin: 0; } h2 { font-size: 14px; margin: 0 0 4px; }
   button { font: inherit; padding: 3px 10px; border: 1px solid var(--line); border-radius: 5px; background: var(--ground); color: inherit; }
-  button:disabled { opacity: .45; }
-  :focus-visible { outline: 3px solid var(--published); outline-offset: 1px; }
+  button:disabled { opacity: .45; } :focus-visible { outline: 3px solid var(--published); outline-offset: 1px; }
   #at { flex: 1 1 140px; min-width: 100px; }
   #body { display: grid; grid-template-columns: minmax(300px, 34%) 1fr; align-items: start; }
   #file {
@@ -41,8 +38,7 @@ pub(crate) const BEFORE: &str = "\
     display: grid; grid-template-columns: 3.4em minmax(0, 5fr) minmax(0, 4fr); gap: 8px; width: 100%; padding: 1px 10px 1px 2px; text-align: left;
     border: 0; border-left: 5px solid transparent; border-radius: 0; background: none; font: 13px/1.5 ui-monospace, monospace;
   }
-  #lines li { content-visibility: auto; contain-intrinsic-size: auto 22px; }
-  #lines span { overflow-wrap: anywhere; }
+  #lines li { content-visibility: auto; contain-intrinsic-size: auto 22px; } #lines span { overflow-wrap: anywhere; }
   #lines span:first-child { color: var(--soft); text-align: right; }
   #lines [aria-current] { background: var(--now); border-left-color: var(--mark); font-weight: 600; }
   .bad { color: var(--bad); }
@@ -52,26 +48,18 @@ pub(crate) const BEFORE: &str = "\
   #said p { margin: 2px 0 0; overflow-wrap: anywhere; }
   code { font: 13px/1 ui-monospace, monospace; padding: 0 3px; border: 1px solid var(--line); border-radius: 4px; }
   .name code { padding: 0; border: 0; }
-  #graph { overflow-x: auto; }
-  #both { display: grid; grid-template-columns: repeat(auto-fit, minmax(min(100%, 330px), 1fr)); gap: 12px; align-items: start; }
+  #graph { overflow-x: auto; } #both { display: grid; grid-template-columns: repeat(auto-fit, minmax(min(100%, 330px), 1fr)); gap: 12px; align-items: start; }
   #both > div { display: grid; gap: 12px; min-width: 0; }
-  svg { display: block; width: 100%; height: auto; }
-  svg text { fill: var(--ink); }
+  svg { display: block; width: 100%; height: auto; } svg text { fill: var(--ink); }
   .along { font-family: ui-monospace, monospace; font-weight: 600; }
   .along text:first-of-type { stroke: var(--paper); stroke-width: 5; stroke-linejoin: round; }
   table { border-collapse: collapse; width: 100%; }
   th, td { padding: 3px 6px 3px 0; text-align: left; vertical-align: top; border-top: 1px solid var(--line); }
-  tr > :last-child { padding-right: 0; }
-  tr:first-child > * { border-top: 0; }
-  th { font-weight: 500; color: var(--soft); }
-  td.n, th.n { text-align: right; }
+  tr > :last-child { padding-right: 0; } tr:first-child > * { border-top: 0; } th { font-weight: 500; color: var(--soft); } td.n, th.n { text-align: right; }
   .name { overflow-wrap: anywhere; min-width: 5.5em; width: 6.4em; }
-  .asked { width: 8.6em; padding-left: 8px; }
-  #handlers p, #claims p { margin: 4px 0 0; }
-  #part { margin: 8px 10px; }
+  .asked { width: 8.6em; padding-left: 8px; } #handlers p, #claims p { margin: 4px 0 0; } #part { margin: 8px 10px; }
   #key svg { display: inline-block; width: 18px; height: 14px; vertical-align: -2px; margin-right: 5px; }
-  footer, .soft { color: var(--soft); }
-  footer, #handlers table { font-size: 13px; }
+  footer, .soft { color: var(--soft); } footer, #handlers table { font-size: 13px; }
   @media (max-width: 760px) {
     #body { display: block; }
     #file { position: static; max-height: none; border-right: 0; border-bottom: 1px solid var(--line); }
@@ -353,9 +341,8 @@ function drawRing(r) {
   middle.forEach((it, k) => { out += `<text x=\"${C}\" y=\"${C + (18 * k - 23) * px}\" text-anchor=\"middle\" font-size=\"${13 * px}\">${it}</text>`; });
   return `<svg viewBox=\"0 0 ${2 * C} ${2 * C}\" role=\"img\" aria-label=\"${esc(`${tellRing(r)} ${tellTracks(r)}`)}\">${out}</svg>`;
 }
-function tellTracks(r) {
-  return r.handlers.map((h, k) => (h.retired ? `Handler ${name(k)} is retired.` : `Handler ${name(k)} took the events below ${h.taken} and completed those below ${h.completed}.`)).join(\" \");
-}
+const tellTracks = (r) =>
+  r.handlers.map((h, k) => (h.retired ? `Handler ${name(k)} is retired.` : `Handler ${name(k)} took the events below ${h.taken} and completed those below ${h.completed}.`)).join(\" \");
 // The sequences that a record is about, from one to another.
 function touches(r) {
   const f = r.text.split(\",\"), reply = (r.reply ?? \"\").trim().split(\" \");
@@ -428,10 +415,23 @@ function keepHeights() {
   $(\"both\").hidden = false;
   for (const [id, all] of longest) {
     const card = $(id);
-    card.style.minHeight = \"\";
-    const heights = all.map((told) => { card.innerHTML = told; return card.getBoundingClientRect().height; });
-    card.style.minHeight = `${Math.min(Math.max(0, ...heights), innerHeight / (id === \"said\" ? 3 : 2))}px`;
+    // All in one cell, so that they are laid out once, and the tallest makes it.
+    card.style = \"display: grid\";
+    card.innerHTML = all.map((told) => `<div style=\"grid-area: 1/1; min-width: 0\">${told}</div>`).join(\"\");
+    card.style = `min-height: ${Math.min(card.getBoundingClientRect().height, innerHeight / (id === \"said\" ? 3 : 2))}px`;
   }
+}
+
+// The list's lines up to a record that are not there yet: a page opens with some, and has the others soon after.
+const MORE = 150;
+function addLines(upto) {
+  const from = $(\"lines\").children.length, added = records.slice(from, Math.max(from, upto));
+  $(\"lines\").insertAdjacentHTML(\"beforeend\", added.map((r, k) => `<li><button data-k=\"${from + k}\"><span>${r.record}</span><span>${esc(plain(r.text))}</span><span class=\"${
+    r.fault || r.reply?.startsWith(\"refused\") ? \"bad\" : \"\"}\">${esc(plain(r.fault ?? r.reply ?? \"\").slice(0, 200))}</span></button></li>`).join(\"\"));
+}
+function addRest() {
+  addLines($(\"lines\").children.length + MORE);
+  if ($(\"lines\").children.length < records.length) setTimeout(addRest);
 }
 
 // Scrolls the list to a record; lines get their heights as they are seen.
@@ -441,6 +441,7 @@ function reveal(line) {
 }
 function show(to, keeps) {
   step = Math.max(0, Math.min(to, records.length - 1));
+  addLines(step + MORE);
   const r = records[step], before = $(\"lines\").querySelector(\"[aria-current]\"), line = $(\"lines\").children[step]?.firstChild;
   before?.removeAttribute(\"aria-current\");
   line?.setAttribute(\"aria-current\", \"step\");
@@ -460,8 +461,6 @@ function show(to, keeps) {
 }
 function open() {
   if (end.fault && !records.some((r) => r.fault)) records.push({ record: end.last + 1, text: \"\", fault: end.fault });
-  $(\"lines\").innerHTML = records.map((r, k) => `<li><button data-k=\"${k}\"><span>${r.record}</span><span>${esc(plain(r.text))}</span><span class=\"${
-    r.fault || r.reply?.startsWith(\"refused\") ? \"bad\" : \"\"}\">${esc(plain(r.fault ?? r.reply ?? \"\").slice(0, 200))}</span></button></li>`).join(\"\");
   const shown = [];
   for (const { record } of records) {
     if (shown.at(-1)?.[1] === record - 1) shown.at(-1)[1] = record;
@@ -479,6 +478,7 @@ function open() {
   const find = (k) => { const i = records.findIndex((r) => r.record >= k); return i < 0 ? records.length - 1 : i; };
   keepHeights();
   show(Number.isNaN(asked()) ? (exchange ? records.findIndex((r) => r.exchange) : records.length - 1) : find(asked()));
+  setTimeout(addRest);
   window.onresize = () => { keepHeights(); show(step, true); };
   window.onhashchange = () => { if (!Number.isNaN(asked())) show(find(asked()), true); };
 }
