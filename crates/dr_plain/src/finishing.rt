@@ -85,7 +85,7 @@ fn gather<T: Drop>(
 
 /// The seat that stands for all ends takes what lies in the slots, and ends the ring: each cell is
 /// whole again.
-pub(crate) fn take_back<T>(
+pub(crate) fn reclaim_all<T>(
     words: &Words<T>,
     plan: &Plan<T>,
     mut seat: RingSeat<T>,
@@ -127,7 +127,7 @@ fn bring_together<T: Drop>(
     let (mut seat, mut counts, mut hands) = (sends.seat, sends.counts, sends.hands);
     settling::take_in(&ring.table.shared, &mut seat, halts.seat);
     gather(&ring, &mut seat, receivers, &mut counts, &mut hands);
-    let row = take_back(
+    let row = reclaim_all(
         &ring.table.shared,
         &ring.plan,
         seat,

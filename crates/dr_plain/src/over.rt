@@ -10,7 +10,7 @@ ghost use Rattle.dr_plain.specs.Inside.Gathering.{AreOfRing, receiver_known};
 ghost use Rattle.dr_plain.specs.Inside.Finishing.{AreHandsOf};
 ghost use Rattle.dr_plain.specs.Inside.Leaving.{BelongsSender};
 
-use crate::finishing::{receive, take_back};
+use crate::finishing::{receive, reclaim_all};
 use crate::laws::{RingSeat, Words, settling};
 use crate::left::{HalterLeft, ReceiverLeft, SenderLeft};
 use crate::plan::Plan;
@@ -67,7 +67,7 @@ pub(crate) fn end<T>(
     } = sender;
     settling::take_in(words, &mut seat, halter.seat);
     gather_left(words, &mut seat, receivers, &mut counts, &mut hands);
-    let row = take_back(
+    let row = reclaim_all(
         words,
         plan,
         seat,

@@ -54,11 +54,11 @@ gather-requires-clause-rooms g c =
     let all = ap (λ (s : SenderEnd g.row.T.Denot). handlers_of s.knows.plan) (c.sends.view_is ∙ c.into_left-ring.ensures.left) in
     c.sends.invariant.1.places.1 ∙ all ∙ sym c.requires.ends.all
 
-pub take_back-row-requires-clause-together : goal.take_back-row-requires-clause-together
-take_back-row-requires-clause-together g c =
+pub reclaim_all-row-requires-clause-together : goal.reclaim_all-row-requires-clause-together
+reclaim_all-row-requires-clause-together g c =
     let s = c.args.sender in let es = c.args.receivers.items in let t = c.args.halter in let me = c.sends.inside.seat in
     let items : Vec (Token g.row.T.Denot) Global → List (Token g.row.T.Denot) = λ hand. hand.items in
-    let A = come g (goal.at.take_back-row-requires-clause-together g c).After-gather in (
+    let A = come g (goal.at.reclaim_all-row-requires-clause-together g c).After-gather in (
       s,
       es,
       t,
@@ -70,27 +70,27 @@ take_back-row-requires-clause-together g c =
 
 pub close-requires : goal.close-requires
 close-requires g c =
-    let all = c.take_back-row.ensures.all in let F = c.sends.invariant.1 in (all.0, all.1, all.2 ∙ F.tokens.count ∙ sym F.cells)
+    let all = c.reclaim_all-row.ensures.all in let F = c.sends.invariant.1 in (all.0, all.1, all.2 ∙ F.tokens.count ∙ sym F.cells)
 
 pub returns-clause-lists : goal.returns-clause-lists
 returns-clause-lists g c =
     let s = c.args.sender in let es = c.args.receivers.items in let t = c.args.halter in
     let H = has_all _ _ _ s es t (come g (goal.at.returns-clause-lists g c).After-gather) in
-    all_settle _ _ _ s es (together_of _ _ s es t H c.take_back-row.ensures.ran)
+    all_settle _ _ _ s es (together_of _ _ s es t H c.reclaim_all-row.ensures.ran)
 
 pub returns-clause-unhalted : goal.returns-clause-unhalted
 returns-clause-unhalted g c =
     let s = c.args.sender in let es = c.args.receivers.items in let t = c.args.halter in
     let H = has_all _ _ _ s es t (come g (goal.at.returns-clause-unhalted g c).After-gather) in
-    all_unhalted _ _ _ s es t H.halter (together_of _ _ s es t H c.take_back-row.ensures.ran)
+    all_unhalted _ _ _ s es t H.halter (together_of _ _ s es t H c.reclaim_all-row.ensures.ran)
 
 pub returns-clause-run : goal.returns-clause-run
 returns-clause-run g c =
     let s = c.args.sender in let es = c.args.receivers.items in let t = c.args.halter in
     let H = has_all _ _ _ s es t (come g (goal.at.returns-clause-run g c).After-gather) in
-    has_run _ _ _ s es t H.halter (together_of _ _ s es t H c.take_back-row.ensures.ran) c.moments.ensures.leads c.moments.ensures.laws
+    has_run _ _ _ s es t H.halter (together_of _ _ s es t H c.reclaim_all-row.ensures.ran) c.moments.ensures.leads c.moments.ensures.laws
 
 pub returns-clause-events : goal.returns-clause-events
 returns-clause-events g c =
-    ap (map (λ (event : g.row.T.Denot). Some event)) c.close.ensures ∙ c.take_back-row.ensures.events
+    ap (map (λ (event : g.row.T.Denot). Some event)) c.close.ensures ∙ c.reclaim_all-row.ensures.events
     ∙ ap (λ (e : SenderEnd g.row.T.Denot). e.cells) (c.sends.view_is ∙ c.into_left-ring.ensures.left)

@@ -49,20 +49,20 @@ pub gather_left-requires-clause-rooms : goal.gather_left-requires-clause-rooms
 gather_left-requires-clause-rooms g c =
     c.sender.invariant.1.places.1 ∙ ap (λ (s : SenderEnd g.row.T.Denot). handlers_of s.knows.plan) c.sender.view_is ∙ sym c.requires.receivers.all
 
-pub take_back-row-requires-clause-table : goal.take_back-row-requires-clause-table
-take_back-row-requires-clause-table g c =
+pub reclaim_all-row-requires-clause-table : goal.reclaim_all-row-requires-clause-table
+reclaim_all-row-requires-clause-table g c =
     let B = c.requires.sender in let words = B.0.1 in
     (c.gather_left.ensures.seat.0 ∙ c.take_in.ensures.seat.0 ∙ ap (λ (e : SenderEnd g.row.T.Denot). e.ring) c.sender.view_is ∙ B.0.0, omega arith)
 
-pub take_back-row-requires-clause-cells : goal.take_back-row-requires-clause-cells
-take_back-row-requires-clause-cells g c =
+pub reclaim_all-row-requires-clause-cells : goal.reclaim_all-row-requires-clause-cells
+reclaim_all-row-requires-clause-cells g c =
     c.sender.invariant.1.strip ∙ ap (λ (s : SenderEnd g.row.T.Denot). s.knows.plan.strip) c.sender.view_is ∙ ap (λ (k : Shape). k.strip) c.requires.sender.1
 
-pub take_back-row-requires-clause-together : goal.take_back-row-requires-clause-together
-take_back-row-requires-clause-together g c =
+pub reclaim_all-row-requires-clause-together : goal.reclaim_all-row-requires-clause-together
+reclaim_all-row-requires-clause-together g c =
     let s = c.args.sender in let es = c.args.receivers in let t = c.args.halter in let me = c.sender.inside.seat in
     let items : Vec (Token g.row.T.Denot) Global → List (Token g.row.T.Denot) = λ hand. hand.items in
-    let A = come g (goal.at.take_back-row-requires-clause-together g c).After-gather_left in (
+    let A = come g (goal.at.reclaim_all-row-requires-clause-together g c).After-gather_left in (
       s,
       es,
       t,
@@ -74,9 +74,9 @@ take_back-row-requires-clause-together g c =
 
 pub close-requires : goal.close-requires
 close-requires g c =
-    let all = c.take_back-row.ensures.all in let F = c.sender.invariant.1 in (all.0, all.1, all.2 ∙ F.tokens.count ∙ sym F.cells)
+    let all = c.reclaim_all-row.ensures.all in let F = c.sender.invariant.1 in (all.0, all.1, all.2 ∙ F.tokens.count ∙ sym F.cells)
 
 pub returns : goal.returns
 returns g c =
-    ap (map (λ (event : g.row.T.Denot). Some event)) c.close.ensures ∙ c.take_back-row.ensures.events
+    ap (map (λ (event : g.row.T.Denot). Some event)) c.close.ensures ∙ c.reclaim_all-row.ensures.events
     ∙ ap (λ (e : SenderEnd g.row.T.Denot). e.cells) c.sender.view_is

@@ -1,4 +1,4 @@
-use Rattle.dr_plain.proofs.finishing.take_back.Given as goal
+use Rattle.dr_plain.proofs.finishing.reclaim_all.Given as goal
 
 abbrev pub ghosts-take_all : goal.ghosts-take_all
 ghosts-take_all g a = record { plan = a.words.now.key }

@@ -6,7 +6,7 @@ use Rattle.dr_cells.specs.Hold.{held}
 use Rattle.dr_lent.specs.Rows.{AreAllWhole}
 use Rattle.dr_plain.specs.Meaning.Shape.{Shape}
 use Rattle.dr_plain.proofs.Departed.{lanes_kept}
-use Rattle.dr_plain.proofs.finishing.take_back.Goals as goal
+use Rattle.dr_plain.proofs.finishing.reclaim_all.Goals as goal
 
 pub take_all-requires-clause-ends : goal.take_all-requires-clause-ends
 take_all-requires-clause-ends g c = let G = c.requires.together in (G.0, G.1, G.2, G.4)
