@@ -8,7 +8,7 @@ ghost use Rattle.dr_meaning.specs.Calls.Ends.{IsStretch};
 ghost use Rattle.dr_meaning.specs.Calls.Filling.{FillsFrom, FillsOne};
 ghost use Rattle.dr_meaning.specs.Calls.InPlaceInlets.{Changes, IsOpen, IsWhole, Opens, Publishes};
 ghost use Rattle.dr_disruptor.specs.Here.{AreShown, HadTurns, HereEnd, here_place, refuses_here, sending_here, stores_here};
-ghost use Rattle.dr_plain.specs.Calls.InPlace.{SawPublished, does_in_place};
+ghost use Rattle.dr_plain.specs.Calls.InPlace.{SawSome, does_in_place};
 ghost use Rattle.dr_disruptor.specs.Serving.{AreServed, IsIdle};
 
 use crate::served::{Served, serve};
@@ -35,22 +35,22 @@ impl<E, H: InPlaceHandler<E>> Model for Here<E, H> {
     ghost use Rattle.std.specs.Prelude.{◌<◌};
     ghost use Rattle.dr_plain.specs.Calls.Ends.{receiver_place, received_of};
     ghost use Rattle.dr_disruptor.specs.Here.{AreShown, HereEnd};
-    ghost use Rattle.dr_plain.specs.Calls.InPlace.{SawPublished, does_in_place};
+    ghost use Rattle.dr_plain.specs.Calls.InPlace.{SawSome, does_in_place};
 
     ghost Value = { HereEnd E H };
 
     ghost view = { λ here. record { sender = here.sender; ends = here.ends.value.items; starts = here.starts.value.items; receivers = here.receivers.items; handlers = here.handlers.items; batch = here.way.batch } };
 
-    ghost invariant = { λ here. (0 < here.way.batch) × AreShown receiver_place received_of (λ e n. SawPublished e.knows n) does_in_place H.goes here.way.batch here.ends.value.items here.starts.value.items here.receivers.items here.handlers.items };
+    ghost invariant = { λ here. (0 < here.way.batch) × AreShown receiver_place (λ e. received_of e.knows) SawSome does_in_place H.goes here.way.batch here.ends.value.items here.starts.value.items here.receivers.items here.handlers.items };
 }
 
 // Gives each handler a turn, in the graph's order, over all that is there for it, at most a batch.
 fn round<E, H: InPlaceHandler<E>>(receivers: &mut [Receiver<E>], handlers: &mut [H], batch: u64)
     requires many { length receivers.old ≡ length handlers.old }
-    requires idle { All (λ e. IsIdle (received_of e)) receivers.old }
+    requires idle { All (λ e. IsIdle (received_of e.knows)) receivers.old }
     requires batch { 0 < batch }
     ensures turns { HadTurns H.goes batch receivers.old handlers.old receivers.new handlers.new }
-    ensures shown { AreShown receiver_place received_of (λ e n. SawPublished e.knows n) does_in_place H.goes batch receivers.old handlers.old receivers.new handlers.new }
+    ensures shown { AreShown receiver_place (λ e. received_of e.knows) SawSome does_in_place H.goes batch receivers.old handlers.old receivers.new handlers.new }
 {
     for h in 0..receivers.len() {
         let receiver = &mut receivers[h];
@@ -96,7 +96,7 @@ impl<E, H: InPlaceHandler<E>> Here<E, H> {
         way: Way,
     ) -> Here<E, H>
         requires many { length receivers.items ≡ length handlers.items }
-        requires idle { All (λ e. IsIdle (received_of e)) receivers.items }
+        requires idle { All (λ e. IsIdle (received_of e.knows)) receivers.items }
         requires batch { 0 < way.batch }
         ensures { result ≡ record { sender = sender; ends = receivers.items; starts = handlers.items; receivers = receivers.items; handlers = handlers.items; batch = way.batch } }
     {
@@ -121,7 +121,7 @@ impl<E: Drop, H: InPlaceHandler<E> + Drop> Here<E, H> {
         alloc: Global,
     ) -> Result<(Sender<E>, Vec<Served<Receiver<E>, H>>), AllocError>
         ensures closes { IfOk result (λ r. (answer : _) × CloseCall self.sender r.0 answer) }
-        ensures served { IfOk result (λ r. AreServed receiver_place received_of (λ e. e.knows.told) (λ e n. SawPublished e.knows n) does_in_place H.goes self.batch self.ends self.starts r.1.items) }
+        ensures served { IfOk result (λ r. AreServed receiver_place (λ e. received_of e.knows) (λ e. e.knows.told) SawSome does_in_place H.goes self.batch self.ends self.starts r.1.items) }
     {
         let Here {
             mut sender,

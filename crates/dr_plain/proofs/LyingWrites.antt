@@ -9,7 +9,7 @@ use Rattle.dr_seq.specs.Rounds.{is_marked}
 use Rattle.dr_lent.specs.Rows.{cells_of}
 use Rattle.dr_lent.specs.declared.lent.Lent.{Lent}
 use Rattle.dr_runs.specs.declared.written.Written.{Written}
-use Rattle.dr_runs.specs.Noted.{is_noted}
+use Rattle.dr_runs.specs.OneSender.Noted.{is_noted}
 use Rattle.dr_plain.specs.Calls.Ends.{SenderStand, SenderEnd, sent_of}
 use Rattle.dr_plain.specs.Calls.Sending.{lying_from, with_lying, AreWrittenBelow}
 use Rattle.dr_plain.specs.Inside.Fits.{SenderFields, SenderFits}

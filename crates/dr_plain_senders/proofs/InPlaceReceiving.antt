@@ -17,7 +17,8 @@ use Rattle.dr_runs.proofs.Elements.{at_index}
 use Rattle.dr_runs.proofs.LastLooks.{found_counts}
 use Rattle.dr_lent.specs.declared.lent.Lent.{Lent}
 use Rattle.dr_plain_senders.specs.declared.record.MarkLook.{MarkLook}
-use Rattle.dr_plain_senders.specs.Meaning.Records.{events_of, mark_look}
+use Rattle.dr_plain_senders.specs.Meaning.Records.{mark_look}
+use Rattle.dr_lent.specs.Events.{events_of}
 use Rattle.dr_plain_senders.specs.declared.record.ReceiverRecord.{ReceiverRecord}
 use Rattle.dr_plain_senders.specs.Meaning.Rule.{KeepsRule, World}
 use Rattle.dr_plain_senders.specs.Meaning.Shape.{Shape, handlers_of}

@@ -20,7 +20,8 @@ use Rattle.dr_meaning.specs.declared.claim_fault.ClaimFault.{ClaimFault}
 use Rattle.dr_plain_senders.specs.declared.record.Own.{Own}
 use Rattle.dr_plain_senders.specs.declared.record.SenderRecord.{SenderRecord}
 use Rattle.dr_plain_senders.specs.declared.record.Stage.{Stage}
-use Rattle.dr_plain_senders.specs.Meaning.Records.{Owns, events_of, fresh_own, is_published, own_published}
+use Rattle.dr_plain_senders.specs.Meaning.Records.{Owns, fresh_own, is_published, own_published}
+use Rattle.dr_lent.specs.Events.{events_of}
 use Rattle.dr_plain_senders.specs.Meaning.Shape.{Shape}
 use Rattle.dr_plain_senders.specs.Calls.Ends.{EndPlace, SenderEnd, sender_place}
 use Rattle.dr_plain_senders.specs.Calls.Publishing.{Inside, IsReach, LendsWritten, Looked, Outside, PublishCall, PublishLooks, PublishSees, Reach, is_between, reach_unclaimed, stretch_tests, tests_of_publication}

@@ -14,7 +14,7 @@ use Rattle.dr_plain_senders.specs.declared.record.ReceiverRecord.{ReceiverRecord
 use Rattle.dr_plain_senders.specs.Meaning.Records.{is_published}
 use Rattle.dr_plain_senders.specs.Meaning.Rule.{World, IsOutWith, KeepsRule}
 use Rattle.dr_plain_senders.specs.Meaning.Settling.{HasBeginning, FollowsUpstream, IsSent, Settles}
-use Rattle.dr_plain_senders.proofs.Places.{word_at}
+use Rattle.dr_runs.proofs.Elements.{word_at}
 use Rattle.dr_plain_senders.proofs.Owners.{AllOwned}
 
 module _ {T : Type 0} where

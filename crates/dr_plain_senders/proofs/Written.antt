@@ -32,7 +32,7 @@ use Rattle.dr_plain_senders.specs.Inside.Owned.{Owned, is_open}
 use Rattle.dr_plain_senders.specs.Inside.Refusing.{RefusesBy}
 use Rattle.dr_plain_senders.specs.Inside.Views.{sender_end}
 use Rattle.dr_plain_senders.proofs.Marks.{said_out}
-use Rattle.dr_plain_senders.proofs.Stations.{begins_same}
+use Rattle.dr_runs.proofs.Beginnings.{begins_same}
 use Rattle.dr_plain_senders.proofs.Owning.{mark_was, mark_here, mark_beside, marked_apart}
 use Rattle.dr_plain_senders.proofs.Granting.{first_of, unready}
 

@@ -7,7 +7,7 @@ use Rattle.dr_meaning.specs.Calls.Calling.{CompletesUpTo, InPlaceCall, Polls}
 use Rattle.dr_meaning.specs.Calls.Ends.{Sent}
 use Rattle.dr_runs.specs.declared.look.Look.{Look}
 use Rattle.dr_runs.specs.LastLooks.{found_last}
-use Rattle.dr_runs.specs.Words.{count_word, cursor_word}
+use Rattle.dr_runs.specs.OneSender.Words.{count_word, cursor_word}
 use Rattle.dr_plain.specs.declared.record.ReceiverRecord.{ReceiverRecord}
 use Rattle.dr_plain.specs.Calls.Ends.{ReceiverEnd, SenderEnd, sent_of}
 use Rattle.dr_plain.specs.Calls.Receiving.{CompleteCall, PollCall}
@@ -51,3 +51,6 @@ pub record SawPublished {T : Type 0} (r : ReceiverRecord T) (n : ℕ) : Type 0 w
   pub there : get_elem? r.looks place ≡ some saw
   pub word : (saw.word ≡ cursor_word) ⊎ ((u : ℕ) × (saw.word ≡ count_word u))
   pub enough : n ≤ saw.value
+
+abbrev pub SawSome : {T : Type 0} → ReceiverEnd T → ℕ → Type 0
+SawSome e n = SawPublished e.knows n

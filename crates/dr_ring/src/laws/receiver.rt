@@ -3,7 +3,7 @@
 ghost use Rattle.std.specs.Prelude.{◌≡◌, ◌<◌, ◌≤◌, None, Some, length, Contains};
 ghost use Rattle.dr_graph.specs.Meaning.Graph.{upstreams_of};
 ghost use Rattle.dr_ring.specs.Meaning.Words.{payload_word};
-ghost use Rattle.dr_runs.specs.Words.{cursor_word, closed_word, count_word as count_word_of};
+ghost use Rattle.dr_runs.specs.OneSender.Words.{cursor_word, closed_word, count_word as count_word_of};
 ghost use Rattle.dr_ring.specs.Meaning.Records.{receiver_looked, cursor_looked, half_taken, took, completed_to, IsBelowBarrier};
 ghost use Rattle.dr_ring.specs.declared.record.Step.TheVariants.{ReceiverCompletes};
 ghost use Rattle.dr_ring.specs.Calls.Finds.{FindsClosed, FindsEvents};
