@@ -1,5 +1,5 @@
 -- The run of a ring's ends, once its receivers' seats have come to the sender's.
-use Rattle.std.proofs.Common.{◌≡◌, ℕ, ◌<◌, false, List, map, sym, ap, ◌∙◌, subst}
+use Rattle.std.proofs.Common.{◌≡◌, ℕ, false, List, map, sym, ap, ◌∙◌, subst}
 use Rattle.std.proofs.lemmas.List.{length-map}
 use mathlib.Core.Option.{some}
 use lib.ListN.{get_elem?}

@@ -11,7 +11,7 @@ mod receiver;
 mod sender;
 pub(crate) mod settling;
 
-ghost use Rattle.std.specs.Prelude.{List, Option, ℕ, ◌≡◌, ◌++◌, length, slice_index};
+ghost use Rattle.std.specs.Prelude.{List, Option, ◌≡◌, ◌++◌, length, slice_index};
 ghost use Rattle.dr_meaning.specs.Meaning.Transcript.{Transcript, LeadsTo};
 ghost use Rattle.dr_meaning.specs.Meaning.Laws.{Laws};
 ghost use Rattle.dr_meaning.specs.Meaning.Progress.{NobodyIsStuck};

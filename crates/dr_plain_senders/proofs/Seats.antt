@@ -1,6 +1,5 @@
 -- A step of one end keeps the rule of the table.
 use Rattle.std.proofs.Common.{◌≡◌, ◌≢◌, ℕ, ◌+◌, ◌*◌, ◌<◌, List, [], set, sym, refl, ap, ◌∙◌, subst, arith, get_or}
-use mathlib.Core.Option.{some}
 use mathlib.Core.Option as maybe
 use lib.ListN.{get_elem?}
 use Rattle.atomic_table.specs.Table.{Allows}

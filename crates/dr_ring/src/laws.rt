@@ -12,7 +12,7 @@ mod sender;
 pub(crate) mod settling;
 
 ghost use Rattle.dr_seq.specs.declared.event.Event.{Event};
-ghost use Rattle.std.specs.Prelude.{List, ℕ, ◌≡◌, slice_index};
+ghost use Rattle.std.specs.Prelude.{List, ◌≡◌, slice_index};
 ghost use Rattle.dr_meaning.specs.Meaning.Transcript.{Transcript, LeadsTo};
 ghost use Rattle.dr_meaning.specs.Meaning.Laws.{Laws};
 ghost use Rattle.dr_meaning.specs.Meaning.Progress.{NobodyIsStuck};

@@ -11,7 +11,7 @@ use Rattle.dr_meaning.specs.declared.refusal.Refusal.TheVariants.{NoRoom, Halted
 use Rattle.dr_meaning.specs.declared.command.Claimed.{Claimed}
 use Rattle.dr_meaning.specs.Meaning.Machine.{State}
 use Rattle.dr_meaning.specs.Meaning.Transcript.{Transcript, LeadsFrom, LeadsTo}
-use Rattle.std.specs.Prelude.{◌<◌, ◌≤◌, List, slice_index}
+use Rattle.std.specs.Prelude.{◌≤◌, List, slice_index}
 use mathlib.Core.Option.{some}
 use lib.ListN.{get_elem?}
 use Rattle.dr_ring.specs.Meaning.Shape.{Shape, IsShape, ring_setup}
