@@ -2,7 +2,7 @@
 use Rattle.std.specs.Prelude.{◌≡◌, ℕ, suc, ◌+◌, ◌^◌, ◌≤◌, ◌++◌, Contains, ◌==◌, ◌&&◌, not, nat_le, nat_lt, max, if◌then◌else◌, Bool, true, List, [], ◌∷◌, length, Option, None, Err, Ok}
 use Rattle.std.specs.List.{filter_map}
 use Rattle.dr_graph.specs.Meaning.Graph.{least_of}
-use Rattle.dr_meaning.specs.Calls.Calling.{CompletesUpTo, InPlaceCall, Polls}
+use Rattle.dr_meaning.specs.Calls.Calling.{ChangesEvent, ClaimsStretch, CompletesUpTo, InPlaceCall, InPlaceInletCall, Polls, PublishesFilled}
 use Rattle.dr_runs.specs.declared.look.Look.{Look}
 use Rattle.dr_runs.specs.LastLooks.{found_last}
 use Rattle.dr_plain_senders.specs.declared.record.MarkLook.{MarkLook}
@@ -16,7 +16,7 @@ use Rattle.dr_plain_senders.specs.Calls.Ends.{ReceiverEnd, SenderEnd}
 use Rattle.dr_plain_senders.specs.Calls.Publishing.{PublishCall}
 use Rattle.dr_plain_senders.specs.Calls.Receiving.{CompleteCall, PollCall, ups_of}
 use Rattle.dr_plain_senders.specs.Calls.Sending.{SenderClaimCall}
-use Rattle.dr_meaning.specs.declared.claim_fault.ClaimFault.{ClaimFault}
+use Rattle.dr_plain_senders.specs.Calls.Writing.{UpdateCall}
 use Rattle.dr_meaning.specs.Calls.InPlaceInlets.{Sending}
 
 module _ {T : Type 0} where
@@ -59,13 +59,11 @@ module _ {T : Type 0} where
   abbrev pub sending_of : SenderEnd T → Sending T
   sending_of e = sending_by e.plan e.knows.own e.writes
 
-  -- a refused claim tells all that the ring's own does
-  abbrev pub RefusesClaim : SenderEnd T → ℕ → ClaimFault → SenderEnd T → Type 0
-  RefusesClaim e n fault e' = SenderClaimCall e n e' (Err fault)
-
-  -- a publication tells all that the ring's own does: it changes nothing else, and does not halt the ring
-  abbrev pub StoresStretch : SenderEnd T → ℕ → ℕ → SenderEnd T → Type 0
-  StoresStretch e lo hi e' = PublishCall e lo hi e' (Ok tt)
+  -- each call of a sender tells all that the ring's own does: so no claim, change or publication halts the ring
+  abbrev pub sends_in_place : SenderEnd T → InPlaceInletCall → SenderEnd T → Type 0
+  sends_in_place e (ClaimsStretch n answer) e' = SenderClaimCall e n e' answer
+  sends_in_place e (ChangesEvent s) e' = UpdateCall (λ was now. Unit {0}) e s e' (Ok tt)
+  sends_in_place e (PublishesFilled lo hi) e' = PublishCall e lo hi e' (Ok tt)
 
   -- and so does each call of a receiver
   abbrev pub does_in_place : ReceiverEnd T → InPlaceCall → ReceiverEnd T → Type 0
