@@ -1,5 +1,5 @@
 -- What the ends of a ring over plain memory with several senders are as ends in place.
-use Rattle.std.specs.Prelude.{◌≡◌, ℕ, suc, ◌+◌, ◌^◌, ◌≤◌, ◌++◌, Contains, ◌==◌, ◌&&◌, not, nat_le, nat_lt, max, if◌then◌else◌, Bool, true, List, [], ◌∷◌, length, Option, None, Err, Ok}
+use Rattle.std.specs.Prelude.{ℕ, suc, ◌+◌, ◌^◌, ◌≤◌, ◌==◌, ◌&&◌, not, nat_le, nat_lt, max, if◌then◌else◌, Bool, true, List, [], ◌∷◌, length, Option, None, Ok}
 use Rattle.std.specs.List.{filter_map}
 use Rattle.dr_graph.specs.Meaning.Graph.{least_of}
 use Rattle.dr_meaning.specs.Calls.Calling.{ChangesEvent, ClaimsStretch, CompletesUpTo, InPlaceCall, InPlaceInletCall, Polls, PublishesFilled}
@@ -7,11 +7,11 @@ use Rattle.dr_runs.specs.declared.look.Look.{Look}
 use Rattle.dr_runs.specs.LastLooks.{found_last}
 use Rattle.dr_plain_senders.specs.declared.record.MarkLook.{MarkLook}
 use Rattle.dr_plain_senders.specs.declared.record.Own.{Own}
-use Rattle.dr_plain_senders.specs.declared.record.ReceiverRecord.{ReceiverRecord}
 use Rattle.dr_plain_senders.specs.Meaning.Moments.{event_of}
 use Rattle.dr_plain_senders.specs.Meaning.Records.{is_published}
+use Rattle.dr_plain_senders.specs.Meaning.Settling.{SawAtMost}
 use Rattle.dr_plain_senders.specs.Meaning.Shape.{Shape}
-use Rattle.dr_plain_senders.specs.Meaning.Words.{count_word, marked_from}
+use Rattle.dr_plain_senders.specs.Meaning.Words.{marked_from}
 use Rattle.dr_plain_senders.specs.Calls.Ends.{ReceiverEnd, SenderEnd}
 use Rattle.dr_plain_senders.specs.Calls.Publishing.{PublishCall}
 use Rattle.dr_plain_senders.specs.Calls.Receiving.{CompleteCall, PollCall, ups_of}
@@ -83,15 +83,6 @@ module _ {T : Type 0} where
 
   abbrev pub offered_of : ReceiverEnd T → ℕ
   offered_of e = offered_in e.plan (ups_of e.plan e.knows) e.knows.marks e.knows.looks
-
-  -- a look that found the marks of some sequences, each of which is one of the first n
-  abbrev pub IsWithin : Shape T → ℕ → MarkLook → Type 0
-  IsWithin k n x = x.sequence + marked_from k x.sequence x.found ≤ n
-
-  -- a receiver found no mark of a sequence from this on, and nothing more completed by its upstreams
-  pub record SawAtMost (n : ℕ) (k : Shape T) (ups : List ℕ) (r : ReceiverRecord T) : Type 0 where
-    pub marks : (before after : List MarkLook) (x : MarkLook) → r.marks ≡ before ++ x ∷ after → IsWithin k n x
-    pub counts : (u : ℕ) (before after : List Look) (x : Look) → Contains ups u → r.looks ≡ before ++ x ∷ after → x.word ≡ count_word u → x.value ≤ n
 
   -- it saw at least so many: no less bounds what it saw
   abbrev pub SawSome : ReceiverEnd T → ℕ → Type 0
