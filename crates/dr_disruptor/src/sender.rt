@@ -1,7 +1,8 @@
 //! The sender of a run: each of its calls claims, fills and publishes.
 
-ghost use Rattle.std.specs.Prelude.{◌≡◌, ◌+◌, ◌++◌, ◌-◌, ◌<◌, ◌^◌, [], IfErr, IfOk, OnOk, length, min};
+ghost use Rattle.std.specs.Prelude.{◌≡◌, ◌+◌, ◌++◌, ◌-◌, ◌<◌, ◌^◌, [], Err, IfErr, IfOk, OnOk, length, min};
 ghost use Rattle.std.specs.Fn.{FnOnceReturnsAtMut};
+ghost use Rattle.dr_meaning.specs.Calls.Calling.{ClaimsStretch};
 ghost use Rattle.dr_meaning.specs.Calls.Filling.{FillsFrom, FillsOne};
 ghost use Rattle.dr_meaning.specs.Calls.Ends.{IsStretch};
 ghost use Rattle.dr_meaning.specs.Calls.InPlaceInlets.{Opens};
@@ -52,7 +53,7 @@ fn claim<R: Wait, I: InPlaceInlet>(
     ensures kept { I.kept end.new ≡ I.kept end.old }
     ensures stretch { IfOk result (IsStretch n) }
     ensures opens { IfOk result (λ c. Opens c.lo n (I.sending end.old) (I.sending end.new)) }
-    ensures refused { IfErr result (λ r. IsRefused I.kept I.sending I.refuses n r end.old end.new) }
+    ensures refused { IfErr result (λ r. IsRefused I.kept I.sending I.does n r end.old end.new) }
 {
     let mut waits = strategy.begin(rt, bell, n);
     for _ in rt.forever() {
@@ -152,7 +153,7 @@ impl<R: Copy, I: InPlaceInlet> LiveSender<R, I> {
         // What the closure left of what lay there is published behind all that was before.
         ensures sent { OnOk result (SendsOne (λ was now. FnOnceReturnsAtMut F.FnOnce fill was tt now) (I.sending self.old).published (I.sending self.new).published) }
         // A refused claim sends nothing.
-        ensures refused { IfErr result (λ fault. I.refuses self.old 1 fault self.new × (I.sending self.new ≡ I.sending self.old)) }
+        ensures refused { IfErr result (λ fault. I.does self.old (ClaimsStretch 1 (Err fault)) self.new × (I.sending self.new ≡ I.sending self.old)) }
     {
         let Claimed { lo, hi } = self.end.try_claim(1)?;
         self.end.update(lo, fill);
@@ -189,7 +190,7 @@ impl<R: Wait + Copy, I: InPlaceInlet> LiveSender<R, I> {
         // What the closure left of what lay there is published behind all that was before.
         ensures sent { OnOk result (SendsOne (λ was now. FnOnceReturnsAtMut F.FnOnce fill was tt now) (I.sending self.old).published (I.sending self.new).published) }
         // A refused claim sends nothing, and is not refused for want of room.
-        ensures refused { IfErr result (λ r. IsRefused I.kept I.sending I.refuses 1 r self.old self.new) }
+        ensures refused { IfErr result (λ r. IsRefused I.kept I.sending I.does 1 r self.old self.new) }
     {
         let Claimed { lo, hi } = claim(&self.rt, &mut self.end, &self.bell, self.strategy, 1)?;
         self.end.update(lo, fill);
@@ -210,7 +211,7 @@ impl<R: Wait + Copy, I: InPlaceInlet> LiveSender<R, I> {
         ensures kept { I.kept self.new ≡ I.kept self.old }
         ensures sent { OnOk result (SendsAll (Fills (FillsOne F.Fn fill.now) first) part (I.sending self.old).published (I.sending self.new).published) }
         ensures claims { OnOk result (ClaimedAtOnce I.kept I.sending (length (I.sending self.old).published) part self.old self.new) }
-        ensures refused { IfErr result (λ r. IsRefused I.kept I.sending I.refuses part r self.old self.new) }
+        ensures refused { IfErr result (λ r. IsRefused I.kept I.sending I.does part r self.old self.new) }
     {
         let Claimed { lo, hi } = claim(&self.rt, &mut self.end, &self.bell, self.strategy, part)?;
         fill_each(&mut self.end, lo, part, first, fill);
@@ -237,7 +238,7 @@ impl<R: Wait + Copy, I: InPlaceInlet> LiveSender<R, I> {
         // It claimed `cut` of them at once, again and again, and at last those that were left.
         ensures claims { OnOk result (ClaimedInCuts I.kept I.sending cut count self.old self.new) }
         // The first claims were sent whole, and the next one was refused.
-        ensures refused { IfErr result (λ r. StopsAfter (FillsOne F.Fn fill) I.kept I.sending I.refuses count cut r self.old self.new) }
+        ensures refused { IfErr result (λ r. StopsAfter (FillsOne F.Fn fill) I.kept I.sending I.does count cut r self.old self.new) }
     {
         let mut done = 0;
         while done < count {
@@ -265,7 +266,7 @@ impl<R: Wait + Copy, I: InPlaceInlet> LiveSender<R, I> {
         // All of them were claimed at once.
         ensures claims { OnOk result (ClaimedAtOnce I.kept I.sending (length (I.sending self.old).published) n self.old self.new) }
         // A refused claim sends nothing, and calls the closure for nothing.
-        ensures refused { IfErr result (λ r. IsRefused I.kept I.sending I.refuses n r self.old self.new × (fill.new ≡ fill.old)) }
+        ensures refused { IfErr result (λ r. IsRefused I.kept I.sending I.does n r self.old self.new × (fill.new ≡ fill.old)) }
         // You may call the closure again.
         ensures callable { F.IsAlwaysCallable fill.new }
         // A batch of none is refused.
@@ -291,7 +292,7 @@ impl<R: Wait + Copy, E: Copy, I: InPlaceInlet<Event = E>> LiveSender<R, I> {
         // It claimed `cut` of them at once, again and again, and at last those that were left.
         ensures claims { OnOk result (ClaimedInCuts I.kept I.sending cut (length events.now) self.old self.new) }
         // The first claims were sent whole, and the next one was refused.
-        ensures refused { IfErr result (λ r. StopsAfter (IsNth events.now) I.kept I.sending I.refuses (length events.now) cut r self.old self.new) }
+        ensures refused { IfErr result (λ r. StopsAfter (IsNth events.now) I.kept I.sending I.does (length events.now) cut r self.old self.new) }
     {
         self.publish_each(
             events.len() as u64,
