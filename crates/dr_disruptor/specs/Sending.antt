@@ -5,13 +5,18 @@ use lib.ListN.{get_elem?}
 use Rattle.dr_meaning.specs.declared.refusal.Refusal.{Refusal}
 use Rattle.dr_meaning.specs.declared.refusal.Refusal.TheVariants.{NoRoom}
 use Rattle.dr_meaning.specs.declared.claim_fault.ClaimFault.TheVariants.{Refused}
-use Rattle.dr_meaning.specs.Calls.Calling.{ClaimsStretch, InPlaceInletCall}
+use Rattle.dr_meaning.specs.Calls.Calling.{CallsLead, ClaimsStretch, InPlaceInletCall}
 use Rattle.dr_meaning.specs.Calls.InPlaceInlets.{Sending}
 use Rattle.dr_workers.specs.Meaning.Work.{AreCut}
+
+-- calls were made of an end, one after another, and nothing else was done to it
+abbrev pub OnlyCalled : {I : Type 0} → (I → InPlaceInletCall → I → Type 0) → I → I → Type 0
+OnlyCalled does old new = (calls : List InPlaceInletCall) × CallsLead does old calls new
 
 -- a claim of n was refused for another cause than that there was no room, after it was tried again and again: what the end sent is as before
 pub record IsRefused {I K E : Type 0} (kept : I → K) (sending : I → Sending E) (does : I → InPlaceInletCall → I → Type 0) (n : ℕ) (r : Refusal) (old new : I) : Type 0 where
   pub tried : I
+  pub calls : OnlyCalled does old tried
   pub place : kept tried ≡ kept old
   pub before : sending tried ≡ sending old
   pub refused : does tried (ClaimsStretch n (Err (Refused r))) new
@@ -79,6 +84,7 @@ module _ {E : Type 0} where
     pub done : ℕ
     pub between : I
     pub some : done < n
+    pub calls : OnlyCalled does old between
     pub place : kept between ≡ kept old
     pub sent : SendsAll (Fills by 0) done (sending old).published (sending between).published
     pub claims : ClaimedInCuts kept sending cut n old between
