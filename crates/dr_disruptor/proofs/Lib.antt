@@ -16,3 +16,4 @@ pub mod ManyReady
 pub mod NewEndsOfSeveral
 pub mod Along
 pub mod Unrefused
+pub mod UnhaltedOfSeveral

@@ -8,6 +8,8 @@ use Rattle.dr_meaning.specs.declared.claim_fault.ClaimFault.TheVariants.{Refused
 use Rattle.dr_meaning.specs.Calls.Calling.{CallsLead, ClaimsStretch, InPlaceInletCall}
 use Rattle.dr_meaning.specs.Calls.InPlaceInlets.{Sending}
 use Rattle.dr_workers.specs.Meaning.Work.{AreCut}
+use Rattle.dr_plain_senders.specs.declared.record.Step.{Step}
+use Rattle.dr_plain_senders.specs.declared.record.Step.TheVariants.{SenderHalts}
 
 -- calls were made of an end, one after another, and nothing else was done to it
 abbrev pub OnlyCalled : {I : Type 0} → (I → InPlaceInletCall → I → Type 0) → I → I → Type 0
@@ -22,6 +24,11 @@ pub record IsRefused {I K E : Type 0} (kept : I → K) (sending : I → Sending 
   pub refused : does tried (ClaimsStretch n (Err (Refused r))) new
   pub waits : r ≢ NoRoom
   pub same : sending new ≡ sending old
+
+-- a step of a ring with several senders is no sender's halt
+abbrev pub IsNoHalt : {E : Type 0} → Step E → Type 0
+IsNoHalt (SenderHalts p) = ⊥
+IsNoHalt _ = Unit {0}
 
 module _ {E : Type 0} where
   -- one event more is published, which is what a change left of what lay in its cell

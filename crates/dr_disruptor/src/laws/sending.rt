@@ -1,6 +1,6 @@
 //! What the contracts of a run's sender say.
 
-ghost use Rattle.std.specs.Prelude.{◌≡◌, ◌≢◌, ◌∷◌, ◌++◌, [], ℕ, ◌-◌, ◌<◌, Err, Ok, List, length, min};
+ghost use Rattle.std.specs.Prelude.{◌≡◌, ◌≢◌, ◌∷◌, ◌++◌, [], ℕ, ◌-◌, ◌<◌, All, Err, Ok, List, length, min};
 ghost use Rattle.std.specs.Fn.{FnOnceReturnsAtMut};
 ghost use Rattle.dr_meaning.specs.declared.claim_fault.ClaimFault.TheVariants.{Refused};
 ghost use Rattle.dr_meaning.specs.declared.command.Claimed.{Claimed};
@@ -11,7 +11,10 @@ ghost use Rattle.dr_meaning.specs.Calls.Filling.{FillsOne};
 ghost use Rattle.dr_plain.specs.Calls.Ends.{SenderEnd};
 ghost use Rattle.dr_plain.specs.Calls.InPlace.{sends_in_place};
 ghost use Rattle.dr_plain.specs.Calls.Sending.{ClaimCall};
-ghost use Rattle.dr_disruptor.specs.Sending.{Fills, IsRefused, OnlyCalled, SendsOne, StopsAfter};
+ghost use Rattle.dr_plain_senders.specs.declared.record.Step.{Step};
+ghost use Rattle.dr_plain_senders.specs.Calls.Ends.{SenderEnd as SenderOfSeveral};
+ghost use Rattle.dr_plain_senders.specs.Calls.InPlace.{sends_in_place as sends_in_place_of_several};
+ghost use Rattle.dr_disruptor.specs.Sending.{Fills, IsNoHalt, IsRefused, OnlyCalled, SendsOne, StopsAfter};
 
 use dr_meaning::InPlaceInlet;
 
@@ -31,4 +34,6 @@ pub fn what_a_send_says<E, I: InPlaceInlet<Event = E>, F: FnOnce(&mut E), G: Fn(
     ensures claims_of_one_sender { (e e' : SenderEnd E) (n : ℕ) (c : Claimed) → sends_in_place e (ClaimsStretch n (Ok c)) e' → ClaimCall e n e' (Ok c) }
     // Whatever is called of the only sender, it does not halt or close its ring.
     ensures stays_open { (e e' : SenderEnd E) → OnlyCalled sends_in_place e e' → (e'.knows.halted ≡ e.knows.halted) × (e'.knows.closed ≡ e.knows.closed) }
+    // Nor does one of several senders: of the steps that it stores none is a halt.
+    ensures stays_open_of_several { (e e' : SenderOfSeveral E) → OnlyCalled sends_in_place_of_several e e' → (steps : List (Step E)) × (e'.stored ≡ e.stored ++ steps) × All IsNoHalt steps }
 {}

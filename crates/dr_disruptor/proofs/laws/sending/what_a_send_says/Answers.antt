@@ -1,4 +1,5 @@
 use Rattle.dr_disruptor.proofs.Unrefused.{stays_open}
+use Rattle.dr_disruptor.proofs.UnhaltedOfSeveral.{stores_no_halt}
 use Rattle.dr_disruptor.proofs.laws.sending.what_a_send_says.Goals as goal
 
 pub returns-clause-sends : goal.returns-clause-sends
@@ -21,3 +22,6 @@ returns-clause-claims_of_one_sender g c e e' n claimed claims = claims
 
 pub returns-clause-stays_open : goal.returns-clause-stays_open
 returns-clause-stays_open g c e e' called = stays_open e e' called
+
+pub returns-clause-stays_open_of_several : goal.returns-clause-stays_open_of_several
+returns-clause-stays_open_of_several g c e e' called = stores_no_halt e e' called
