@@ -1,5 +1,4 @@
 pub mod Values
-pub mod Upto
 pub mod Lengths
 pub mod Asked
 pub mod Opened
