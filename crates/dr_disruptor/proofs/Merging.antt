@@ -39,7 +39,6 @@ use Rattle.dr_plain_senders.specs.Calls.InPlace.{SawSome, does_in_place, events_
 use Rattle.dr_disruptor.specs.Merging.{HaltsOnly, IsOutcomeOver, IsWoundUp, new_receivers, new_sender}
 use Rattle.dr_disruptor.specs.Serving.{AreServed, Worker, given_end, given_handler}
 use Rattle.dr_plain_senders.proofs.InPlaceReceiving.{saw_most}
-use Rattle.dr_plain_senders.proofs.MarksFound.{MarksWithin, marks_within}
 use Rattle.dr_disruptor.proofs.Merged.{merged}
 use Rattle.dr_disruptor.proofs.Owned.{AreOwn, are_own, own_from}
 use Rattle.dr_disruptor.proofs.Shown.{AllOut, AreOut, all_lent, all_shown, shown, shown_in}
@@ -94,9 +93,6 @@ module _ {E A B F : Type 0} (goes : Relation E A) (room : ℕ) (k : Shape E) (bl
 
   K : KeepsRule k w
   K = keeps_runs k wound.ends.run.steps wound.ends.run.entries (new_world k) w runs (kept_new_world E k shape)
-
-  within : MarksWithin k w
-  within = marks_within k wound.ends.run.steps wound.ends.run.entries w shape runs
 
   settles : Settles k w
   settles = subst (λ (q : Shape E). Settles q w) plan wound.ends.run.settles
@@ -200,7 +196,7 @@ module _ {E A B F : Type 0} (goes : Relation E A) (room : ℕ) (k : Shape E) (bl
   saw_within : (h : ℕ) (e : ReceiverEnd E) → get_elem? outlets h ≡ some e → (n : ℕ) → SawSome e n → n ≤ length events
   saw_within h e at n saw =
       let many : length events ≡ length w.stages = length-map w.stages (shown blank) in
-      let most = saw_most k w h e (drained h e at).plan_is (at_world h e at) K within n saw in
+      let most = saw_most (length w.stages) k e (drained h e at).plan_is (settles.each h e.knows (at_world h e at)).seen n saw in
       omega arith
 
   pub all_through : AllWentThrough goes room events starts handlers

@@ -4,10 +4,11 @@ ghost use Rattle.std.specs.Prelude.{◌≡◌, ◌<◌, [], All, IfErr, IfOk, le
 ghost use Rattle.std.specs.Fn.{FnOnceReturnsAtMut};
 ghost use Rattle.dr_plain.specs.Calls.Ends.{receiver_place, received_of};
 ghost use Rattle.dr_plain.specs.Calls.Sending.{CloseCall};
+ghost use Rattle.dr_meaning.specs.Calls.Calling.{ChangesEvent, ClaimsStretch, PublishesFilled};
 ghost use Rattle.dr_meaning.specs.Calls.Ends.{IsStretch};
 ghost use Rattle.dr_meaning.specs.Calls.Filling.{FillsFrom, FillsOne};
 ghost use Rattle.dr_meaning.specs.Calls.InPlaceInlets.{Changes, IsOpen, IsWhole, Opens, Publishes};
-ghost use Rattle.dr_disruptor.specs.Here.{AreShown, HadTurns, HereEnd, here_place, refuses_here, sending_here, stores_here};
+ghost use Rattle.dr_disruptor.specs.Here.{AreShown, HadTurns, HereEnd, does_here, here_place, sending_here};
 ghost use Rattle.dr_plain.specs.Calls.InPlace.{SawSome, does_in_place};
 ghost use Rattle.dr_disruptor.specs.Serving.{AreServed, IsIdle};
 
@@ -139,7 +140,7 @@ impl<E: Drop, H: InPlaceHandler<E> + Drop> Here<E, H> {
 }
 
 impl<E, H: InPlaceHandler<E>> InPlaceInlet for Here<E, H> {
-    ghost use Rattle.dr_disruptor.specs.Here.{HerePlace, here_place, refuses_here, sending_here, stores_here};
+    ghost use Rattle.dr_disruptor.specs.Here.{HerePlace, does_here, here_place, sending_here};
 
     type Event = E;
 
@@ -149,16 +150,15 @@ impl<E, H: InPlaceHandler<E>> InPlaceInlet for Here<E, H> {
 
     ghost sending = { sending_here };
 
-    ghost refuses = { refuses_here H.goes };
-
-    ghost stores = { stores_here };
+    ghost does = { does_here H.goes };
 
     fn try_claim(&mut self, n: u64) -> Result<Claimed, ClaimFault>
         requires closed { (sending_here self.old).pending ≡ [] }
         ensures kept { here_place self.new ≡ here_place self.old }
         ensures stretch { IfOk result (IsStretch n) }
         ensures opens { IfOk result (λ c. Opens c.lo n (sending_here self.old) (sending_here self.new)) }
-        ensures refused { IfErr result (λ fault. refuses_here H.goes self.old n fault self.new × (sending_here self.new ≡ sending_here self.old)) }
+        ensures refused { IfErr result (λ fault. sending_here self.new ≡ sending_here self.old) }
+        ensures called { does_here H.goes self.old (ClaimsStretch n result) self.new }
         // Where there was room, no handler has a turn.
         ensures turns { IfOk result (λ _. (self.new.receivers ≡ self.old.receivers) × (self.new.handlers ≡ self.old.handlers)) }
     {
@@ -181,6 +181,7 @@ impl<E, H: InPlaceHandler<E>> InPlaceInlet for Here<E, H> {
         requires within { IsOpen (sending_here self.old) s }
         ensures kept { here_place self.new ≡ here_place self.old }
         ensures changes { Changes (λ was now. FnOnceReturnsAtMut F.FnOnce change was tt now) s (sending_here self.old) (sending_here self.new) }
+        ensures called { does_here H.goes self.old (ChangesEvent s) self.new }
         // No handler has a turn.
         ensures turns { (self.new.receivers ≡ self.old.receivers) × (self.new.handlers ≡ self.old.handlers) }
     {
@@ -192,6 +193,7 @@ impl<E, H: InPlaceHandler<E>> InPlaceInlet for Here<E, H> {
         requires within { IsOpen (sending_here self.old) s }
         ensures kept { here_place self.new ≡ here_place self.old }
         ensures changes { Changes (FillsOne F.Fn fill.now number) s (sending_here self.old) (sending_here self.new) }
+        ensures called { does_here H.goes self.old (ChangesEvent s) self.new }
         // No handler has a turn.
         ensures turns { (self.new.receivers ≡ self.old.receivers) × (self.new.handlers ≡ self.old.handlers) }
     {
@@ -204,6 +206,7 @@ impl<E, H: InPlaceHandler<E>> InPlaceInlet for Here<E, H> {
         ensures kept { here_place self.new ≡ here_place self.old }
         ensures changes { Changes (λ was now. FillsFrom F.FnMut fill.old number was fill.new now) s (sending_here self.old) (sending_here self.new) }
         ensures callable { F.IsAlwaysCallable fill.new }
+        ensures called { does_here H.goes self.old (ChangesEvent s) self.new }
         // No handler has a turn.
         ensures turns { (self.new.receivers ≡ self.old.receivers) × (self.new.handlers ≡ self.old.handlers) }
     {
@@ -215,7 +218,7 @@ impl<E, H: InPlaceHandler<E>> InPlaceInlet for Here<E, H> {
         ensures kept { here_place self.new ≡ here_place self.old }
         ensures publishes { Publishes (sending_here self.old) (sending_here self.new) }
         // The ring is changed by nothing else, and no handler has a turn.
-        ensures stores { stores_here self.old lo hi self.new }
+        ensures called { does_here H.goes self.old (PublishesFilled lo hi) self.new }
     {
         InPlaceInlet::publish(&mut self.sender, lo, hi)
     }

@@ -28,6 +28,7 @@ use Rattle.dr_plain_senders.specs.Inside.Finishing.{HasAllEnds}
 use Rattle.dr_plain_senders.specs.Inside.Gathering.{sender_known, receiver_known, halter_known}
 use Rattle.dr_plain_senders.specs.Calls.Ends.{SenderEnd, ReceiverEnd, HalterEnd, EndPlace}
 use Rattle.dr_plain_senders.specs.Calls.Settling.{AreAllEnds, HasRun}
+use Rattle.dr_plain_senders.proofs.MarksFound.{marks_within}
 use Rattle.dr_plain_senders.proofs.Owners.{owned_since}
 use Rattle.dr_plain_senders.proofs.Settling.{settles}
 
@@ -123,7 +124,7 @@ module _ {T : Type 0} where
         ran.runs,
         leads k steps es w ran.made ran.runs,
         laws k steps es w ran.made ran.runs,
-        settles k w K (owned_since k steps es w ran.made ran.runs),
+        settles k w K (owned_since k steps es w ran.made ran.runs) (marks_within k steps es w ran.made ran.runs),
       ) in record {
         steps = steps;
         entries = es;

@@ -161,17 +161,8 @@ module _ {T : Type 0} where
       let below = has.3 in absurd (omega arith)
   refused_nowhere e s r Unasked sees asked answer within fits = absurd asked
 
-  -- an event of the ring
-  some_event : (events : List T) → 0 < length events → T
-  some_event [] there = absurd (omega arith)
-  some_event (x ∷ events) there = x
-
-  pub may_write : (e e' : SenderEnd T) (s : ℕ) (event : T) (r : Refusal) → WriteCall e s event e' (Err r) → IsOpen (sending_of e) s → s < 2 ^ 64 → ⊥
-  may_write e e' s event r write within fits = refused_nowhere e s r write.sight write.sees write.asked write.answer within fits
-
   pub may_change : (Change : T → T → Type 0) (e e' : SenderEnd T) (s : ℕ) (r : Refusal) → UpdateCall Change e s e' (Err r) → IsOpen (sending_of e) s → s < 2 ^ 64 → ⊥
-  may_change Change e e' s r call within fits =
-      let event = some_event e.plan.begun (opened e s within fits).there in may_write e e' s event r (call event) within fits
+  may_change Change e e' s r call within fits = refused_nowhere e s r call.sight call.sees call.asked call.answer within fits
 
   pub writes : (e e' : SenderEnd T) (s : ℕ) (event : T) → WriteCall e s event e' (Ok tt) → IsOpen (sending_of e) s → s < 2 ^ 64
       → sending_of e' ≡ with_filled (sending_of e) s event

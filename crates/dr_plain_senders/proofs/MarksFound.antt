@@ -19,7 +19,7 @@ use Rattle.dr_plain_senders.specs.Meaning.Records.{fresh_stage, published, sende
 use Rattle.dr_plain_senders.specs.Meaning.Rule.{World, KeepsRule}
 use Rattle.dr_plain_senders.specs.Meaning.Steps.{Happens, PublishesOne, sender_knows, sender_claims}
 use Rattle.dr_plain_senders.specs.Meaning.Moments.{Runs, new_world}
-use Rattle.dr_plain_senders.specs.Calls.InPlace.{IsWithin}
+use Rattle.dr_plain_senders.specs.Meaning.Settling.{IsWithin}
 use Rattle.dr_plain_senders.proofs.Places.{more_cases}
 use Rattle.dr_plain_senders.proofs.Barriers.{marked_claimed}
 use Rattle.dr_plain_senders.proofs.Keeps.{along_all, keeps_step}

@@ -8,6 +8,7 @@ pub mod Sending
 pub mod Writing
 pub mod Publishing
 pub mod Receiving
+pub mod Turning
 pub mod Replies
 pub mod Handing
 pub mod Inlets

@@ -35,6 +35,7 @@ mod rooms;
 mod sender;
 mod settled;
 mod taking;
+mod turning;
 mod updating;
 mod writing;
 

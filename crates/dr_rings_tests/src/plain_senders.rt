@@ -11,6 +11,7 @@ mod play;
 mod rows;
 mod texts;
 mod threads;
+mod turns;
 mod workers;
 
 use crate::graphs::{Shape, graph};

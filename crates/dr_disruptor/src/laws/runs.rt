@@ -1,16 +1,18 @@
 //! What the contracts of a run say.
 
-ghost use Rattle.std.specs.Prelude.{◌≡◌, ◌↔◌, ◌∷◌, [], ℕ, ◌+◌, ◌-◌, ◌≤◌, All, IsTrue, List, Some, false, length, map, min};
+ghost use Rattle.std.specs.Prelude.{◌≡◌, ◌≢◌, ◌↔◌, ◌∷◌, [], ℕ, ◌+◌, ◌-◌, ◌≤◌, All, IsTrue, List, Some, false, length, map, min};
 ghost use Rattle.std.specs.Fn.{FnOnceReturnsAtMut};
 ghost use denote.RawPtr.{Ptr};
 ghost use mathlib.Core.Option.{some};
 ghost use lib.ListN.{get_elem?};
+ghost use Rattle.dr_meaning.specs.declared.refusal.Refusal.{Refusal};
+ghost use Rattle.dr_meaning.specs.declared.refusal.Refusal.TheVariants.{Halted};
 ghost use Rattle.dr_meaning.specs.Calls.Handling.{GoesThrough};
 ghost use Rattle.dr_meaning.specs.Meaning.Laws.{Laws};
 ghost use Rattle.dr_runs.specs.OneSender.Words.{halt_word};
 ghost use Rattle.dr_workers.specs.Meaning.Work.{FollowFrom, dealt_events, shown_of};
-ghost use Rattle.dr_plain.specs.Calls.Ends.{ReceiverEnd, receiver_place, received_of, sender_place};
-ghost use Rattle.dr_plain.specs.Calls.InPlace.{does_in_place};
+ghost use Rattle.dr_plain.specs.Calls.Ends.{ReceiverEnd, SenderEnd, receiver_place, received_of, sender_place};
+ghost use Rattle.dr_plain.specs.Calls.InPlace.{does_in_place, sending_of, sends_in_place};
 ghost use Rattle.dr_plain.specs.Calls.Making.{receiver_at_ring};
 ghost use Rattle.dr_plain.specs.Calls.Settling.{HasRun};
 ghost use Rattle.dr_plain.specs.Meaning.Moments.{fresh_receiver, fresh_sender};
@@ -19,6 +21,7 @@ ghost use Rattle.dr_lent.specs.Events.{events_of};
 ghost use Rattle.dr_plain.specs.Meaning.Shape.{Shape, ring_setup};
 ghost use Rattle.dr_disruptor.specs.Handlers.{WentThrough};
 ghost use Rattle.dr_disruptor.specs.Running.{IsOutcomeBy};
+ghost use Rattle.dr_disruptor.specs.Sending.{IsRefused, OnlyCalled};
 ghost use Rattle.dr_disruptor.specs.Serving.{TakesInTurn};
 ghost use Rattle.dr_disruptor.specs.declared.one_of.OneOf.TheVariants.{First, Second};
 ghost use Rattle.dr_disruptor.specs.declared.running.RunOutcome.{RunOutcome};
@@ -64,6 +67,8 @@ pub fn what_a_settled_run_says<
     ensures counts { (send : F) (most : ℕ) (shape : Ptr → Shape) (events : List E) (handlers : T) (ran : RunOutcome E T (Settled E) A) → (is : IsOutcomeBy (FnOnceReturnsAtMut F.FnOnce send) (λ sender. sender) H.goes T.listed T.went most shape events handlers ran) → (ran.settled.published ≡ length is.back.knows.published) × (ran.settled.claimed ≡ claimed ran.settled.sender.value.knows) × (length ran.settled.handlers.items ≡ length ran.settled.receivers.value.items) }
     // The ring's halter never halted it, and the sender found no halt before its own.
     ensures unhalted { (send : F) (most : ℕ) (shape : Ptr → Shape) (events : List E) (handlers : T) (ran : RunOutcome E T (Settled E) A) → (is : IsOutcomeBy (FnOnceReturnsAtMut F.FnOnce send) (λ sender. sender) H.goes T.listed T.went most shape events handlers ran) → (ran.settled.halter.value.knows.halted ≡ false) × All (λ look. look.word ≡ halt_word → look.value ≡ 0) (seen_before ran.settled.sender.value.knows) }
+    // So a send of the closure's is not refused with `Halted`, where nothing but calls of its sender came before it and after.
+    ensures unrefused { (send : F) (most : ℕ) (shape : Ptr → Shape) (events : List E) (handlers : T) (ran : RunOutcome E T (Settled E) A) → (is : IsOutcomeBy (FnOnceReturnsAtMut F.FnOnce send) (λ sender. sender) H.goes T.listed T.went most shape events handlers ran) → (n : ℕ) (r : Refusal) (old new : SenderEnd E) → OnlyCalled sends_in_place is.given old → IsRefused sender_place sending_of sends_in_place n r old new → OnlyCalled sends_in_place new is.back → r ≢ Halted }
     // One run of that ring came to these ends, and its transcript has the five laws.
     ensures runs { (send : F) (most : ℕ) (shape : Ptr → Shape) (events : List E) (handlers : T) (ran : RunOutcome E T (Settled E) A) → (is : IsOutcomeBy (FnOnceReturnsAtMut F.FnOnce send) (λ sender. sender) H.goes T.listed T.went most shape events handlers ran) → (run : HasRun ran.settled.sender.value ran.settled.receivers.value.items ran.settled.halter.value) × Laws (ring_setup (shape is.strip)) run.entries }
     // The events are what lay in the ring's cells at last.

@@ -12,6 +12,7 @@ use Rattle.dr_lent.specs.Events.{events_of}
 use Rattle.dr_plain.specs.Meaning.Shape.{Shape, ring_setup}
 use Rattle.dr_disruptor.specs.Running.{AreSettled}
 use Rattle.dr_disruptor.proofs.laws.runs.what_a_settled_run_says.Goals as goal
+use Rattle.dr_disruptor.proofs.Unrefused.{not_halted}
 use Rattle.dr_disruptor.proofs.Ready.{received_by}
 
 -- each receiver took and completed all that was published, and so it is counted
@@ -52,3 +53,6 @@ returns-clause-runs g c send most shape events handlers ran is =
 
 pub returns-clause-events : goal.returns-clause-events
 returns-clause-events g c send most shape events handlers ran is = is.settled.events
+
+pub returns-clause-unrefused : goal.returns-clause-unrefused
+returns-clause-unrefused g c send most shape events handlers ran is n r old new before refused after = not_halted is n r old new before refused after
