@@ -18,7 +18,13 @@ use Rattle.std.proofs.Common.{
   Option,
   None,
   Some,
+  Result,
+  Ok,
   Err,
+  IfErr,
+  IfOk,
+  IsErrAnd,
+  IsErrOf,
   List,
   [],
   ◌∷◌,
@@ -61,7 +67,7 @@ use Rattle.std.proofs.lemmas.Option.{none-some}
 use Rattle.std.proofs.lemmas.Slice.Eq.{bytes_eq-Decides}
 use Rattle.std.specs.List.{list_all, range_with_len}
 use Rattle.std.specs.Prelude.{◌==◌, ◌&&◌, ◌||◌, ◌⊎◌, ◌↔◌, not, decimal, is_some}
-use Rattle.std.specs.Fmt.{digits}
+use Rattle.core.specs.Fmt.{digits}
 use Rattle.std.specs.Str.{bytes_eq}
 use Rattle.dr_graph.specs.Calls.Answer.{Answers}
 use Rattle.dr_graph.specs.Meaning.Declaration.{Declaration, connected, declaring_fault, name_faults, stranger_fault, with_edge}
@@ -260,7 +266,7 @@ not_in_numbers n = elim (cases_Bool (is_in (range_with_len 0 n) n)) [
   | inl is ↦ (
       let at : (k : ℕ) × (0 ≤ k) × (k < 0 + n) × ((k == n) ≡ true) = found_in (λ (k : ℕ). k == n) 0 n is in
       let same : at.0 ≡ n = eqb-true at.0 n at.3 in absurd (omega (arith, at.2, same)))
-  | inr no ↦ no
+  | inr not ↦ not
 ]
 
 take_numbers : (a n k : ℕ) → k ≤ n → take k (range_with_len a n) ≡ range_with_len a k
@@ -280,7 +286,7 @@ next_number count edges rises k below = record {
   ];
   first = λ j lt. elim (cases_Bool (is_ready edges (range_with_len 0 k) j)) [
     | inl is ↦ absurd (false≢true (sym (ready_unplaced edges (range_with_len 0 k) j is) ∙ in_numbers k j lt))
-    | inr no ↦ no
+    | inr not ↦ not
   ];
 }
 
@@ -436,3 +442,22 @@ edges_next masks old new a b n up handler few was first second below many less b
     ap (λ (ns : List Name). index_of ns b) was ∙ ap (index_of (numbered n)) second ∙ place_of_number n handler few below in
     asked_next masks handler up old.edges new.edges asked (omega (arith, below, many), less, bit)
     (ap (λ (d : Declaration). d.edges) is ∙ ap (λ (k : ℕ). with_edge old.edges k (index_of old.names b)) at_a ∙ ap (with_edge old.edges up) at_b)
+
+-- a fault that is passed on
+pub fault_as : {A F : Type 0} (result : Result A F) (f g : F) → IsErrAnd result (λ e. e ≡ f) → f ≡ g → IfErr result (λ e. e ≡ g)
+fault_as (Ok x) f g is same = tt
+fault_as (Err e) f g is same = is ∙ same
+
+-- What is built of a declaration that masks ask for is their graph, and why it is not built.
+
+pub built_so : (masks : List ℕ) (d : Declaration) (result : Result GraphView GraphFault) → IsAskedBy masks d → IfOk result (λ graph. IsGraphOf d graph)
+    → IfOk result (λ graph. IsGraphOfMasks masks graph)
+built_so masks d (Ok graph) asked is = record { declared = d; asked = asked; built = is }
+built_so masks d (Err fault) asked is = tt
+
+pub why_not_built : (masks : List ℕ) (d : Declaration) (result : Result GraphView GraphFault) → IsAskedBy masks d
+    → IfErr result (λ fault. (fault ≡ NoHandlers) ⊎ ((fault ≡ Cycle) ⊎ (fault ≡ NoMemory))) → (IsErrOf result NoHandlers) ↔ (d.names ≡ [])
+    → (IsErrOf result Cycle → HasCycle d.edges) → IfErr result (λ fault. (fault ≡ NoMemory) ⊎ ((fault ≡ NoHandlers) × (length masks ≡ 0)))
+why_not_built masks d (Ok graph) asked refused none cycle = tt
+why_not_built masks d (Err fault) asked refused none cycle =
+    why_not masks d fault asked refused (λ is. none.0 (ap Err is)) (λ is. cycle (ap Err is))

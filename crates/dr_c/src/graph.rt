@@ -10,7 +10,6 @@ use dr_graph::{Graph, GraphBuilder, GraphFault};
 use std::alloc::Global;
 
 // Handlers go by number in C, and have names here alone.
-#[tactic(auto, unfolding(std::specs::Fmt::digits))]
 fn name(handler: usize) -> &'static str
     requires { handler < 16 }
     ensures { result.now ≡ decimal handler }
@@ -94,6 +93,17 @@ fn built(alloc: Global, masks: &[u64]) -> Result<Graph, GraphFault>
     builder.build()
 }
 
+// What a graph lacks that nothing refuses.
+fn lacking(fault: GraphFault) -> OpenFault
+    requires { fault ≡ GraphFault.NoMemory }
+    ensures { result ≡ NoMemory }
+{
+    match fault {
+        GraphFault::NoMemory => OpenFault::NoMemory,
+        _ => unreachable!(),
+    }
+}
+
 /// The graph of as many handlers as there are masks, in which handler `k` follows those whose bits are in mask `k`; or
 /// `NoMemory`, where its builder answers that.
 pub fn graph(alloc: Global, masks: &[u64]) -> Result<Graph, OpenFault>
@@ -106,7 +116,6 @@ pub fn graph(alloc: Global, masks: &[u64]) -> Result<Graph, OpenFault>
 {
     match built(alloc, masks) {
         Ok(graph) => Ok(graph),
-        Err(GraphFault::NoMemory) => Err(OpenFault::NoMemory),
-        Err(_) => unreachable!(),
+        Err(fault) => Err(lacking(fault)),
     }
 }

@@ -62,7 +62,7 @@ impl<'a, T> Model for Noting<'a, T> {
     ghost view = { λ noting. noting.end };
 }
 
-fn noting<T>(end: T, course: &Course) -> Noting<'_, T>
+fn with_notes<T>(end: T, course: &Course) -> Noting<'_, T>
     ensures { result ≡ end }
 {
     Noting { end, course }
@@ -119,7 +119,7 @@ impl<E, O: Outlet<E>> Outlet<E> for Noting<'_, O> {
 fn a_handler_comes_to_its_gate_before_each_completion(rt: HostRuntime) {
     let course = Course::new();
     let mut adder = Adder::new(&course.begun);
-    let mut outlet = noting(six_events(&course.begun, NEVER), &course);
+    let mut outlet = with_notes(six_events(&course.begun, NEVER), &course);
     let mut buf = [Event::NONE; 4];
     let fault = consume(&rt, &mut outlet, &course, 0, &mut adder, &mut buf);
     check(&rt, fault, None);
@@ -130,7 +130,7 @@ fn a_handler_comes_to_its_gate_before_each_completion(rt: HostRuntime) {
 #[test]
 fn a_producer_comes_to_its_gate_before_its_writes(rt: HostRuntime) {
     let course = Course::new();
-    let mut inlet = noting(scarce_end(Lacks::Memory, 5), &course);
+    let mut inlet = with_notes(scarce_end(Lacks::Memory, 5), &course);
     let all = Produced {
         sent: 5,
         fault: None,

@@ -15,8 +15,8 @@ loop-preserved-in-Err-Contended g c = (
   called_more g.I.InPlaceInlet.does c.args.end.now c.loop.end c.try_claim.new.self _ c.loop.invariant.4 c.try_claim.ensures.called,
 )
 
-pub loop-preserved-in-Err-Refused-NoRoom : goal.loop-preserved-in-Err-Refused-NoRoom
-loop-preserved-in-Err-Refused-NoRoom g c = (
+pub loop-preserved : goal.loop-preserved
+loop-preserved g c = (
   tt,
   tt,
   c.try_claim.ensures.kept ∙ c.loop.invariant.2,
