@@ -1,10 +1,10 @@
 -- What a sender sent of its input.
-use Rattle.std.proofs.Common.{◌≡◌, ℕ, ◌+◌, Bool, true, false, List, [], ◌∷◌, ◌++◌, length, drop, Option, None, Some, Result, Ok, Err, refl, sym, ◌∙◌, ap, arith, append-nil, append_assoc}
+use Rattle.std.proofs.Common.{◌≡◌, ℕ, ◌+◌, Bool, true, false, List, [], ◌∷◌, ◌++◌, length, drop, Option, None, Some, Result, Ok, Err, sym, ◌∙◌, ap, arith, append-nil, append_assoc}
 use Rattle.std.specs.Prelude.{IfErr, OnOk, is_err}
 use Rattle.std.proofs.lemmas.Bool.{false≢true}
 use Rattle.dr_seq.specs.declared.event.Event.{Event}
+use Rattle.dr_meaning.specs.Calls.Calling.{InPlaceInletCall}
 use Rattle.dr_meaning.specs.Calls.InPlaceInlets.{Sending}
-use Rattle.dr_meaning.specs.declared.claim_fault.ClaimFault.{ClaimFault}
 use Rattle.dr_meaning.specs.declared.refusal.Refusal.{Refusal}
 use Rattle.dr_plain.proofs.Rowing.{dropped_next}
 use Rattle.dr_disruptor.specs.Sending.{Fills, IsNth, StopsAfter}
@@ -41,10 +41,10 @@ sent_part r stream after known left came part old new comes fills sent = record 
 }
 
 -- where a claim of its operations was refused
-module _ {I K : Type 0} (kept : I → K) (sending : I → Sending Event) (refuses : I → ℕ → ClaimFault → I → Type 0) (n cut : ℕ) (old new : I) where
+module _ {I K : Type 0} (kept : I → K) (sending : I → Sending Event) (does : I → InPlaceInletCall → I → Type 0) (n cut : ℕ) (old new : I) where
   pub refused_part : (claims : Result (Unit {0}) Refusal) (r : Result Bool LedgerFault) (stream after : EventStream) (known left : Option (List ℕ))
       → (came : List Event) → is_err claims ≡ true
-      → IfErr claims (λ refusal. StopsAfter (IsNth came) kept sending refuses n cut refusal old new) → TurnCame r stream after known left came
+      → IfErr claims (λ refusal. StopsAfter (IsNth came) kept sending does n cut refusal old new) → TurnCame r stream after known left came
       → FeedsOnce (Err fault.Full) stream after known left (sending old).published (sending new).published
   refused_part (Ok done) r stream after known left came bad refused comes = absurd (false≢true bad)
   refused_part (Err refusal) r stream after known left came bad refused comes =

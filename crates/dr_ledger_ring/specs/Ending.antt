@@ -1,5 +1,5 @@
 -- What a run of a ledger over the ring stores and answers: `seen` and the others are its devices'.
-use Rattle.std.specs.Prelude.{◌≡◌, ℕ, List, [], ◌++◌, length, Option, None, Some, Result}
+use Rattle.std.specs.Prelude.{◌≡◌, ℕ, List, ◌++◌, length, Option, None, Some, Result}
 use Rattle.dr_seq.specs.declared.event.Event.{Event}
 use Rattle.dr_meaning.specs.Calls.Handling.{Relation}
 use Rattle.dr_workers.specs.Meaning.Work.{Dealt, dealt_events}

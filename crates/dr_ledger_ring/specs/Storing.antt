@@ -1,5 +1,5 @@
 -- A handler that journals where there is a journal.
-use Rattle.std.specs.Prelude.{◌≡◌, ℕ, Bool, [], Option, None, Some}
+use Rattle.std.specs.Prelude.{◌≡◌, [], Option, None, Some}
 use Rattle.dr_meaning.specs.Calls.Handling.{Relation}
 use Rattle.dr_journal.specs.declared.device.Device.{Ghosts}
 use Rattle.dr_journal.specs.Calls.Writers.{writer_of}
