@@ -4,8 +4,9 @@
     tests/over_c.py PROGRAM LIBRARY [RUNS [FIRST]]
 
 Every run is of one sender or of several, of events of two words, of bytes or in slots, of a graph, a size, a limit and calls of its
-own, by the seeds FIRST, FIRST + 1 and so on. Many calls are refused. A ring of one sender says that it drained only once it is
-closed, so a run halts at its end, where all that is claimed is published.
+own, by the seeds FIRST, FIRST + 1 and so on. The first ones, one of each kind, have 16 handlers, each of which follows all before it.
+Many calls are refused. A ring of one sender says that it drained only once it is closed, so a run halts at its end, where all that is
+claimed is published.
 
 In a ring of slots the events lie in a list of this program's, where they are written and read. A publication of slots is the
 commands that write what lies there of the sender's own, and then the one that publishes.
@@ -26,19 +27,22 @@ import library_calls  # noqa: E402
 CALLS = 200
 # (of handlers, and of senders)
 MOST = 16
+KINDS = ["words", "bytes", "slots", "several", "slots of several"]
 WORDS = struct.Struct("<QQ")
 
 
 class Exchange:
     """A ring over C, which says what each call answered as `drive` does, beside the records of a command file."""
 
-    def __init__(self, library, chance):
+    def __init__(self, library, chance, whole=None):
         self.chance, self.library = chance, library
         self.size = 1 << chance.randrange(6)
         self.limit = chance.choice([1, 40, library_calls.MAX_LIMIT])
         handlers = chance.randrange(1, chance.choice([6, MOST + 1]))
         masks = [sum(1 << up for up in range(k) if chance.random() < 0.4) for k in range(handlers)]
-        kind = chance.choice(["words", "bytes", "slots", "several", "slots of several"])
+        kind = chance.choice(KINDS)
+        if whole:
+            handlers, masks, kind = MOST, [(1 << k) - 1 for k in range(MOST)], whole
         self.is_single, self.is_of_bytes, self.is_of_slots = "several" not in kind, kind == "bytes", "slots" in kind
         self.slots = [(0, 0)] * self.size
         if self.is_single and kind != "words":
@@ -195,7 +199,7 @@ def main():
     failed = calls = refused = 0
     with tempfile.TemporaryDirectory() as folder:
         for seed in range(first, first + runs):
-            exchange = Exchange(library, random.Random(seed))
+            exchange = Exchange(library, random.Random(seed), dict(enumerate(KINDS, first)).get(seed))
             for _ in range(CALLS):
                 exchange.step()
             as_far = exchange.goes_as_far()

@@ -1,9 +1,13 @@
 #!/usr/bin/env python3
-"""Tests of `scripts.py` and of `hostile/leaks.py`: which scripts pass, by what they say, which builds are tried, and which cases of calls."""
+"""Tests of `scripts.py`, `hostile/leaks.py` and `steps_in_laws.sh`: which scripts pass, by what they say, which builds are tried, which cases
+of calls, and which lines of a source."""
 
 import contextlib
+import glob
 import io
 import os
+import shutil
+import subprocess
 import sys
 
 sys.dont_write_bytecode = True
@@ -46,6 +50,20 @@ LOST = {
     ("disruptor_hostile.by-rattle",): ([""], 1),
     ("disruptor_waits",): ([".by-rattle"], 1),
 }
+# Lines that a source may not have: steps of a ring outside its laws, a step in a crate below that stands there already, and what an end
+# that is freed does more.
+PLANTED = {
+    "dr_runs/src/words.rt": "    words.load::<Brand>(seat, word);",
+    "dr_cells/src/row.rt": "    let look = AtomicU64::load;",
+    "dr_lent/src/slots.rt": "    words.exchange(seat, slot, token);",
+    "dr_places/src/places.rt": "        shared.store::<Tells>(&mut seat, place, LEFT);",
+    "dr_disruptor/src/running.rt": "    ring.table.shared.fetch_add::<Brand>(seat, 0, 1);",
+    "dr_ring/src/sender.rt": "        self.words.load::<Brand>(&mut self.seat, 0);",
+    "dr_plain/src/sender.rt": "        words.swap::<Brand>(&mut self.seat, 0, 1);",
+    "dr_plain_senders/src/polling.rt": "    settling::unite(words, seat, other);",
+    "dr_plain_senders/src/sender.rt": "    let one = words.fetch_max(seat, Ordering::Relaxed);",
+}
+FREES = {"dr_c/src/lib.rt": ("    opening::free_all(", "    calls::halt(alloc, &mut handles[0]);\n    opening::free_all(")}
 
 
 def built_without(room, lost):
@@ -72,6 +90,30 @@ def are_whole(room, calls):
         return leaks.is_whole(f"{room}/calls", "case")
 
 
+def keeps_to_laws(room):
+    """Whether the sources in a folder pass."""
+    return subprocess.run([f"{room}/tests/steps_in_laws.sh"], stdout=subprocess.DEVNULL, check=False).returncode == 0
+
+
+def judged_by_laws(room):
+    """The number of cases of sources, and those that are judged wrongly: each but the first has one line more than the crates."""
+    top = os.path.dirname(HERE)
+    for it in ("crates.txt", "tests/steps_in_laws.sh", *glob.glob("crates/*/src", root_dir=top)):
+        os.makedirs(os.path.dirname(f"{room}/{it}"), exist_ok=True)
+        (shutil.copytree if os.path.isdir(f"{top}/{it}") else shutil.copy)(f"{top}/{it}", f"{room}/{it}")
+    wrongly = [] if keeps_to_laws(room) else ["none"]
+    for file, change in (*PLANTED.items(), *FREES.items()):
+        with open(f"{room}/crates/{file}", encoding="utf-8") as it:
+            text = it.read()
+        changed = f"{text}{change}\n" if isinstance(change, str) else text.replace(*change)
+        for now, passes in ((changed, False), (text, True)):
+            with open(f"{room}/crates/{file}", "w", encoding="utf-8") as it:
+                it.write(now)
+            if keeps_to_laws(room) != passes:
+                wrongly.append(file)
+    return 1 + len(PLANTED) + len(FREES), wrongly
+
+
 def main():
     failed = 0
     for script, fails in SCRIPTS.items():
@@ -93,7 +135,12 @@ def main():
         if scripts.words_of(line, "", is_anew=True) != words:
             failed += 1
             print(f"FAILED: how a run that does all anew calls {line}")
-    print(f"scripts.py: {len(SCRIPTS) + len(CALLS) + len(LOST) + 2} cases, {failed} failed")
+    with together.folder("laws-") as room:
+        sources, wrongly = judged_by_laws(room)
+    for file in wrongly:
+        failed += 1
+        print(f"FAILED: how steps_in_laws.sh judges a line more in {file}")
+    print(f"scripts.py: {len(SCRIPTS) + len(CALLS) + len(LOST) + 2 + sources} cases, {failed} failed")
     return 1 if failed else 0
 
 

@@ -31,14 +31,31 @@ others_in() {
     grep -rnE '[.:]peek([^A-Za-z0-9_]|$)|then = [{] (Loads [(]λ|Stores .*[)] [(]λ)' "$src" --include='*.rt'
 }
 
-# (The tokens of plain memory are exchanged in slots that an end has in hand, which is no step. Below a ring no other call steps.)
+# (The tokens of plain memory are exchanged in slots that an end has in hand, which is no step.)
 others=$(
     others_in crates/dr_ring/src
     for ring in dr_plain dr_plain_senders; do others_in crates/$ring/src; done | grep -v '[.]exchange('
-    for below in dr_runs dr_lent dr_cells; do grep -rnE "$calls|$ends" crates/$below/src --include='*.rt'; done | grep -v '[.]exchange('
 )
 if [ -n "$others" ]; then
     printf 'a load or store that is no step of the laws, or that its contract does not tell as one:\n%s\n' "$others"
+    exit 1
+fi
+# Any other crate that names the table of words could step for a ring, and its calls do just what stands here: a token of
+# plain memory comes out of a slot that its end has in hand, which is no word, and places have words of a table of their own.
+allowed=$(
+    cat << 'END'
+crates/dr_lent/src/slots.rt: let token = words.exchange(seat, slot, Token::blank());
+crates/dr_places/src/places.rt: if shared.compare_exchange::<Takes>(&mut seat, place, EMPTY, TAKEN) != EMPTY {
+crates/dr_places/src/places.rt: let (_, mut seat) = shared.load_new_seat::<Tells>(place);
+crates/dr_places/src/places.rt: let was = shared.exchange(&mut seat, place, Some(left));
+crates/dr_places/src/places.rt: shared.store::<Tells>(&mut seat, place, LEFT);
+END
+)
+named=$(awk -F: '$2 ~ /(^| )atomic_table( |$)/ { split($1, it, " "); print it[1] }' crates.txt | grep -vE '_tests$|^dr_(ring|plain|plain_senders)$')
+found=$(for crate in $named; do grep -rnE "$calls|\b(split_seat|join_seat)\b" "crates/$crate/src" --include='*.rt'; done | grep -v ':use ' | sed -E 's/^([^:]*):[0-9]+: */\1: /')
+others=$(diff <(sort <<< "$allowed") <(sort <<< "$found") | grep '^[<>]')
+if [ -n "$others" ]; then
+    printf 'steps outside a ring: what is gone of those that are no step of it (<), and what is new (>):\n%s\n' "$others"
     exit 1
 fi
 # That a look after a store sees what came before another's look after its own is so of these alone.
@@ -60,6 +77,18 @@ dropped=$(cat crates/dr_plain/src/*.rt crates/dr_plain/src/laws/*.rt crates/dr_p
 ends=$(grep -cE '^impl.* Drop for (Sender|Receiver|Halter)<' <<< "$dropped") left=$(grep -cE '^    +drop\(ring\.[a-z]+\.leave\(' <<< "$dropped")
 if [ "$ends" != 6 ] || [ "$left" != 6 ]; then
     echo "of six ends that may be dropped $ends are found, and $left that leave what they hold"
+    exit 1
+fi
+# Nor if an end that C frees does. A clause says it of a handle; what frees handles does nothing else.
+body_of() { awk -v head=" fn $1[(]" '$0 ~ head { inside = 1 } inside && /^}/ { exit } at { print } inside && /^{/ { at = 1 }' "$2"; }
+freed=$(body_of free_all crates/dr_c/src/opening.rt; body_of disruptor_free_at crates/dr_c/src/lib.rt)
+if [ "$freed" != '    let mut left = handles.len();
+    while left > 0 {
+        left -= 1;
+        drop(handles[left].free(alloc));
+    }
+    opening::free_all(alloc, handles);' ]; then
+    printf 'an end that is freed does more than to be dropped:\n%s\n' "$freed"
     exit 1
 fi
 echo 'each load and store of a ring is a step of its laws, and a dropped end does no more than leave'

@@ -21,7 +21,7 @@ from run import HERE, NO_MEMORY, WAYS, Ran, merged_like
 
 # The calls of the library, and those of them that take no memory once something is open.
 CALLS = ("builder", "build", "open", "record", "ring", "plain", "plain-dropped", "plain-senders", "plain-senders-dropped", "run")
-CALLS += ("call", "audit", "feeds")
+CALLS += ("call", "audit", "run-one", "run-senders", "run-here", "run-locked")
 TAKING_NONE = ("core", "many", "ends", "plain-ends", "plain-senders-ends", "settled", "kept", "locked", "parts")
 
 DIAMOND = """ring,2,single
@@ -77,8 +77,8 @@ OF_ONE = OPERATIONS.replace("2,transfer", "0,transfer")
 # How many threads a replay of OPERATIONS starts: one for each of three handlers, and by lock one for each of the
 # producers 0, 1 and 2.
 THREADS = {"ring": 3, "lock": 6}
-# And how many a run of two senders through two handlers does.
-THREADS_OF_FEEDS = 4
+# And how many each run in one call does: one for each of two handlers, and one for each of several senders.
+THREADS_OF_RUNS = {"run-one": 2, "run-senders": 4, "run-locked": 4}
 
 Met = namedtuple("Met", "ran requests refused synced")
 
@@ -222,8 +222,11 @@ def refuse_threads(refusing, program, calls):
         kind_of = kind_by_lock if way == "lock" else kind_of_replay
         kinds = refusing.refuse_each(f"replay by {way}, a thread", words, kind_of, threads=1)
         refusing.judge(f"replay by {way}, how many threads", kinds == {"no-memory": threads}, kinds)
-    kinds = refusing.refuse_each("calls of case feeds, a thread", [calls, "feeds"], kind_of_calls, threads=1)
-    refusing.judge("calls of case feeds, how many threads", kinds == {"made again": THREADS_OF_FEEDS}, kinds)
+    for case, threads in THREADS_OF_RUNS.items():
+        kinds = refusing.refuse_each(f"calls of case {case}, a thread", [calls, case], kind_of_calls, threads=1)
+        refusing.judge(f"calls of case {case}, how many threads", kinds == {"made again": threads}, kinds)
+    met = refusing.run([calls, "run-here"], at=1, threads=1)
+    refusing.judge("calls of case run-here, no thread", met.ran.status == 0 and not met.requests, met)
 
 
 def refuse_in_calls(refusing, calls):

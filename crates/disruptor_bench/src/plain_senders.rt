@@ -7,7 +7,7 @@ use crate::measured::Round;
 use crate::threads::{MOST_AT_ONCE, Pace, Works, finish, in_stretch, join, start, stretch};
 use crate::width::{Made, Words};
 use dr_meaning::{MAX_LIMIT, Polled};
-use dr_plain_senders::{Halter, Receiver, Sender, senders_ring};
+use dr_plain_senders::{Halter, Receiver, Sender, ring};
 use dr_workers::Waiting;
 use std::alloc::Global;
 use std::rt::Clock;
@@ -60,7 +60,7 @@ fn ends(
 ) -> Result<(Vec<Sender<Two>>, Vec<Receiver<Two>>, Halter<Two>), Fault> {
     let graph = order.topology.shape.graph(alloc)?;
     let events = vec![in alloc; Two::at(0); order.size.get() as usize]?;
-    match senders_ring(
+    match ring(
         alloc,
         &graph,
         order.size,

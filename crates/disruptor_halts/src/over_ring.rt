@@ -11,7 +11,6 @@ use crate::signs::Signs;
 use crate::stretch::Stretch;
 use crate::told::Told;
 use dr_meaning::MAX_LIMIT;
-use dr_plain_senders::senders_ring;
 use dr_ring::{Halter, Receiver, Sender, ring};
 use dr_seq::Event;
 use std::alloc::Global;
@@ -182,7 +181,7 @@ fn open_with_several(
     let graph = graph(alloc, random)?;
     let count = random.below(MOST_SENDERS).saturating_add(1) as usize;
     let events = vec![in alloc; Event::NONE; size.get() as usize]?;
-    let made = senders_ring(alloc, &graph, size, MAX_LIMIT, count, events);
+    let made = dr_plain_senders::ring(alloc, &graph, size, MAX_LIMIT, count, events);
     let (senders, receivers, halter) = made?;
     Ok(Opened {
         inlets: senders,

@@ -3,8 +3,8 @@
 use crate::building::{tell_builder, tell_built};
 use crate::core_calls::{OfCore, tell_core, tell_opened};
 use crate::fault::Fault;
-use crate::feeds::tell_feeds;
 use crate::graphs::diamond;
+use crate::in_one_call::{OfRun, tell_run};
 use crate::locking::tell_locked;
 use crate::parts::tell_parts;
 use crate::plain_calls::{tell_plain, tell_plain_ends};
@@ -57,12 +57,12 @@ pub enum Case {
     Over(Over),
     /// A history behind a lock: its ends, and how they come together.
     Locked,
-    /// A run in one call, with a thread for each of two handlers and of two senders.
-    Feeds,
+    /// A run in one call.
+    InOneCall(OfRun),
 }
 
 /// The cases, with their names on the command line.
-pub const CASES: [(&str, Case); 22] = [
+pub const CASES: [(&str, Case); 25] = [
     ("builder", Case::Builder),
     ("build", Case::Build),
     ("open", Case::Open),
@@ -78,7 +78,10 @@ pub const CASES: [(&str, Case); 22] = [
     ("run", Case::Core(OfCore::Run)),
     ("call", Case::History(OfHistory::Calls)),
     ("audit", Case::History(OfHistory::Audits)),
-    ("feeds", Case::Feeds),
+    ("run-one", Case::InOneCall(OfRun::One)),
+    ("run-senders", Case::InOneCall(OfRun::Several)),
+    ("run-here", Case::InOneCall(OfRun::Here)),
+    ("run-locked", Case::InOneCall(OfRun::Locked)),
     ("core", Case::Core(OfCore::EveryCall)),
     ("many", Case::Core(OfCore::Many)),
     ("ends", Case::Over(Over::Ends)),
@@ -122,7 +125,7 @@ fn tell_over_diamond<R: Print>(out: &Lines<R>, alloc: Global, over: Over) {
     }
 }
 
-fn tell_once<R: Print + Threads + Wait + Copy + Send + 'static>(
+fn tell_once<R: Print + Threads + Wait + Copy + Send + Sync + 'static>(
     out: &Lines<R>,
     alloc: Global,
     case: Case,
@@ -135,13 +138,13 @@ fn tell_once<R: Print + Threads + Wait + Copy + Send + 'static>(
         Case::History(what) => tell_history(out, alloc, what),
         Case::Over(over) => tell_over_diamond(out, alloc, over),
         Case::Locked => tell_locked(out, alloc),
-        Case::Feeds => tell_feeds(out, alloc),
+        Case::InOneCall(of) => tell_run(out, alloc, of),
     }
 }
 
 /// Makes the calls of a case. But for the builder's, which ends by a call that spends the builder, they are made again
 /// where memory runs out: it can do so before the first line alone.
-pub fn tell<R: Print + Threads + Wait + Copy + Send + 'static>(
+pub fn tell<R: Print + Threads + Wait + Copy + Send + Sync + 'static>(
     rt: &R,
     alloc: Global,
     case: Case,

@@ -1,6 +1,9 @@
 //! Why the program ends early.
 
+use dr_disruptor::RunFault;
+use dr_disruptor_lock::{HistoryFault, LockedFault};
 use dr_graph::GraphFault;
+use dr_lock::AuditFault;
 use dr_meaning::{OpenFault, Refusal};
 use dr_ring::RingFault;
 use dr_seq::SizeFault;
@@ -91,6 +94,25 @@ impl From<RingFault> for Fault {
         match fault {
             RingFault::NoMemory => Fault::Memory,
             _ => Fault::Refused(fault.name()),
+        }
+    }
+}
+
+impl From<RunFault> for Fault {
+    fn from(fault: RunFault) -> Fault {
+        match fault {
+            RunFault::Memory => Fault::Memory,
+            _ => Fault::Refused("a run"),
+        }
+    }
+}
+
+impl From<LockedFault> for Fault {
+    fn from(fault: LockedFault) -> Fault {
+        match fault {
+            // The audit asks for memory of its own, once the run is over.
+            LockedFault::History(HistoryFault::Audit(AuditFault::NoMemory)) => Fault::Memory,
+            _ => Fault::Refused("a run behind a lock"),
         }
     }
 }

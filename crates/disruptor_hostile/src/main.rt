@@ -11,8 +11,8 @@ mod by_traits;
 mod cases;
 mod core_calls;
 mod fault;
-mod feeds;
 mod graphs;
+mod in_one_call;
 mod locking;
 mod parts;
 mod plain_calls;
@@ -36,7 +36,7 @@ use std::rt::Runtime;
 use std::sync::Wait;
 use std::thread::Threads;
 
-fn tell_named<R: Print + Threads + Wait + Copy + Send + 'static>(
+fn tell_named<R: Print + Threads + Wait + Copy + Send + Sync + 'static>(
     rt: &R,
     alloc: Global,
     name: &str,
@@ -46,7 +46,7 @@ fn tell_named<R: Print + Threads + Wait + Copy + Send + 'static>(
     tell(rt, alloc, case)
 }
 
-fn tell_all<R: Print + Threads + Wait + Copy + Send + 'static>(
+fn tell_all<R: Print + Threads + Wait + Copy + Send + Sync + 'static>(
     rt: &R,
     alloc: Global,
 ) -> Result<(), Fault> {
@@ -56,7 +56,7 @@ fn tell_all<R: Print + Threads + Wait + Copy + Send + 'static>(
     Ok(())
 }
 
-fn tell_word<R: Print + Threads + Wait + Copy + Send + 'static>(
+fn tell_word<R: Print + Threads + Wait + Copy + Send + Sync + 'static>(
     rt: &R,
     alloc: Global,
     word: &str,
@@ -70,7 +70,7 @@ fn tell_word<R: Print + Threads + Wait + Copy + Send + 'static>(
     }
 }
 
-fn run<R: Runtime + Alloc<A = Global> + Threads + Wait + Copy + Send + 'static>(
+fn run<R: Runtime + Alloc<A = Global> + Threads + Wait + Copy + Send + Sync + 'static>(
     rt: &R,
 ) -> Result<(), Fault> {
     let alloc = rt.alloc();

@@ -1,7 +1,7 @@
 //! A ring over plain memory: how it is made, and the calls of its ends, none of which takes memory.
 
 ghost use Rattle.std.specs.Prelude.{IfOk};
-ghost use Rattle.dr_plain.specs.Calls.Settling.{AreAllEnds, IsHalterOf};
+ghost use Rattle.dr_plain.specs.Calls.Settling.{AreAllEnds};
 
 use crate::again::again;
 use crate::by_traits::{tell_inlet, tell_outlets};
@@ -12,7 +12,7 @@ use crate::taking_none::tell_memory;
 use crate::telling::Lines;
 use dr_graph::Graph;
 use dr_meaning::MAX_LIMIT;
-use dr_plain::{Halter, Receiver, Sender, Values, finish, ring};
+use dr_plain::{Halter, Receiver, Sender, Values, ring, settle_all};
 use dr_seq::{Event, Size};
 use std::alloc::Global;
 
@@ -21,7 +21,7 @@ type Ends = (Sender<Event>, Vec<Receiver<Event>>, Halter<Event>);
 
 /// The ends of a ring of four slots.
 fn opened(alloc: Global, graph: &Graph) -> Result<Ends, Fault>
-    ensures { IfOk result (λ ends. AreAllEnds ends.0 ends.1.items × IsHalterOf ends.0 ends.2) }
+    ensures { IfOk result (λ ends. AreAllEnds ends.0 ends.1.items ends.2) }
 {
     let size = Size::new(4)?;
     let events = vec![in alloc; Event::NONE; 4]?;
@@ -105,10 +105,10 @@ pub fn tell_back<R: Print>(
 
 // Brings the ends of a ring together, and tells what came back.
 fn tell_finished<R: Print>(out: &Lines<R>, alloc: Global, ends: Ends)
-    requires { AreAllEnds ends.0 ends.1.items × IsHalterOf ends.0 ends.2 }
+    requires { AreAllEnds ends.0 ends.1.items ends.2 }
 {
     let (sender, receivers, halter) = ends;
-    let (settled, mut events) = finish(sender, receivers, halter);
+    let (settled, mut events) = settle_all(sender, receivers, halter);
     let (claimed, handlers) = (settled.claimed(), settled.handlers());
     tell_back(out, alloc, claimed, handlers, &mut events);
 }

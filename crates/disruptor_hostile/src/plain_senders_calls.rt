@@ -10,7 +10,7 @@ use crate::plain_calls::{make_five, tell_back};
 use crate::plain_senders_making::{Ends, opened};
 use crate::telling::Lines;
 use dr_graph::Graph;
-use dr_plain_senders::{Receiver, Sender, finish};
+use dr_plain_senders::{Receiver, Sender, settle_all};
 use dr_seq::Event;
 use std::alloc::Global;
 
@@ -105,7 +105,7 @@ fn tell_finished<R: Print>(out: &Lines<R>, alloc: Global, ends: Ends<Event>)
     requires { AreAllEnds ends.0.items ends.1.items ends.2 }
 {
     let (senders, receivers, halter) = ends;
-    let (settled, mut events) = finish(senders, receivers, halter);
+    let (settled, mut events) = settle_all(senders, receivers, halter);
     let (claimed, handlers) = (settled.claimed(), settled.handlers());
     tell_back(out, alloc, claimed, handlers, &mut events);
 }

@@ -8,7 +8,7 @@ use crate::fault::Fault;
 use crate::telling::Lines;
 use dr_graph::Graph;
 use dr_meaning::MAX_LIMIT;
-use dr_plain_senders::{Halter, Receiver, Sender, finish, senders_ring};
+use dr_plain_senders::{Halter, Receiver, Sender, ring, settle_all};
 use dr_seq::Size;
 use std::alloc::{AllocError, Global};
 use std::sync::Arc;
@@ -21,7 +21,7 @@ pub fn opened<T: Drop>(alloc: Global, graph: &Graph, events: Vec<T>) -> Result<E
     ensures { IfOk result (λ ends. AreAllEnds ends.0.items ends.1.items ends.2) }
 {
     let size = Size::new(events.len() as u64)?;
-    Ok(senders_ring(alloc, graph, size, MAX_LIMIT, 2, events)?)
+    Ok(ring(alloc, graph, size, MAX_LIMIT, 2, events)?)
 }
 
 /// An event that has a part in a number, in which nobody else has one but who keeps the numbers.
@@ -105,7 +105,7 @@ fn tell_back<R: Print>(out: &Lines<R>, ends: Ends<Counted>, count: usize)
     requires { AreAllEnds ends.0.items ends.1.items ends.2 }
 {
     let (senders, receivers, halter) = ends;
-    let (settled, mut events) = finish(senders, receivers, halter);
+    let (settled, mut events) = settle_all(senders, receivers, halter);
     out.between(settled.claimed(), " ", settled.handlers());
     for _ in 0..count {
         tell_event(out, events.next());

@@ -1,6 +1,6 @@
 pub mod Values
-pub mod Upto
 pub mod Lengths
+pub mod Asked
 pub mod Opened
 pub mod OpenedBytes
 pub mod OpenedSeveral

@@ -36,9 +36,6 @@ found_in such v (p ∷ own) (x ∷ writes) zero o w there at =
     (chosen (such p.sequence) v x w (some-injective _ w at))
 found_in such v (p ∷ own) (x ∷ writes) (suc i) o w there at = found_in such v own writes i o w there at
 
-none_event : Event
-none_event = record { first = 0; second = 0 }
-
 -- An end has the sequences that it had, of the same plan.
 abbrev pub StaysOwn : SenderEnd Event → SenderEnd Event → Type 0
 StaysOwn e a = (a.knows.own ≡ e.knows.own) × (a.plan ≡ e.plan)
@@ -48,8 +45,7 @@ module _ (C : Event → Event → Type 0) (a b : SenderEnd Event) (lo k : ℕ) w
   stays_on e (Ok done) before call =
       (ap (λ (r : SenderRecord Event). r.own) call.4.knows ∙ before.0, ap (λ (place : EndPlace Event). place.1) call.4.place ∙ before.1)
   stays_on e (Err refusal) before call =
-      let write = call none_event in
-      (ap (λ (r : SenderRecord Event). r.own) write.knows ∙ before.0, ap (λ (place : EndPlace Event). place.1) write.place ∙ before.1)
+      (ap (λ (r : SenderRecord Event). r.own) call.knows ∙ before.0, ap (λ (place : EndPlace Event). place.1) call.place ∙ before.1)
 
   written_one : OwnAreWritten a lo k → UpdateCall C a k b (Ok tt) → OwnAreWritten b lo (k + 1)
   written_one before call q t w low less has =
@@ -69,11 +65,10 @@ module _ (C : Event → Event → Type 0) (a b : SenderEnd Event) (lo k : ℕ) w
 
   written_still : (refusal : Refusal) → OwnAreWritten a lo k → UpdateCall C a k b (Err refusal) → OwnAreWritten b lo k
   written_still refusal before call q t w low less has =
-      let write = call none_event in
       before q t w low less (
         has.0,
-        ap (λ (r : SenderRecord Event). get_elem? r.own has.0) (sym write.knows) ∙ has.1,
-        ap (λ (ws : List (Option Event)). get_elem? ws has.0) (sym write.writes) ∙ has.2,
+        ap (λ (r : SenderRecord Event). get_elem? r.own has.0) (sym call.knows) ∙ has.1,
+        ap (λ (ws : List (Option Event)). get_elem? ws has.0) (sym call.writes) ∙ has.2,
       )
 
 -- One of a sender's own that it cannot write is published.
@@ -103,7 +98,6 @@ module _ (C : Event → Event → Type 0) (e a b : SenderEnd Event) (lo upto k :
 
   writes_refused : (refusal : Refusal) → k < upto → UpdateCall C a k b (Err refusal) → WritesOwn b lo upto
   writes_refused refusal less call =
-      let write = call none_event in
       let here : HasEachOnce a.knows.own = subst (λ (own : List (Own Event)). HasEachOnce own) (sym stays.0) once in
       let limit : e.plan.limit ≡ a.plan.limit = ap (λ (p : Shape Event). p.limit) (sym stays.1) in
       let below : k < a.plan.limit = omega arith in (
@@ -113,8 +107,8 @@ module _ (C : Event → Event → Type 0) (e a b : SenderEnd Event) (lo upto k :
         inr (
           less,
           λ t own.
-              by_sight a k write.sight refusal here below write.sees write.asked write.answer t
-              (own.0, ap (λ (r : SenderRecord Event). get_elem? r.own own.0) (sym write.knows) ∙ own.1),
+              by_sight a k call.sight refusal here below call.sees call.asked call.answer t
+              (own.0, ap (λ (r : SenderRecord Event). get_elem? r.own own.0) (sym call.knows) ∙ own.1),
         ),
       )
 

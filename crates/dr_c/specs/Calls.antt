@@ -82,10 +82,10 @@ OfEachReceiver other end' number Same Call OfSeveral OfBytes = OfReceiver other 
 abbrev pub HaltsBy : End → End → ℕ → Type 0
 HaltsBy (Halter h) end' number = (h' : HalterEnd) × (end' ≡ Halter h') × (number ≡ 0) × HasStored h HalterHalts (halter_halted h.knows) h'
 HaltsBy (HalterOfSeveral h) end' number =
-    (h' : several.HalterStand Event) × (found : ℕ) × (end' ≡ HalterOfSeveral h') × (number ≡ 0)
+    (h' : several.HalterEnd Event) × (found : ℕ) × (end' ≡ HalterOfSeveral h') × (number ≡ 0)
     × several.HasStored h steps_of_several.HalterHalts (records_of_several.halter_halted h.knows found) h.hand h'
 HaltsBy (HalterOfBytes h) end' number =
-    (h' : plain.HalterStand (List ℕ)) × (end' ≡ HalterOfBytes h') × (number ≡ 0)
+    (h' : plain.HalterEnd (List ℕ)) × (end' ≡ HalterOfBytes h') × (number ≡ 0)
     × plain.HasStored h steps_of_bytes.HalterHalts (records_of_bytes.halter_halted h.knows) h.hand h'
 HaltsBy other end' number = (end' ≡ other) × (number ≡ wrong_end)
 

@@ -1,7 +1,7 @@
 -- How a ring of bytes comes into handles.
 use Rattle.std.specs.Prelude.{◌≡◌, ℕ, Option, Some, List, Result, Ok, Err, length, map, replicate}
 use denote.RawPtr.{Ptr}
-use Rattle.dr_plain.specs.Calls.Ends.{ReceiverEnd, HalterStand}
+use Rattle.dr_plain.specs.Calls.Ends.{ReceiverEnd, HalterEnd}
 use Rattle.dr_plain.specs.Calls.Making.{AreFreshEnds}
 use Rattle.dr_c.specs.declared.end.End.{End}
 use Rattle.dr_c.specs.declared.end.End.TheVariants.{SenderOfBytes, ReceiverOfBytes, HalterOfBytes}
@@ -12,7 +12,7 @@ use Rattle.dr_c.specs.OpenFault.{IsFine, IsWhy}
 use Rattle.dr_c.specs.Opening.{FollowsMasks, are_open, ends_in, has, told_of_opening}
 
 -- the ends of a new ring of a size, a limit and masks, in whose cells there are so many zeros each
-pub record AreOpened (size limit bytes : ℕ) (masks : List ℕ) (w : Writer) (rs : List (ReceiverEnd (List ℕ))) (h : HalterStand (List ℕ)) : Type 0 where
+pub record AreOpened (size limit bytes : ℕ) (masks : List ℕ) (w : Writer) (rs : List (ReceiverEnd (List ℕ))) (h : HalterEnd (List ℕ)) : Type 0 where
   pub graph : List (List ℕ)
   pub all : length graph ≡ length masks
   pub follows : FollowsMasks graph masks
@@ -24,7 +24,7 @@ pub record AreOpened (size limit bytes : ℕ) (masks : List ℕ) (w : Writer) (r
 pub record OpensBy (size limit bytes : ℕ) (masks : List ℕ) (sender : Option End) (receivers : List (Option End)) (halter : Option End) : Type 0 where
   pub w : Writer
   pub rs : List (ReceiverEnd (List ℕ))
-  pub h : HalterStand (List ℕ)
+  pub h : HalterEnd (List ℕ)
   pub opened : AreOpened size limit bytes masks w rs h
   pub sends : sender ≡ Some (SenderOfBytes w)
   pub receives : receivers ≡ map has (map ReceiverOfBytes rs)

@@ -4,7 +4,7 @@ use Rattle.std.specs.List.{list_any}
 use denote.RawPtr.{Ptr}
 use Rattle.dr_seq.specs.declared.event.Event.{Event}
 use Rattle.dr_seq.specs.Event.{no_event}
-use Rattle.dr_plain_senders.specs.Calls.Ends.{SenderEnd, ReceiverEnd, HalterStand}
+use Rattle.dr_plain_senders.specs.Calls.Ends.{SenderEnd, ReceiverEnd, HalterEnd}
 use Rattle.dr_plain_senders.specs.Calls.Making.{AreFreshEnds}
 use Rattle.dr_c.specs.declared.end.End.{End}
 use Rattle.dr_c.specs.declared.end.End.TheVariants.{SenderOfSeveral, ReceiverOfSeveral, HalterOfSeveral}
@@ -14,7 +14,7 @@ use Rattle.dr_c.specs.OpenFault.{IsFine, IsWhy}
 use Rattle.dr_c.specs.Opening.{FollowsMasks, ends_in, has, told_of_opening}
 
 -- the ends of a new ring of a size, a limit, masks and so many senders, whose events are of zeros
-pub record AreOpened (size limit : ℕ) (masks : List ℕ) (senders : ℕ) (ss : List (SenderEnd Event)) (rs : List (ReceiverEnd Event)) (h : HalterStand Event)
+pub record AreOpened (size limit : ℕ) (masks : List ℕ) (senders : ℕ) (ss : List (SenderEnd Event)) (rs : List (ReceiverEnd Event)) (h : HalterEnd Event)
     : Type 0 where
   pub graph : List (List ℕ)
   pub all : length graph ≡ length masks
@@ -26,7 +26,7 @@ pub record AreOpened (size limit : ℕ) (masks : List ℕ) (senders : ℕ) (ss :
 pub record OpensBy (size limit : ℕ) (masks : List ℕ) (count : ℕ) (senders receivers : List (Option End)) (halter : Option End) : Type 0 where
   pub ss : List (SenderEnd Event)
   pub rs : List (ReceiverEnd Event)
-  pub h : HalterStand Event
+  pub h : HalterEnd Event
   pub opened : AreOpened size limit masks count ss rs h
   pub sends : senders ≡ map has (map SenderOfSeveral ss)
   pub receives : receivers ≡ map has (map ReceiverOfSeveral rs)

@@ -1,17 +1,15 @@
 -- What a halter tells of how far its ring came.
 use Rattle.std.specs.Prelude.{◌≡◌, ◌<◌, ◌≤◌, ◌⊎◌, ℕ, List}
 use Rattle.dr_seq.specs.declared.event.Event.{Event}
-use Rattle.dr_runs.specs.Looks.{last_look}
-use Rattle.dr_runs.specs.Words.{cursor_word, count_word}
+use Rattle.dr_runs.specs.Looks.{last_look, FindsMore}
+use Rattle.dr_runs.specs.OneSender.Words.{cursor_word, count_word}
 use Rattle.dr_plain_senders.specs.Meaning.Shape as shape_of_several
 use Rattle.dr_plain_senders.specs.Meaning.Words as words_of_several
 use Rattle.dr_plain_senders.specs.Meaning.Records as records_of_several
 use Rattle.dr_plain_senders.specs.Calls.Ends as several
-use Rattle.dr_plain_senders.specs.Calls.Finds as finds_of_several
 use Rattle.dr_plain.specs.Meaning.Shape.{handlers_of}
 use Rattle.dr_plain.specs.Meaning.Records as records_of_bytes
 use Rattle.dr_plain.specs.Calls.Ends as plain
-use Rattle.dr_plain.specs.Calls.Finds.{FindsMore}
 use Rattle.dr_c.specs.declared.end.End.{End}
 use Rattle.dr_c.specs.declared.end.End.TheVariants.{HalterOfSeveral, HalterOfBytes}
 use Rattle.dr_c.specs.Numbers.{wrong_end, no_handler}
@@ -21,22 +19,22 @@ use Rattle.dr_c.specs.Numbers.{wrong_end, no_handler}
 -- the cursor: of one sender how many events are published, and of several how many sequences are claimed; other ends are refused
 abbrev pub TellsCursorBy : ℕ → ℕ → ℕ → End → End → Type 0
 TellsCursorBy count count' number (HalterOfSeveral h) end' =
-    (h' : several.HalterStand Event) × (found : ℕ) × (end' ≡ HalterOfSeveral h') × (number ≡ 0) × (count' ≡ words_of_several.claimed_in found)
+    (h' : several.HalterEnd Event) × (found : ℕ) × (end' ≡ HalterOfSeveral h') × (number ≡ 0) × (count' ≡ words_of_several.claimed_in found)
     × several.HasLoaded h (records_of_several.halter_looked h.knows words_of_several.claim_word found) h.hand h'
     × (words_of_several.claimed_in (last_look 0 h.knows.looks words_of_several.claim_word) ≤ count')
 TellsCursorBy count count' number (HalterOfBytes h) end' =
-    (h' : plain.HalterStand (List ℕ)) × (end' ≡ HalterOfBytes h') × (number ≡ 0)
+    (h' : plain.HalterEnd (List ℕ)) × (end' ≡ HalterOfBytes h') × (number ≡ 0)
     × plain.HasLoaded h (records_of_bytes.halter_looked h.knows cursor_word count') h.hand h' × FindsMore h.knows.looks cursor_word count'
 TellsCursorBy count count' number other end' = (end' ≡ other) × (number ≡ wrong_end) × (count' ≡ count)
 
 -- what a handler completed, if there is one of this number
-abbrev pub TellsCompletedOfSeveral : ℕ → ℕ → ℕ → ℕ → several.HalterStand Event → several.HalterStand Event → Type 0
+abbrev pub TellsCompletedOfSeveral : ℕ → ℕ → ℕ → ℕ → several.HalterEnd Event → several.HalterEnd Event → Type 0
 TellsCompletedOfSeveral handler count count' number h h' = let word : ℕ = words_of_several.count_word handler in
     ((handler < shape_of_several.handlers_of h.plan) × (number ≡ 0) × several.HasLoaded h (records_of_several.halter_looked h.knows word count') h.hand h'
-    × finds_of_several.FindsMore h.knows.looks word count')
+    × FindsMore h.knows.looks word count')
     ⊎ ((shape_of_several.handlers_of h.plan ≤ handler) × (number ≡ no_handler) × (count' ≡ count) × (h' ≡ h))
 
-abbrev pub TellsCompletedOfBytes : ℕ → ℕ → ℕ → ℕ → plain.HalterStand (List ℕ) → plain.HalterStand (List ℕ) → Type 0
+abbrev pub TellsCompletedOfBytes : ℕ → ℕ → ℕ → ℕ → plain.HalterEnd (List ℕ) → plain.HalterEnd (List ℕ) → Type 0
 TellsCompletedOfBytes handler count count' number h h' = let word : ℕ = count_word handler in
     ((handler < handlers_of h.knows.plan) × (number ≡ 0) × plain.HasLoaded h (records_of_bytes.halter_looked h.knows word count') h.hand h'
     × FindsMore h.knows.looks word count')
@@ -44,7 +42,7 @@ TellsCompletedOfBytes handler count count' number h h' = let word : ℕ = count_
 
 abbrev pub TellsCompletedBy : ℕ → ℕ → ℕ → ℕ → End → End → Type 0
 TellsCompletedBy handler count count' number (HalterOfSeveral h) end' =
-    (h' : several.HalterStand Event) × (end' ≡ HalterOfSeveral h') × TellsCompletedOfSeveral handler count count' number h h'
+    (h' : several.HalterEnd Event) × (end' ≡ HalterOfSeveral h') × TellsCompletedOfSeveral handler count count' number h h'
 TellsCompletedBy handler count count' number (HalterOfBytes h) end' =
-    (h' : plain.HalterStand (List ℕ)) × (end' ≡ HalterOfBytes h') × TellsCompletedOfBytes handler count count' number h h'
+    (h' : plain.HalterEnd (List ℕ)) × (end' ≡ HalterOfBytes h') × TellsCompletedOfBytes handler count count' number h h'
 TellsCompletedBy handler count count' number other end' = (end' ≡ other) × (number ≡ wrong_end) × (count' ≡ count)

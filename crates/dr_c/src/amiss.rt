@@ -1,6 +1,7 @@
 //! What may be amiss with a ring that is to be made. To look for it takes no memory.
 
 ghost use Rattle.std.specs.Prelude.{◌≡◌, ◌≢◌, ◌↔◌, ◌^◌, ◌<◌, ◌≤◌, false, length, IfErr, IfOk, IsTrue};
+ghost use Rattle.dr_c.specs.Asked.{AreAllowed};
 ghost use Rattle.dr_c.specs.OpenFault.{AreInOrder, IsFine, IsWhy};
 ghost use Rattle.dr_c.specs.declared.open_fault.OpenFault.TheVariants.{NoMemory};
 
@@ -36,6 +37,8 @@ pub fn checked_size(size: u64, limit: u64, masks: &[u64], senders: usize) -> Res
     // What is asked for has no fault, and it is this size.
     ensures size { IfOk result (λ made. made ≡ size) }
     ensures fine { IfOk result (λ made. IsFine false (length masks.now) senders size limit masks.now) }
+    // Its masks are of 1 to 16 handlers, each after those that it follows.
+    ensures masks { IfOk result (λ made. AreAllowed masks.now) }
     // The first fault is told, which is never memory.
     ensures refused { IfErr result (λ fault. IsWhy false (length masks.now) senders size limit masks.now fault) }
     ensures known { IfErr result (λ fault. fault ≢ NoMemory) }

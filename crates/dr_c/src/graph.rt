@@ -1,15 +1,19 @@
 //! The graph that C asks for, by masks.
 
-ghost use Rattle.std.specs.Prelude.{◌≡◌, true, length, IfErr, IfOk};
-ghost use Rattle.dr_c.specs.Opening.{handlers_in as handlers_in_mask, FollowsMasks};
+ghost use Rattle.std.specs.Prelude.{◌≡◌, ◌⊎◌, ◌+◌, ◌<◌, ◌≤◌, [], decimal, length, IfErr, IfOk, OnOk};
+ghost use Rattle.dr_c.specs.Asked.{AreAllowed, AreAsked, IsGraphOfMasks, numbered};
+ghost use Rattle.dr_c.specs.Opening.{FollowsMasks};
 ghost use Rattle.dr_c.specs.declared.open_fault.OpenFault.TheVariants.{NoMemory};
 
 use crate::open_fault::OpenFault;
-use dr_graph::{Graph, GraphBuilder, GraphFault, MAX_HANDLERS};
-use std::alloc::{AllocError, Global};
+use dr_graph::{Graph, GraphBuilder, GraphFault};
+use std::alloc::Global;
 
 // Handlers go by number in C, and have names here alone.
-fn name(handler: usize) -> &'static str {
+fn name(handler: usize) -> &'static str
+    requires { handler < 16 }
+    ensures { result.now ≡ decimal handler }
+{
     match handler {
         0 => "0",
         1 => "1",
@@ -30,23 +34,32 @@ fn name(handler: usize) -> &'static str {
     }
 }
 
-// The handlers whose bits are in a mask, rising.
-#[tactic(auto, unfolding(crate::specs::Opening::handlers_in))]
-fn handlers_in(alloc: Global, mask: u64) -> Result<Vec<usize>, AllocError>
-    ensures { IfOk result (λ ups. ups.items ≡ handlers_in_mask mask) }
+// Declares so many handlers, each named by its number.
+fn declare_all(builder: &mut GraphBuilder, handlers: usize) -> Result<(), GraphFault>
+    requires few { handlers ≤ 16 }
+    requires none { builder.old.names ≡ [] }
+    ensures names { OnOk result (builder.new.names ≡ numbered handlers) }
+    ensures edges { builder.new.edges ≡ builder.old.edges }
+    ensures memory { IfErr result (λ fault. fault ≡ GraphFault.NoMemory) }
 {
-    let mut ups = Vec::new(alloc);
-    for up in 0..MAX_HANDLERS {
-        if (mask >> up) % 2 == 1 {
-            ups.push(up)?;
-        }
+    for handler in 0..handlers {
+        let _group = builder.handle_with(&[name(handler)])?;
     }
-    Ok(ups)
+    Ok(())
 }
 
-// Puts the handlers of a mask before a handler.
-fn connect(builder: &mut GraphBuilder, mask: u64, handler: usize) -> Result<(), GraphFault> {
-    for up in 0..MAX_HANDLERS {
+// Puts before a handler those before it whose bits are in its mask.
+fn connect(builder: &mut GraphBuilder, masks: &[u64], handler: usize) -> Result<(), GraphFault>
+    requires few { length masks.now ≤ 16 }
+    requires here { handler < length masks.now }
+    requires names { builder.old.names ≡ numbered (length masks.now) }
+    requires edges { AreAsked masks.now handler 0 builder.old.edges }
+    ensures names { builder.new.names ≡ builder.old.names }
+    ensures edges { OnOk result (AreAsked masks.now (handler + 1) 0 builder.new.edges) }
+    ensures memory { IfErr result (λ fault. fault ≡ GraphFault.NoMemory) }
+{
+    let mask = masks[handler];
+    for up in 0..handler {
         if (mask >> up) % 2 == 1 {
             builder.edge(name(up), name(handler))?;
         }
@@ -54,64 +67,55 @@ fn connect(builder: &mut GraphBuilder, mask: u64, handler: usize) -> Result<(), 
     Ok(())
 }
 
-fn connect_all(builder: &mut GraphBuilder, masks: &[u64]) -> Result<(), GraphFault> {
-    for (handler, mask) in masks.iter().enumerate() {
-        connect(builder, *mask, handler)?;
+fn connect_all(builder: &mut GraphBuilder, masks: &[u64]) -> Result<(), GraphFault>
+    requires few { length masks.now ≤ 16 }
+    requires names { builder.old.names ≡ numbered (length masks.now) }
+    requires none { builder.old.edges ≡ [] }
+    ensures names { builder.new.names ≡ builder.old.names }
+    ensures edges { OnOk result (AreAsked masks.now (length masks.now) 0 builder.new.edges) }
+    ensures memory { IfErr result (λ fault. fault ≡ GraphFault.NoMemory) }
+{
+    for handler in 0..masks.len() {
+        connect(builder, masks, handler)?;
     }
     Ok(())
 }
 
-fn declare_all(builder: &mut GraphBuilder, handlers: usize) -> Result<(), GraphFault> {
-    for handler in 0..handlers {
-        let _group = builder.handle_with(&[name(handler)])?;
-    }
-    Ok(())
-}
-
-fn built(alloc: Global, masks: &[u64]) -> Result<Graph, GraphFault> {
+// The graph that masks ask for. It lacks memory, or there is no mask; nothing else refuses it.
+fn built(alloc: Global, masks: &[u64]) -> Result<Graph, GraphFault>
+    requires { length masks.now ≤ 16 }
+    ensures asked { IfOk result (λ graph. IsGraphOfMasks masks.now graph) }
+    ensures refused { IfErr result (λ fault. (fault ≡ GraphFault.NoMemory) ⊎ ((fault ≡ GraphFault.NoHandlers) × (length masks.now ≡ 0))) }
+{
     let mut builder = GraphBuilder::new(alloc);
     declare_all(&mut builder, masks.len())?;
     connect_all(&mut builder, masks)?;
     builder.build()
 }
 
-fn are_equal(one: &[usize], other: &[usize]) -> bool
-    ensures { result ≡ true → one.now ≡ other.now }
+// What a graph lacks that nothing refuses.
+fn lacking(fault: GraphFault) -> OpenFault
+    requires { fault ≡ GraphFault.NoMemory }
+    ensures { result ≡ NoMemory }
 {
-    one == other
-}
-
-// Whether handlers have the numbers of their masks. They do wherever masks are in order, which is not proved: no other graph is opened.
-fn follows_masks(alloc: Global, graph: &Graph, masks: &[u64]) -> Result<bool, AllocError>
-    requires { length graph.now.upstreams ≡ length masks.now }
-    ensures { IfOk result (λ follows. follows ≡ true → FollowsMasks graph.now.upstreams masks.now) }
-{
-    for k in 0..masks.len() {
-        let ups = handlers_in(alloc, masks[k])?;
-        if !are_equal(ups.as_slice(), graph.upstreams(k)) {
-            return Ok(false);
-        }
+    match fault {
+        GraphFault::NoMemory => OpenFault::NoMemory,
+        _ => unreachable!(),
     }
-    Ok(true)
 }
 
 /// The graph of as many handlers as there are masks, in which handler `k` follows those whose bits are in mask `k`; or
-/// `NoMemory`.
+/// `NoMemory`, where its builder answers that.
 pub fn graph(alloc: Global, masks: &[u64]) -> Result<Graph, OpenFault>
+    requires { AreAllowed masks.now }
     // There is a handler for each mask, and it follows just those whose bits are set.
     ensures all { IfOk result (λ graph. length graph.upstreams ≡ length masks.now) }
     ensures follows { IfOk result (λ graph. FollowsMasks graph.upstreams masks.now) }
-    // It fails only for lack of memory.
+    // Of masks in order nothing is refused: only memory may be lacking.
     ensures refused { IfErr result (λ fault. fault ≡ NoMemory) }
 {
-    let Ok(graph) = built(alloc, masks) else {
-        return Err(OpenFault::NoMemory);
-    };
-    if graph.len() != masks.len() {
-        return Err(OpenFault::NoMemory);
-    }
-    match follows_masks(alloc, &graph, masks) {
-        Ok(true) => Ok(graph),
-        _ => Err(OpenFault::NoMemory),
+    match built(alloc, masks) {
+        Ok(graph) => Ok(graph),
+        Err(fault) => Err(lacking(fault)),
     }
 }

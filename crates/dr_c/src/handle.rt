@@ -1,6 +1,7 @@
 //! What C holds of an end of a ring.
 
 ghost use Rattle.std.specs.Prelude.{◌≡◌, Option, Some, None, IsSome, is_some};
+ghost use Rattle.std.specs.Option.{option_map};
 ghost use Rattle.std_heap.specs.declared.Global.{Global as Heap};
 ghost use Rattle.std_heap.specs.contracts.GlobalAllocator.TheImpl.{ghosts as heaps};
 ghost use Rattle.dr_c.specs.Handles.{held, opened};
@@ -8,6 +9,7 @@ ghost use Rattle.dr_c.specs.declared.end.End.{End};
 ghost use Rattle.dr_c.specs.contracts.end.End.{the_row as Row};
 
 use crate::end::End;
+use crate::freed::Freed;
 use crate::loose::Loose;
 use std::alloc::Global;
 use std::marker::Model;
@@ -83,12 +85,25 @@ impl Handle {
         self.state = 1;
     }
 
-    /// Frees what it has, and leaves it without an end.
-    pub(crate) fn free(&mut self, alloc: Global)
-        ensures { self.new.held.value ≡ None }
+    /// Takes the end out, if there is one.
+    fn out(&mut self, alloc: Global) -> Option<Box<End, Global>>
+        ensures end { option_map (λ end. end.value) result ≡ self.old.held.value }
+        ensures none { self.new.held.value ≡ None }
     {
         if self.is_open() {
-            let _gone = self.take(alloc);
+            Some(self.take(alloc))
+        } else {
+            None
         }
+    }
+
+    /// Frees what it has, and leaves it without an end.
+    pub(crate) fn free(&mut self, alloc: Global) -> Freed<End>
+        // What is freed is the end as it was: nothing is called on it before.
+        ensures freed { option_map (λ end. end.value) result.last.value ≡ self.old.held.value }
+        ensures none { self.new.held.value ≡ None }
+    {
+        let end = self.out(alloc);
+        Freed::of(end)
     }
 }

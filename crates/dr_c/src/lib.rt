@@ -22,6 +22,7 @@ mod batch;
 mod bytes;
 mod calls;
 mod end;
+mod freed;
 mod graph;
 mod handle;
 mod in_place;

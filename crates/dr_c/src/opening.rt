@@ -99,7 +99,7 @@ pub fn free_all(alloc: Global, handles: &mut [Handle])
     let mut left = handles.len();
     while left > 0 {
         left -= 1;
-        handles[left].free(alloc);
+        drop(handles[left].free(alloc));
     }
 }
 

@@ -12,7 +12,7 @@ use crate::graph::graph;
 use crate::handle::Handle;
 use crate::open_fault::OpenFault;
 use crate::opening::{are_open, as_many, boxed, fill, free_all};
-use dr_plain_senders::{Halter, Receiver, Sender, senders_ring};
+use dr_plain_senders::{Halter, Receiver, Sender, ring};
 use dr_seq::Event;
 use std::alloc::Global;
 
@@ -40,7 +40,7 @@ fn ends(
         return Err(OpenFault::NoMemory);
     };
     // (the senders and the limit are good ones by now)
-    match senders_ring(alloc, &graph, size, limit, senders, events) {
+    match ring(alloc, &graph, size, limit, senders, events) {
         Ok(ends) => Ok(ends),
         Err(_) => Err(OpenFault::NoMemory),
     }

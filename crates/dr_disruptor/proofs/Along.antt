@@ -6,7 +6,7 @@ use Rattle.dr_meaning.specs.Calls.Handling.{Relation}
 use Rattle.dr_workers.proofs.Along.{along_batches}
 use Rattle.dr_plain.specs.declared.settled.Settled.{Settled}
 use Rattle.dr_plain.specs.Calls.Ends.{SenderEnd}
-use Rattle.dr_plain.specs.Meaning.Records.{events_of}
+use Rattle.dr_lent.specs.Events.{events_of}
 use Rattle.dr_plain.specs.Meaning.Shape.{Shape}
 use Rattle.dr_disruptor.specs.declared.running.RunOutcome.{RunOutcome}
 use Rattle.dr_disruptor.specs.Handlers.{WentThrough}

@@ -1,6 +1,7 @@
 pub mod Showing
 pub mod Through
 pub mod Stretches
+pub mod Called
 pub mod Claims
 pub mod Scripts
 pub mod Ready
@@ -14,3 +15,5 @@ pub mod Merging
 pub mod ManyReady
 pub mod NewEndsOfSeveral
 pub mod Along
+pub mod Unrefused
+pub mod UnhaltedOfSeveral

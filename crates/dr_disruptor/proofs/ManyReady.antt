@@ -14,8 +14,8 @@ use Rattle.dr_meaning.specs.Calls.Ends.{Received}
 use Rattle.dr_runs.proofs.Elements.{at_below, there, value_at}
 use Rattle.dr_plain_senders.specs.Meaning.Moments.{fresh_receivers, fresh_sender, fresh_senders}
 use Rattle.dr_plain_senders.specs.Meaning.Shape.{Shape, handlers_of}
-use Rattle.dr_plain_senders.specs.Calls.Ends.{HalterStand, ReceiverEnd, SenderEnd, receiver_place, received_of, sender_place}
-use Rattle.dr_plain_senders.specs.Calls.Making.{receiver_at, sender_at}
+use Rattle.dr_plain_senders.specs.Calls.Ends.{HalterEnd, ReceiverEnd, SenderEnd, receiver_place, received_of, sender_place}
+use Rattle.dr_plain_senders.specs.Calls.Making.{receiver_at_ring, sender_at_ring}
 use Rattle.dr_plain_senders.specs.Calls.Settling.{AreAllEnds, HasRun}
 use Rattle.dr_plain_senders.specs.declared.record.ReceiverRecord.{ReceiverRecord}
 use Rattle.dr_disruptor.specs.declared.fault.RunFault.TheVariants as fault
@@ -39,24 +39,24 @@ module _ {E : Type 0} where
   is_told e = e.knows.told
 
   -- the ends of a new ring have taken and sent nothing
-  pub all_idle : (ring : TableId) (k : Shape E) (a n : ℕ) → All (λ (e : ReceiverEnd E). IsIdle (received_by e)) (map (receiver_at ring k) (fresh_receivers a n))
+  pub all_idle : (ring : TableId) (k : Shape E) (a n : ℕ) → All (λ (e : ReceiverEnd E). IsIdle (received_by e)) (map (receiver_at_ring ring k) (fresh_receivers a n))
   all_idle ring k a zero = All-nil (λ (e : ReceiverEnd E). IsIdle (received_by e))
   all_idle ring k a (suc n) = All-cons (λ (e : ReceiverEnd E). IsIdle (received_by e)) _ _ refl (all_idle ring k (suc a) n)
 
   -- a sender that owns nothing
-  unsent : (ring : TableId) (k : Shape E) → 0 < length k.begun → (p : ℕ) → IsUnsent (sender_at ring k (fresh_sender p))
+  unsent : (ring : TableId) (k : Shape E) → 0 < length k.begun → (p : ℕ) → IsUnsent (sender_at_ring ring k (fresh_sender p))
   unsent ring k there p =
       let one : has_one_stretch k [] [] ≡ true =
       and_from (nat_lt 0 (length k.begun) && true) true (and_from (nat_lt 0 (length k.begun)) true (lt-ltb 0 (length k.begun) there) refl) refl in
       (rw one refl, rw one refl)
 
-  pub all_unsent : (ring : TableId) (k : Shape E) → 0 < length k.begun → (a n : ℕ) → All (λ (s : SenderEnd E). IsUnsent s) (map (sender_at ring k) (fresh_senders a n))
+  pub all_unsent : (ring : TableId) (k : Shape E) → 0 < length k.begun → (a n : ℕ) → All (λ (s : SenderEnd E). IsUnsent s) (map (sender_at_ring ring k) (fresh_senders a n))
   all_unsent ring k there a zero = All-nil (λ (s : SenderEnd E). IsUnsent s)
   all_unsent ring k there a (suc n) = All-cons (λ (s : SenderEnd E). IsUnsent s) _ _ (unsent ring k there a) (all_unsent ring k there (suc a) n)
 
   -- what senders' threads gave back are all senders of the ring again
   pub senders_back : {A F : Type 0} (gives : F → SenderEnd E → A → SenderEnd E → Type 0) (feeds : List F) (ss : List (SenderEnd E)) (rs : List (ReceiverEnd E))
-      → (t : HalterStand E) (sent : List (Delivered E A)) → All (λ f. LeavesSender (gives f)) feeds → AreSent gives feeds ss sent → AreAllEnds ss rs t
+      → (t : HalterEnd E) (sent : List (Delivered E A)) → All (λ f. LeavesSender (gives f)) feeds → AreSent gives feeds ss sent → AreAllEnds ss rs t
       → AreAllEnds (map (λ b. b.sender) sent) rs t
   senders_back {F = F} gives feeds ss rs t sent leave are all = record {
     senders = length-map sent (λ b. b.sender) ∙ are.many ∙ all.senders;
@@ -73,7 +73,7 @@ module _ {E : Type 0} where
   }
 
   -- so are what was served
-  pub receivers_back : {A : Type 0} (goes : Relation E A) (room : ℕ) (ss : List (SenderEnd E)) (t : HalterStand E) (ends : List (ReceiverEnd E)) (starts : List A)
+  pub receivers_back : {A : Type 0} (goes : Relation E A) (room : ℕ) (ss : List (SenderEnd E)) (t : HalterEnd E) (ends : List (ReceiverEnd E)) (starts : List A)
       → (served : List (Served (ReceiverEnd E) A)) → AreServed receiver_place received_by is_told SawSome does_in_place goes room ends starts served → AreAllEnds ss ends t
       → AreAllEnds ss (map (λ (b : Served (ReceiverEnd E) A). b.outlet) served) t
   receivers_back goes room ss t ends starts served kept all = record {
@@ -86,7 +86,7 @@ module _ {E : Type 0} where
   }
 
   -- who was told that the ring drained took and completed all that is published
-  pub has_all : (ss : List (SenderEnd E)) (rs : List (ReceiverEnd E)) (t : HalterStand E) (n : ℕ) (on : Bool) (run : HasRun ss rs t n on)
+  pub has_all : (ss : List (SenderEnd E)) (rs : List (ReceiverEnd E)) (t : HalterEnd E) (n : ℕ) (on : Bool) (run : HasRun ss rs t n on)
       → (h : ℕ) (e : ReceiverEnd E) → get_elem? rs h ≡ some e → e.knows.told ≡ true → IsIdle (received_by e) → HasAll run.world e
   has_all ss rs t n on run h e at told idle =
       let at_world = ap (λ (l : List (ReceiverRecord E)). get_elem? l h) run.receivers ∙ at_map (λ (x : ReceiverEnd E). x.knows) rs h e at in
@@ -94,7 +94,7 @@ module _ {E : Type 0} where
       (all.0, idle ∙ length-map e.knows.received (λ l. l.event) ∙ ap length all.0)
 
   -- a halted ring's ends are those that they were
-  pub halted_back : (ss : List (SenderEnd E)) (rs : List (ReceiverEnd E)) (t t' : HalterStand E) → HaltsOnly t t' → AreAllEnds ss rs t → AreAllEnds ss rs t'
+  pub halted_back : (ss : List (SenderEnd E)) (rs : List (ReceiverEnd E)) (t t' : HalterEnd E) → HaltsOnly t t' → AreAllEnds ss rs t → AreAllEnds ss rs t'
   halted_back ss rs t t' halts all =
       let ring = sym halts.1.0.0 in
       let plan = sym halts.1.0.1 in

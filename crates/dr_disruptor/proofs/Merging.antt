@@ -20,14 +20,14 @@ use Rattle.dr_plain_senders.specs.declared.record.SenderRecord.{SenderRecord}
 use Rattle.dr_plain_senders.specs.declared.record.ReceiverRecord.{ReceiverRecord}
 use Rattle.dr_plain_senders.specs.declared.settled.Settled.{Settled}
 use Rattle.dr_plain_senders.specs.Meaning.Moments.{Runs, fresh_receiver, fresh_receivers, fresh_sender, fresh_senders, new_world}
-use Rattle.dr_plain_senders.specs.Meaning.Records as records
+use Rattle.dr_lent.specs.Events.{events_of}
 use Rattle.dr_plain_senders.specs.Meaning.Records.{is_published}
 use Rattle.dr_plain_senders.specs.Meaning.Rule.{IsOutWith, KeepsRule, World}
 use Rattle.dr_plain_senders.specs.Meaning.Settling.{Settles, published_events}
 use Rattle.dr_plain_senders.specs.Meaning.Shape.{IsShape, Shape, handlers_of}
-use Rattle.dr_plain_senders.specs.Calls.Ends.{EndPlace, HalterStand, ReceiverEnd, SenderEnd, receiver_place, received_of}
+use Rattle.dr_plain_senders.specs.Calls.Ends.{EndPlace, HalterEnd, ReceiverEnd, SenderEnd, receiver_place, received_of}
 use Rattle.dr_plain_senders.specs.Calls.Settling.{GivesBack}
-use Rattle.dr_plain_senders.specs.Calls.Making.{AreFreshEnds, at_ring, receiver_at, sender_at}
+use Rattle.dr_plain_senders.specs.Calls.Making.{AreFreshEnds, at_ring, receiver_at_ring, sender_at_ring}
 use Rattle.dr_plain_senders.proofs.Beginning.{kept_new_world, receiver_fresh, receivers_count, sender_fresh, senders_count}
 use Rattle.dr_plain_senders.proofs.Keeps.{keeps_runs}
 use Rattle.dr_plain_senders.proofs.Places.{one_value}
@@ -39,7 +39,6 @@ use Rattle.dr_plain_senders.specs.Calls.InPlace.{SawSome, does_in_place, events_
 use Rattle.dr_disruptor.specs.Merging.{HaltsOnly, IsOutcomeOver, IsWoundUp, new_receivers, new_sender}
 use Rattle.dr_disruptor.specs.Serving.{AreServed, Worker, given_end, given_handler}
 use Rattle.dr_plain_senders.proofs.InPlaceReceiving.{saw_most}
-use Rattle.dr_plain_senders.proofs.MarksFound.{MarksWithin, marks_within}
 use Rattle.dr_disruptor.proofs.Merged.{merged}
 use Rattle.dr_disruptor.proofs.Owned.{AreOwn, are_own, own_from}
 use Rattle.dr_disruptor.proofs.Shown.{AllOut, AreOut, all_lent, all_shown, shown, shown_in}
@@ -61,7 +60,7 @@ module _ {E : Type 0} where
   published_is e = elim (cases_Bool (has_one_stretch e.plan e.knows.own e.writes)) [ inl one ↦ rw one refl | inr more ↦ rw more refl ]
 
 module _ {E A B F : Type 0} (goes : Relation E A) (room : ℕ) (k : Shape E) (blank : E) (gives : F → SenderEnd E → B → SenderEnd E → Type 0) (feeds : List F)
-    (starts : List A) (ss : List (SenderEnd E)) (rs : List (ReceiverEnd E)) (t : HalterStand E) (ws : List (Worker (ReceiverEnd E) A)) (sent : List (Delivered E B))
+    (starts : List A) (ss : List (SenderEnd E)) (rs : List (ReceiverEnd E)) (t : HalterEnd E) (ws : List (Worker (ReceiverEnd E) A)) (sent : List (Delivered E B))
     (handlers : List A) (settled : Settled E) (values : List E) (answers : List B)
     (shape : IsShape k) (fresh : AreFreshEnds k ss rs t) (ends : map given_end ws ≡ rs) (begun : map given_handler ws ≡ starts)
     (are : AreSent gives feeds ss sent) (wound : IsWoundUp goes room ws sent t handlers settled values answers) where
@@ -87,7 +86,7 @@ module _ {E A B F : Type 0} (goes : Relation E A) (room : ℕ) (k : Shape E) (bl
   same_ring = sym wound.halts.1.0.0
 
   pub plan : wound.after.plan ≡ k
-  plan = wound.halts.1.0.1 ∙ ap (λ (e : HalterStand E). e.plan) fresh.halter
+  plan = wound.halts.1.0.1 ∙ ap (λ (e : HalterEnd E). e.plan) fresh.halter
 
   runs : Runs k wound.ends.run.steps wound.ends.run.entries (new_world k) w
   runs = subst (λ (q : Shape E). Runs q wound.ends.run.steps wound.ends.run.entries (new_world q) w) plan wound.ends.run.runs
@@ -95,16 +94,13 @@ module _ {E A B F : Type 0} (goes : Relation E A) (room : ℕ) (k : Shape E) (bl
   K : KeepsRule k w
   K = keeps_runs k wound.ends.run.steps wound.ends.run.entries (new_world k) w runs (kept_new_world E k shape)
 
-  within : MarksWithin k w
-  within = marks_within k wound.ends.run.steps wound.ends.run.entries w shape runs
-
   settles : Settles k w
   settles = subst (λ (q : Shape E). Settles q w) plan wound.ends.run.settles
 
   -- the senders
 
   pub many_senders : length sent ≡ k.senders
-  many_senders = are.many ∙ ap length fresh.senders ∙ length-map (fresh_senders 0 k.senders) (sender_at t.ring k) ∙ senders_count E 0 k.senders
+  many_senders = are.many ∙ ap length fresh.senders ∙ length-map (fresh_senders 0 k.senders) (sender_at_ring t.ring k) ∙ senders_count E 0 k.senders
 
   pub record SenderPlace (p : ℕ) : Type 0 where
     pub back : Delivered E B
@@ -120,10 +116,10 @@ module _ {E A B F : Type 0} (goes : Relation E A) (room : ℕ) (k : Shape E) (bl
       let b = there sent p (omega arith) in
       let (feed, e, at_feed, at_given, sending) = are.each p b.0 b.1 in
       let at_new = ap (λ (l : List (SenderEnd E)). get_elem? l p) (sym fresh.senders) ∙ at_given in
-      let from = lists.at_map (sender_at t.ring k) (fresh_senders 0 k.senders) p e at_new in
+      let from = lists.at_map (sender_at_ring t.ring k) (fresh_senders 0 k.senders) p e at_new in
       let z : 0 + p ≡ p = omega arith in
       let new : e ≡ new_sender ring k p =
-      sym from.2 ∙ ap (sender_at t.ring k) (sender_fresh 0 k.senders p from.0 from.1 ∙ ap fresh_sender z)
+      sym from.2 ∙ ap (sender_at_ring t.ring k) (sender_fresh 0 k.senders p from.0 from.1 ∙ ap fresh_sender z)
       ∙ ap (λ (r : TableId). new_sender r k p) same_ring in
       record {
         back = b.0;
@@ -138,13 +134,13 @@ module _ {E A B F : Type 0} (goes : Relation E A) (room : ℕ) (k : Shape E) (bl
   -- the handlers
 
   -- each end that was given is the new receiver at its place
-  new_ends : (h : ℕ) (e : ReceiverEnd E) → get_elem? (map given_end ws) h ≡ some e → e ≡ receiver_at ring k (fresh_receiver h)
+  new_ends : (h : ℕ) (e : ReceiverEnd E) → get_elem? (map given_end ws) h ≡ some e → e ≡ receiver_at_ring ring k (fresh_receiver h)
   new_ends h e at =
       let at_given = ap (λ (l : List (ReceiverEnd E)). get_elem? l h) (sym (ends ∙ fresh.receivers)) ∙ at in
-      let from = lists.at_map (receiver_at t.ring k) (fresh_receivers 0 (handlers_of k)) h e at_given in
+      let from = lists.at_map (receiver_at_ring t.ring k) (fresh_receivers 0 (handlers_of k)) h e at_given in
       let z : 0 + h ≡ h = omega arith in
-      sym from.2 ∙ ap (receiver_at t.ring k) (receiver_fresh 0 (handlers_of k) h from.0 from.1 ∙ ap fresh_receiver z)
-      ∙ ap (λ (r : TableId). receiver_at r k (fresh_receiver h)) same_ring
+      sym from.2 ∙ ap (receiver_at_ring t.ring k) (receiver_fresh 0 (handlers_of k) h from.0 from.1 ∙ ap fresh_receiver z)
+      ∙ ap (λ (r : TableId). receiver_at_ring r k (fresh_receiver h)) same_ring
 
   -- and the end of each handler is that of its place
   served_at_places : (given : List A) → given ≡ starts → AreServed receiver_place received_by is_told SawSome does_in_place goes room (new_receivers ring k) given served
@@ -156,7 +152,7 @@ module _ {E A B F : Type 0} (goes : Relation E A) (room : ℕ) (k : Shape E) (bl
   many_served : length served ≡ handlers_of k
   many_served =
       wound.kept.many ∙ ap length (ends ∙ fresh.receivers)
-      ∙ length-map (fresh_receivers 0 (handlers_of k)) (receiver_at t.ring k) ∙ receivers_count E 0 (handlers_of k)
+      ∙ length-map (fresh_receivers 0 (handlers_of k)) (receiver_at_ring t.ring k) ∙ receivers_count E 0 (handlers_of k)
 
   abbrev outlets : List (ReceiverEnd E)
   outlets = map (λ (s : Served (ReceiverEnd E) A). s.outlet) served
@@ -193,14 +189,14 @@ module _ {E A B F : Type 0} (goes : Relation E A) (room : ℕ) (k : Shape E) (bl
       out_is w.stages s u l.0 at ((K.received 0 first.0.outlet.knows (at_world 0 first.0.outlet at_first)).beginning s l.0 l.1)
 
   -- all that is published, in order
-  pub in_order : records.events_of (published_events w) ≡ events
+  pub in_order : events_of (published_events w) ≡ events
   in_order =
-      ap (λ (ts : List (Stage E)). records.events_of (filter_map (λ t. t.lent) ts)) (taken_whole blank w.stages all_out) ∙ all_lent blank w.stages all_out
+      ap (λ (ts : List (Stage E)). events_of (filter_map (λ t. t.lent) ts)) (taken_whole blank w.stages all_out) ∙ all_lent blank w.stages all_out
 
   saw_within : (h : ℕ) (e : ReceiverEnd E) → get_elem? outlets h ≡ some e → (n : ℕ) → SawSome e n → n ≤ length events
   saw_within h e at n saw =
       let many : length events ≡ length w.stages = length-map w.stages (shown blank) in
-      let most = saw_most k w h e (drained h e at).plan_is (at_world h e at) K within n saw in
+      let most = saw_most (length w.stages) k e (drained h e at).plan_is (settles.each h e.knows (at_world h e at)).seen n saw in
       omega arith
 
   pub all_through : AllWentThrough goes room events starts handlers
@@ -211,7 +207,7 @@ module _ {E A B F : Type 0} (goes : Relation E A) (room : ℕ) (k : Shape E) (bl
       (λ h e at. ap (λ (x : ReceiverEnd E). (received_by x).events) (new_ends h e at))
       (λ h e at.
       let d = drained h e at in (
-        ap (λ (ls : List (Lent E)). records.events_of ls) d.events_are ∙ in_order,
+        ap (λ (ls : List (Lent E)). events_of ls) d.events_are ∙ in_order,
         saw_within h e at,
       ))))
 
@@ -245,7 +241,7 @@ module _ {E A B F : Type 0} (goes : Relation E A) (room : ℕ) (k : Shape E) (bl
   claimed_all = wound.ends.run.came.claims ∙ sym (length-map w.stages (shown blank))
 
   pub halts_new : HaltsOnly (at_ring ring k record { looks = [] }) wound.after
-  halts_new = subst (λ (e : HalterStand E). HaltsOnly e wound.after) (fresh.halter ∙ ap (λ (r : TableId). at_ring r k record { looks = [] }) same_ring) wound.halts
+  halts_new = subst (λ (e : HalterEnd E). HaltsOnly e wound.after) (fresh.halter ∙ ap (λ (r : TableId). at_ring r k record { looks = [] }) same_ring) wound.halts
 
   -- so the run is over a new ring of this shape
   pub outcome_over : {T : Type 0} (listed : T → List A) (went : ℕ → List E → T → T → Type 0) (team after : T) (list : Vec B) → list.items ≡ answers → length feeds ≡ k.senders

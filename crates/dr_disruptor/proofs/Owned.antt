@@ -5,7 +5,7 @@ use Rattle.std.proofs.lemmas.List.{append-nil}
 use mathlib.Core.Option.{some, some-injective, some-ne-none}
 use lib.ListN.{get_elem?}
 use Rattle.dr_meaning.specs.Meaning.Transcript.{Transcript}
-use Rattle.dr_runs.proofs.Elements.{each_set}
+use Rattle.dr_runs.proofs.Elements.{each_set, word_at}
 use Rattle.dr_plain_senders.specs.Meaning.Shape.{Shape, IsShape}
 use Rattle.dr_plain_senders.specs.Meaning.Words.{claim_word, claimed_in, halted_from, mark_word, mark_bit, flipped, count_word}
 use Rattle.dr_plain_senders.specs.declared.record.Stage.{Stage}
@@ -19,7 +19,7 @@ use Rattle.dr_plain_senders.specs.Meaning.Records.{fresh_stage, fresh_own, publi
 use Rattle.dr_plain_senders.specs.Meaning.Rule.{World, KeepsRule}
 use Rattle.dr_plain_senders.specs.Meaning.Steps.{Happens, PublishesOne, sender_knows, sender_claims}
 use Rattle.dr_plain_senders.specs.Meaning.Moments.{Runs, new_world}
-use Rattle.dr_plain_senders.proofs.Places.{word_at, claimed_low}
+use Rattle.dr_plain_senders.proofs.Places.{claimed_low}
 use Rattle.dr_plain_senders.proofs.Keeps.{along_all, keeps_step}
 use Rattle.dr_plain_senders.proofs.Beginning.{kept_new_world, sender_fresh}
 

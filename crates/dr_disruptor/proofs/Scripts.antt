@@ -4,8 +4,8 @@ use mathlib.Core.Option.{some, some-ne-none}
 use lib.ListN.{get_elem?}
 use denote.Ref.{MutBor}
 use denote.Param.Members.{Shared}
+use Rattle.dr_meaning.specs.Calls.Calling.{InPlaceInletCall}
 use Rattle.dr_meaning.specs.Calls.Filling.{FillsOne}
-use Rattle.dr_meaning.specs.declared.claim_fault.ClaimFault.{ClaimFault}
 use Rattle.dr_meaning.specs.declared.refusal.Refusal.{Refusal}
 use Rattle.dr_meaning.specs.Calls.InPlaceInlets.{Sending}
 use Rattle.dr_runs.proofs.Lists.{same_lists}
@@ -49,14 +49,15 @@ module _ {E : Type 0} (all : List E) where
         s.published ∙ ap (λ l. old ++ l) (sym (all_of s.events s.fills (s.many ∙ is)))
 
     -- or the beginning of it, up to a claim that was refused
-    pub stops_list : {I K : Type 0} (kept : I → K) (sending : I → Sending E) (refuses : I → ℕ → ClaimFault → I → Type 0) (n cut : ℕ) (r : Refusal) (old new : I)
-        → n ≡ length all → StopsAfter (FillsOne fn fill) kept sending refuses n cut r old new → StopsAfter (IsNth all) kept sending refuses (length all) cut r old new
-    stops_list kept sending refuses n cut r old new is h =
+    pub stops_list : {I K : Type 0} (kept : I → K) (sending : I → Sending E) (does : I → InPlaceInletCall → I → Type 0) (n cut : ℕ) (r : Refusal) (old new : I)
+        → n ≡ length all → StopsAfter (FillsOne fn fill) kept sending does n cut r old new → StopsAfter (IsNth all) kept sending does (length all) cut r old new
+    stops_list kept sending does n cut r old new is h =
         let some = h.some in
-        subst (λ m. StopsAfter (IsNth all) kept sending refuses m cut r old new) is (record {
+        subst (λ m. StopsAfter (IsNth all) kept sending does m cut r old new) is (record {
           done = h.done;
           between = h.between;
           some = h.some;
+          calls = h.calls;
           place = h.place;
           sent = sends_as h.done (sending old).published (sending h.between).published (omega arith) h.sent;
           claims = h.claims;

@@ -9,7 +9,8 @@ use Rattle.dr_lent.specs.declared.lent.Lent.{Lent}
 use Rattle.dr_plain_senders.specs.declared.record.Own.{Own}
 use Rattle.dr_plain_senders.specs.declared.record.Stage.{Stage}
 use Rattle.dr_plain_senders.specs.Meaning.Moments.{event_in, event_of}
-use Rattle.dr_plain_senders.specs.Meaning.Records.{events_of, is_published}
+use Rattle.dr_plain_senders.specs.Meaning.Records.{is_published}
+use Rattle.dr_lent.specs.Events.{events_of}
 use Rattle.dr_plain_senders.specs.Calls.InPlace.{events_in}
 
 module _ {T : Type 0} (blank : T) where

@@ -10,37 +10,35 @@ use Rattle.dr_meaning.specs.declared.command.Polled.{Polled}
 use Rattle.dr_meaning.specs.declared.command.Polled.TheVariants.{Batch, Drained, Gating, Idle}
 use Rattle.dr_runs.proofs.Elements.{at_below}
 use Rattle.dr_plain.specs.declared.record.ReceiverRecord.{ReceiverRecord}
-use Rattle.dr_plain.specs.Calls.Ends.{ReceiverEnd, receiver_place, received_of}
-use Rattle.dr_plain.specs.Calls.InPlace.{SawPublished, does_in_place, offered_of}
+use Rattle.dr_plain.specs.Calls.Ends.{ReceiverEnd, receiver_place}
+use Rattle.dr_plain.specs.Calls.InPlace.{SawSome, does_in_place, offered_of}
 use Rattle.dr_plain.specs.Calls.Turning.{TurnCall}
 use Rattle.dr_plain.proofs.InPlaceReceiving.{looked, saw_same, takes}
 use Rattle.dr_disruptor.specs.Here.{HadTurns}
 use Rattle.dr_disruptor.specs.Serving.{IsIdle, Shows}
 use Rattle.dr_disruptor.proofs.Rounds.{at_same}
 use Rattle.dr_disruptor.proofs.Showing.{shows_batch, shows_nothing}
+use Rattle.dr_disruptor.proofs.Ready.{received_by}
 
 module _ {E A : Type 0} (goes : Relation E A) (room : ℕ) where
-  abbrev saw : ReceiverEnd E → ℕ → Type 0
-  saw e n = SawPublished e.knows n
-
   -- a turn shows a handler what its end took, and completes it
-  pub turn_shows : (e e' : ReceiverEnd E) (answer : Polled) (before after : A) → TurnCall goes e room e' (Ok answer) before after → IsIdle (received_of e) → 0 < room
-      → length e'.knows.received < 2 ^ 64 → Shows receiver_place received_of saw does_in_place goes room before after e e'
+  pub turn_shows : (e e' : ReceiverEnd E) (answer : Polled) (before after : A) → TurnCall goes e room e' (Ok answer) before after → IsIdle (received_by e) → 0 < room
+      → length e'.knows.received < 2 ^ 64 → Shows receiver_place received_by SawSome does_in_place goes room before after e e'
   turn_shows e e' (Batch first count end) before after turn idle has fits =
       let (mid, poll, complete, through) = turn in
       let same : length e'.knows.received ≡ length mid.knows.received = ap (λ (r : ReceiverRecord E). length r.received) complete.1.2 in
-      shows_batch receiver_place received_of saw does_in_place goes room before after e mid e' first count (offered_of mid) end poll.0 complete.0
+      shows_batch receiver_place received_by SawSome does_in_place goes room before after e mid e' first count (offered_of mid) end poll.0 complete.0
       (looked room e mid (Batch first count end) poll) (saw_same mid.knows e'.knows (ap (λ (r : ReceiverRecord E). r.looks) complete.1.2))
       (takes room e mid (Batch first count end) poll (omega arith) has) poll complete through complete.1.1
   turn_shows e e' Drained before after turn idle has fits =
-      subst (λ (a : A). Shows receiver_place received_of saw does_in_place goes room before a e e') (sym turn.1)
-      (shows_nothing receiver_place received_of saw does_in_place goes room before e e' Drained turn.0.0 (takes room e e' Drained turn.0 fits has) (looked room e e' Drained turn.0) turn.0 refl idle)
+      subst (λ (a : A). Shows receiver_place received_by SawSome does_in_place goes room before a e e') (sym turn.1)
+      (shows_nothing receiver_place received_by SawSome does_in_place goes room before e e' Drained turn.0.0 (takes room e e' Drained turn.0 fits has) (looked room e e' Drained turn.0) turn.0 refl idle)
   turn_shows e e' Gating before after turn idle has fits =
-      subst (λ (a : A). Shows receiver_place received_of saw does_in_place goes room before a e e') (sym turn.1)
-      (shows_nothing receiver_place received_of saw does_in_place goes room before e e' Gating turn.0.0 (takes room e e' Gating turn.0 fits has) (looked room e e' Gating turn.0) turn.0 refl idle)
+      subst (λ (a : A). Shows receiver_place received_by SawSome does_in_place goes room before a e e') (sym turn.1)
+      (shows_nothing receiver_place received_by SawSome does_in_place goes room before e e' Gating turn.0.0 (takes room e e' Gating turn.0 fits has) (looked room e e' Gating turn.0) turn.0 refl idle)
   turn_shows e e' Idle before after turn idle has fits =
-      subst (λ (a : A). Shows receiver_place received_of saw does_in_place goes room before a e e') (sym turn.1)
-      (shows_nothing receiver_place received_of saw does_in_place goes room before e e' Idle turn.0.0 (takes room e e' Idle turn.0 fits has) (looked room e e' Idle turn.0) turn.0 refl idle)
+      subst (λ (a : A). Shows receiver_place received_by SawSome does_in_place goes room before a e e') (sym turn.1)
+      (shows_nothing receiver_place received_by SawSome does_in_place goes room before e e' Idle turn.0.0 (takes room e e' Idle turn.0 fits has) (looked room e e' Idle turn.0) turn.0 refl idle)
 
   -- the handler at a place had its turn, or is yet to have it
   abbrev Went : List (ReceiverEnd E) → List A → ℕ → ReceiverEnd E → A → Type 0

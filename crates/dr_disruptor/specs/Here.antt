@@ -1,8 +1,8 @@
 -- What a ring's sender is that has the ring's handlers on its thread.
-use Rattle.std.specs.Prelude.{◌≡◌, ◌≢◌, ℕ, List, Ok, length}
+use Rattle.std.specs.Prelude.{◌≡◌, ◌≢◌, ℕ, List, Err, Ok, length}
 use mathlib.Core.Option.{some}
 use lib.ListN.{get_elem?}
-use Rattle.dr_meaning.specs.Calls.Calling.{InPlaceCall}
+use Rattle.dr_meaning.specs.Calls.Calling.{ChangesEvent, ClaimsStretch, InPlaceCall, InPlaceInletCall, PublishesFilled}
 use Rattle.dr_meaning.specs.Calls.Ends.{Received}
 use Rattle.dr_meaning.specs.Calls.Handling.{Relation}
 use Rattle.dr_plain.specs.Calls.Ends.{ReceiverEnd, SenderEnd, SenderPlace, sender_place}
@@ -11,7 +11,7 @@ use Rattle.dr_meaning.specs.declared.claim_fault.ClaimFault.TheVariants.{Refused
 use Rattle.dr_meaning.specs.declared.command.Polled.{Polled}
 use Rattle.dr_meaning.specs.declared.refusal.Refusal.TheVariants.{NoRoom}
 use Rattle.dr_meaning.specs.Calls.InPlaceInlets.{Sending}
-use Rattle.dr_plain.specs.Calls.InPlace.{RefusesClaim, StoresStretch, sending_of}
+use Rattle.dr_plain.specs.Calls.InPlace.{sending_of, sends_in_place}
 use Rattle.dr_plain.specs.Calls.Turning.{TurnCall}
 use Rattle.dr_disruptor.specs.Serving.{Shows}
 
@@ -52,15 +52,18 @@ module _ {E A : Type 0} where
   abbrev pub sending_here : HereEnd E A → Sending E
   sending_here e = sending_of e.sender
 
+  -- no handler had a turn
+  abbrev pub NoTurns : HereEnd E A → HereEnd E A → Type 0
+  NoTurns e e' = (e'.receivers ≡ e.receivers) × (e'.handlers ≡ e.handlers)
+
   -- where a claim found no room each handler had a turn, and where it was refused for another cause none had
   pub record TurnsAt (goes : Relation E A) (fault : ClaimFault) (e e' : HereEnd E A) : Type 0 where
     pub no_room : fault ≡ Refused NoRoom → HadTurns goes e.batch e.receivers e.handlers e'.receivers e'.handlers
-    pub other : fault ≢ Refused NoRoom → (e'.receivers ≡ e.receivers) × (e'.handlers ≡ e.handlers)
+    pub other : fault ≢ Refused NoRoom → NoTurns e e'
 
-  -- a refused claim tells all that the ring's own does, and which turns it gave
-  abbrev pub refuses_here : Relation E A → HereEnd E A → ℕ → ClaimFault → HereEnd E A → Type 0
-  refuses_here goes e n fault e' = RefusesClaim e.sender n fault e'.sender × TurnsAt goes fault e e'
-
-  -- a publication tells all that the ring's own does, and no handler has a turn
-  abbrev pub stores_here : HereEnd E A → ℕ → ℕ → HereEnd E A → Type 0
-  stores_here e lo hi e' = StoresStretch e.sender lo hi e'.sender × (e'.receivers ≡ e.receivers) × (e'.handlers ≡ e.handlers)
+  -- each call tells all that the ring's own does, and a refused claim which turns it gave; no handler has one at any other call
+  abbrev pub does_here : Relation E A → HereEnd E A → InPlaceInletCall → HereEnd E A → Type 0
+  does_here goes e (ClaimsStretch n (Ok claimed)) e' = sends_in_place e.sender (ClaimsStretch n (Ok claimed)) e'.sender × NoTurns e e'
+  does_here goes e (ClaimsStretch n (Err fault)) e' = sends_in_place e.sender (ClaimsStretch n (Err fault)) e'.sender × TurnsAt goes fault e e'
+  does_here goes e (ChangesEvent s) e' = sends_in_place e.sender (ChangesEvent s) e'.sender × NoTurns e e'
+  does_here goes e (PublishesFilled lo hi) e' = sends_in_place e.sender (PublishesFilled lo hi) e'.sender × NoTurns e e'

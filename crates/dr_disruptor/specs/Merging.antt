@@ -12,12 +12,13 @@ use Rattle.dr_workers.specs.Meaning.Merge.{IsMerge}
 use Rattle.dr_plain_senders.specs.declared.record.Step.TheVariants.{HalterHalts}
 use Rattle.dr_plain_senders.specs.declared.settled.Settled.{Settled}
 use Rattle.dr_plain_senders.specs.Meaning.Moments.{fresh_receivers, fresh_sender}
-use Rattle.dr_plain_senders.specs.Meaning.Records.{events_of, halter_halted}
+use Rattle.dr_plain_senders.specs.Meaning.Records.{halter_halted}
+use Rattle.dr_lent.specs.Events.{events_of}
 use Rattle.dr_plain_senders.specs.Meaning.Rule.{World}
 use Rattle.dr_plain_senders.specs.Meaning.Settling.{published_events}
 use Rattle.dr_plain_senders.specs.Meaning.Shape.{Shape, handlers_of}
-use Rattle.dr_plain_senders.specs.Calls.Ends.{HalterStand, HasStored, ReceiverEnd, SenderEnd, receiver_place, received_of, sender_place}
-use Rattle.dr_plain_senders.specs.Calls.Making.{at_ring, receiver_at, sender_at}
+use Rattle.dr_plain_senders.specs.Calls.Ends.{HalterEnd, HasStored, ReceiverEnd, SenderEnd, receiver_place, received_of, sender_place}
+use Rattle.dr_plain_senders.specs.Calls.Making.{at_ring, receiver_at_ring, sender_at_ring}
 use Rattle.dr_plain_senders.specs.Calls.Settling.{GivesBack, HasRun, handler_counts}
 use Rattle.dr_disruptor.specs.declared.fault.RunFault.{RunFault}
 use Rattle.dr_disruptor.specs.declared.fault.RunFault.TheVariants.{Handlers, Memory, Senders}
@@ -40,11 +41,11 @@ module _ {E : Type 0} where
 
   -- a sender of a ring of this shape, as it was made
   abbrev pub new_sender : TableId → Shape E → ℕ → SenderEnd E
-  new_sender ring k p = sender_at ring k (fresh_sender p)
+  new_sender ring k p = sender_at_ring ring k (fresh_sender p)
 
   -- its receivers as they were made, in the graph's order
   abbrev pub new_receivers : TableId → Shape E → List (ReceiverEnd E)
-  new_receivers ring k = map (receiver_at ring k) (fresh_receivers 0 (handlers_of k))
+  new_receivers ring k = map (receiver_at_ring ring k) (fresh_receivers 0 (handlers_of k))
 
   -- each handler was shown what the receiver at its place took, in polls with so much room, and came back at its place
   abbrev pub AreServedBack : {A : Type 0} → Relation E A → ℕ → List (ReceiverEnd E) → List A → List (ReceiverEnd E) → List A → Type 0
@@ -60,11 +61,11 @@ module _ {E : Type 0} where
   LeavesSender {A} gives = (given : SenderEnd E) (answer : A) (back : SenderEnd E) → gives given answer back → sender_place back ≡ sender_place given
 
   -- a halter halted its ring, and did nothing else
-  abbrev pub HaltsOnly : HalterStand E → HalterStand E → Type 0
+  abbrev pub HaltsOnly : HalterEnd E → HalterEnd E → Type 0
   HaltsOnly t t' = (found : ℕ) × HasStored t HalterHalts (halter_halted t.knows found) t.hand t'
 
   -- the ends that came together are these
-  pub record AreSettled (settled : Settled E) (ss : List (SenderEnd E)) (rs : List (ReceiverEnd E)) (t : HalterStand E) : Type 0 where
+  pub record AreSettled (settled : Settled E) (ss : List (SenderEnd E)) (rs : List (ReceiverEnd E)) (t : HalterEnd E) : Type 0 where
     pub senders : settled.senders.value.items ≡ ss
     pub receivers : settled.receivers.value.items ≡ rs
     pub halter : settled.halter.value ≡ t
@@ -74,11 +75,11 @@ module _ {E : Type 0} where
     pub counts : settled.handlers.items ≡ map (λ e. handler_counts e.knows) rs
 
   -- what the handlers' workers gave back, once the ring was halted, and how all ends came together
-  pub record IsWoundUp {A B : Type 0} (goes : Relation E A) (room : ℕ) (workers : List (Worker (ReceiverEnd E) A)) (sent : List (Delivered E B)) (halter : HalterStand E)
+  pub record IsWoundUp {A B : Type 0} (goes : Relation E A) (room : ℕ) (workers : List (Worker (ReceiverEnd E) A)) (sent : List (Delivered E B)) (halter : HalterEnd E)
       (handlers : List A) (settled : Settled E) (values : List E) (answers : List B) : Type 0 where
     pub served : List (Served (ReceiverEnd E) A)
     pub kept : AreServed receiver_place (λ e. received_of e.knows) (λ e. e.knows.told) SawSome does_in_place goes room (map given_end workers) (map given_handler workers) served
-    pub after : HalterStand E
+    pub after : HalterEnd E
     pub halts : HaltsOnly halter after
     pub ends : AreSettled settled (map (λ s. s.sender) sent) (map (λ s. s.outlet) served) after
     pub handled : handlers ≡ map (λ s. s.handler) served
@@ -102,7 +103,7 @@ module _ {E : Type 0} where
     pub answers : ran.sent.items ≡ map (λ s. s.answer) senders
     -- the ends as they came together at last, whose halter halted the ring once
     pub receivers : List (ReceiverEnd E)
-    pub halter : HalterStand E
+    pub halter : HalterEnd E
     pub halts : HaltsOnly (at_ring ring k record { looks = [] }) halter
     pub ends : AreSettled ran.settled (map (λ s. s.sender) senders) receivers halter
     -- each handler was shown what the receiver at its place of the graph took

@@ -8,12 +8,13 @@ use Rattle.dr_meaning.specs.Calls.Handling.{Relation}
 use Rattle.dr_meaning.specs.declared.refusal.Refusal.{Refusal}
 use Rattle.dr_plain.specs.declared.settled.Settled.{Settled}
 use Rattle.dr_plain.specs.Calls.Ends.{ReceiverEnd, SenderEnd, receiver_place, received_of, sender_place}
-use Rattle.dr_plain.specs.Calls.InPlace.{SawPublished, does_in_place}
-use Rattle.dr_plain.specs.Calls.Making.{at_ring}
+use Rattle.dr_plain.specs.Calls.InPlace.{SawSome, does_in_place}
+use Rattle.dr_plain.specs.Calls.Making.{receiver_at_ring}
 use Rattle.dr_plain.specs.Calls.Sending.{CloseCall}
 use Rattle.dr_plain.specs.Calls.Settling.{HasRun, handler_counts}
 use Rattle.dr_plain.specs.Meaning.Moments.{fresh_receivers, fresh_sender}
-use Rattle.dr_plain.specs.Meaning.Records.{claimed, events_of}
+use Rattle.dr_plain.specs.Meaning.Records.{claimed}
+use Rattle.dr_lent.specs.Events.{events_of}
 use Rattle.dr_plain.specs.Meaning.Settling.{FoundUnhalted, Settles}
 use Rattle.dr_plain.specs.Meaning.Shape.{Shape, handlers_of}
 use Rattle.dr_disruptor.specs.declared.fault.RunFault.{RunFault}
@@ -31,12 +32,12 @@ shape_of upstreams size strip = record { upstreams = upstreams; size = size; lim
 
 -- the receivers of a new ring, in the graph's order
 abbrev pub new_receivers : {E : Type 0} → TableId → Shape → List (ReceiverEnd E)
-new_receivers ring k = map (at_ring ring) (fresh_receivers k 0 (handlers_of k))
+new_receivers ring k = map (receiver_at_ring ring) (fresh_receivers k 0 (handlers_of k))
 
 -- each handler was shown what the receiver at its place took, in polls with so much room, and came back at its place
 abbrev pub AreServedBack : {E A : Type 0} → Relation E A → ℕ → List (ReceiverEnd E) → List A → List (ReceiverEnd E) → List A → Type 0
 AreServedBack goes most ends starts outlets handlers =
-    CameBackServed receiver_place received_of (λ e. e.knows.told) (λ e n. SawPublished e.knows n) does_in_place goes most ends starts outlets handlers
+    CameBackServed receiver_place (λ e. received_of e.knows) (λ e. e.knows.told) SawSome does_in_place goes most ends starts outlets handlers
 
 -- a receiver took and completed all that was published
 abbrev pub HasAll : {E : Type 0} → SenderEnd E → ReceiverEnd E → Type 0

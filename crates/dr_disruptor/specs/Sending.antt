@@ -1,22 +1,34 @@
 -- What a run's sender has filled and published.
-use Rattle.std.specs.Prelude.{◌≡◌, ◌≢◌, ℕ, ◌+◌, ◌-◌, ◌<◌, min, List, [], ◌∷◌, ◌++◌, Some, None, length, map, replicate, take}
+use Rattle.std.specs.Prelude.{◌≡◌, ◌≢◌, ℕ, ◌+◌, ◌-◌, ◌<◌, min, List, [], ◌∷◌, ◌++◌, Some, None, Err, length, map, replicate, take}
 use mathlib.Core.Option.{some}
 use lib.ListN.{get_elem?}
 use Rattle.dr_meaning.specs.declared.refusal.Refusal.{Refusal}
 use Rattle.dr_meaning.specs.declared.refusal.Refusal.TheVariants.{NoRoom}
-use Rattle.dr_meaning.specs.declared.claim_fault.ClaimFault.{ClaimFault}
 use Rattle.dr_meaning.specs.declared.claim_fault.ClaimFault.TheVariants.{Refused}
+use Rattle.dr_meaning.specs.Calls.Calling.{CallsLead, ClaimsStretch, InPlaceInletCall}
 use Rattle.dr_meaning.specs.Calls.InPlaceInlets.{Sending}
 use Rattle.dr_workers.specs.Meaning.Work.{AreCut}
+use Rattle.dr_plain_senders.specs.declared.record.Step.{Step}
+use Rattle.dr_plain_senders.specs.declared.record.Step.TheVariants.{SenderHalts}
+
+-- calls were made of an end, one after another, and nothing else was done to it
+abbrev pub OnlyCalled : {I : Type 0} → (I → InPlaceInletCall → I → Type 0) → I → I → Type 0
+OnlyCalled does old new = (calls : List InPlaceInletCall) × CallsLead does old calls new
 
 -- a claim of n was refused for another cause than that there was no room, after it was tried again and again: what the end sent is as before
-pub record IsRefused {I K E : Type 0} (kept : I → K) (sending : I → Sending E) (refuses : I → ℕ → ClaimFault → I → Type 0) (n : ℕ) (r : Refusal) (old new : I) : Type 0 where
+pub record IsRefused {I K E : Type 0} (kept : I → K) (sending : I → Sending E) (does : I → InPlaceInletCall → I → Type 0) (n : ℕ) (r : Refusal) (old new : I) : Type 0 where
   pub tried : I
+  pub calls : OnlyCalled does old tried
   pub place : kept tried ≡ kept old
   pub before : sending tried ≡ sending old
-  pub refused : refuses tried n (Refused r) new
+  pub refused : does tried (ClaimsStretch n (Err (Refused r))) new
   pub waits : r ≢ NoRoom
   pub same : sending new ≡ sending old
+
+-- a step of a ring with several senders is no sender's halt
+abbrev pub IsNoHalt : {E : Type 0} → Step E → Type 0
+IsNoHalt (SenderHalts p) = ⊥
+IsNoHalt _ = Unit {0}
 
 module _ {E : Type 0} where
   -- one event more is published, which is what a change left of what lay in its cell
@@ -74,12 +86,13 @@ module _ {E : Type 0} where
     pub turns : ClaimedInTurn kept sending (length (sending old).published) claims old new
 
   -- of n events, in claims of at most so many, the first were published, and the claim of the next ones was refused
-  pub record StopsAfter {I K : Type 0} (by : ℕ → E → E → Type 0) (kept : I → K) (sending : I → Sending E) (refuses : I → ℕ → ClaimFault → I → Type 0) (n cut : ℕ)
+  pub record StopsAfter {I K : Type 0} (by : ℕ → E → E → Type 0) (kept : I → K) (sending : I → Sending E) (does : I → InPlaceInletCall → I → Type 0) (n cut : ℕ)
       (r : Refusal) (old new : I) : Type 0 where
     pub done : ℕ
     pub between : I
     pub some : done < n
+    pub calls : OnlyCalled does old between
     pub place : kept between ≡ kept old
     pub sent : SendsAll (Fills by 0) done (sending old).published (sending between).published
     pub claims : ClaimedInCuts kept sending cut n old between
-    pub refused : IsRefused kept sending refuses (min (n - done) cut) r between new
+    pub refused : IsRefused kept sending does (min (n - done) cut) r between new

@@ -4,11 +4,12 @@ ghost use Rattle.std.specs.Prelude.{◌≡◌, ◌<◌, [], All, IfErr, IfOk, le
 ghost use Rattle.std.specs.Fn.{FnOnceReturnsAtMut};
 ghost use Rattle.dr_plain.specs.Calls.Ends.{receiver_place, received_of};
 ghost use Rattle.dr_plain.specs.Calls.Sending.{CloseCall};
+ghost use Rattle.dr_meaning.specs.Calls.Calling.{ChangesEvent, ClaimsStretch, PublishesFilled};
 ghost use Rattle.dr_meaning.specs.Calls.Ends.{IsStretch};
 ghost use Rattle.dr_meaning.specs.Calls.Filling.{FillsFrom, FillsOne};
 ghost use Rattle.dr_meaning.specs.Calls.InPlaceInlets.{Changes, IsOpen, IsWhole, Opens, Publishes};
-ghost use Rattle.dr_disruptor.specs.Here.{AreShown, HadTurns, HereEnd, here_place, refuses_here, sending_here, stores_here};
-ghost use Rattle.dr_plain.specs.Calls.InPlace.{SawPublished, does_in_place};
+ghost use Rattle.dr_disruptor.specs.Here.{AreShown, HadTurns, HereEnd, does_here, here_place, sending_here};
+ghost use Rattle.dr_plain.specs.Calls.InPlace.{SawSome, does_in_place};
 ghost use Rattle.dr_disruptor.specs.Serving.{AreServed, IsIdle};
 
 use crate::served::{Served, serve};
@@ -35,22 +36,22 @@ impl<E, H: InPlaceHandler<E>> Model for Here<E, H> {
     ghost use Rattle.std.specs.Prelude.{◌<◌};
     ghost use Rattle.dr_plain.specs.Calls.Ends.{receiver_place, received_of};
     ghost use Rattle.dr_disruptor.specs.Here.{AreShown, HereEnd};
-    ghost use Rattle.dr_plain.specs.Calls.InPlace.{SawPublished, does_in_place};
+    ghost use Rattle.dr_plain.specs.Calls.InPlace.{SawSome, does_in_place};
 
     ghost Value = { HereEnd E H };
 
     ghost view = { λ here. record { sender = here.sender; ends = here.ends.value.items; starts = here.starts.value.items; receivers = here.receivers.items; handlers = here.handlers.items; batch = here.way.batch } };
 
-    ghost invariant = { λ here. (0 < here.way.batch) × AreShown receiver_place received_of (λ e n. SawPublished e.knows n) does_in_place H.goes here.way.batch here.ends.value.items here.starts.value.items here.receivers.items here.handlers.items };
+    ghost invariant = { λ here. (0 < here.way.batch) × AreShown receiver_place (λ e. received_of e.knows) SawSome does_in_place H.goes here.way.batch here.ends.value.items here.starts.value.items here.receivers.items here.handlers.items };
 }
 
 // Gives each handler a turn, in the graph's order, over all that is there for it, at most a batch.
 fn round<E, H: InPlaceHandler<E>>(receivers: &mut [Receiver<E>], handlers: &mut [H], batch: u64)
     requires many { length receivers.old ≡ length handlers.old }
-    requires idle { All (λ e. IsIdle (received_of e)) receivers.old }
+    requires idle { All (λ e. IsIdle (received_of e.knows)) receivers.old }
     requires batch { 0 < batch }
     ensures turns { HadTurns H.goes batch receivers.old handlers.old receivers.new handlers.new }
-    ensures shown { AreShown receiver_place received_of (λ e n. SawPublished e.knows n) does_in_place H.goes batch receivers.old handlers.old receivers.new handlers.new }
+    ensures shown { AreShown receiver_place (λ e. received_of e.knows) SawSome does_in_place H.goes batch receivers.old handlers.old receivers.new handlers.new }
 {
     for h in 0..receivers.len() {
         let receiver = &mut receivers[h];
@@ -96,7 +97,7 @@ impl<E, H: InPlaceHandler<E>> Here<E, H> {
         way: Way,
     ) -> Here<E, H>
         requires many { length receivers.items ≡ length handlers.items }
-        requires idle { All (λ e. IsIdle (received_of e)) receivers.items }
+        requires idle { All (λ e. IsIdle (received_of e.knows)) receivers.items }
         requires batch { 0 < way.batch }
         ensures { result ≡ record { sender = sender; ends = receivers.items; starts = handlers.items; receivers = receivers.items; handlers = handlers.items; batch = way.batch } }
     {
@@ -121,7 +122,7 @@ impl<E: Drop, H: InPlaceHandler<E> + Drop> Here<E, H> {
         alloc: Global,
     ) -> Result<(Sender<E>, Vec<Served<Receiver<E>, H>>), AllocError>
         ensures closes { IfOk result (λ r. (answer : _) × CloseCall self.sender r.0 answer) }
-        ensures served { IfOk result (λ r. AreServed receiver_place received_of (λ e. e.knows.told) (λ e n. SawPublished e.knows n) does_in_place H.goes self.batch self.ends self.starts r.1.items) }
+        ensures served { IfOk result (λ r. AreServed receiver_place (λ e. received_of e.knows) (λ e. e.knows.told) SawSome does_in_place H.goes self.batch self.ends self.starts r.1.items) }
     {
         let Here {
             mut sender,
@@ -139,7 +140,7 @@ impl<E: Drop, H: InPlaceHandler<E> + Drop> Here<E, H> {
 }
 
 impl<E, H: InPlaceHandler<E>> InPlaceInlet for Here<E, H> {
-    ghost use Rattle.dr_disruptor.specs.Here.{HerePlace, here_place, refuses_here, sending_here, stores_here};
+    ghost use Rattle.dr_disruptor.specs.Here.{HerePlace, does_here, here_place, sending_here};
 
     type Event = E;
 
@@ -149,16 +150,15 @@ impl<E, H: InPlaceHandler<E>> InPlaceInlet for Here<E, H> {
 
     ghost sending = { sending_here };
 
-    ghost refuses = { refuses_here H.goes };
-
-    ghost stores = { stores_here };
+    ghost does = { does_here H.goes };
 
     fn try_claim(&mut self, n: u64) -> Result<Claimed, ClaimFault>
         requires closed { (sending_here self.old).pending ≡ [] }
         ensures kept { here_place self.new ≡ here_place self.old }
         ensures stretch { IfOk result (IsStretch n) }
         ensures opens { IfOk result (λ c. Opens c.lo n (sending_here self.old) (sending_here self.new)) }
-        ensures refused { IfErr result (λ fault. refuses_here H.goes self.old n fault self.new × (sending_here self.new ≡ sending_here self.old)) }
+        ensures refused { IfErr result (λ fault. sending_here self.new ≡ sending_here self.old) }
+        ensures called { does_here H.goes self.old (ClaimsStretch n result) self.new }
         // Where there was room, no handler has a turn.
         ensures turns { IfOk result (λ _. (self.new.receivers ≡ self.old.receivers) × (self.new.handlers ≡ self.old.handlers)) }
     {
@@ -181,6 +181,7 @@ impl<E, H: InPlaceHandler<E>> InPlaceInlet for Here<E, H> {
         requires within { IsOpen (sending_here self.old) s }
         ensures kept { here_place self.new ≡ here_place self.old }
         ensures changes { Changes (λ was now. FnOnceReturnsAtMut F.FnOnce change was tt now) s (sending_here self.old) (sending_here self.new) }
+        ensures called { does_here H.goes self.old (ChangesEvent s) self.new }
         // No handler has a turn.
         ensures turns { (self.new.receivers ≡ self.old.receivers) × (self.new.handlers ≡ self.old.handlers) }
     {
@@ -192,6 +193,7 @@ impl<E, H: InPlaceHandler<E>> InPlaceInlet for Here<E, H> {
         requires within { IsOpen (sending_here self.old) s }
         ensures kept { here_place self.new ≡ here_place self.old }
         ensures changes { Changes (FillsOne F.Fn fill.now number) s (sending_here self.old) (sending_here self.new) }
+        ensures called { does_here H.goes self.old (ChangesEvent s) self.new }
         // No handler has a turn.
         ensures turns { (self.new.receivers ≡ self.old.receivers) × (self.new.handlers ≡ self.old.handlers) }
     {
@@ -204,6 +206,7 @@ impl<E, H: InPlaceHandler<E>> InPlaceInlet for Here<E, H> {
         ensures kept { here_place self.new ≡ here_place self.old }
         ensures changes { Changes (λ was now. FillsFrom F.FnMut fill.old number was fill.new now) s (sending_here self.old) (sending_here self.new) }
         ensures callable { F.IsAlwaysCallable fill.new }
+        ensures called { does_here H.goes self.old (ChangesEvent s) self.new }
         // No handler has a turn.
         ensures turns { (self.new.receivers ≡ self.old.receivers) × (self.new.handlers ≡ self.old.handlers) }
     {
@@ -215,7 +218,7 @@ impl<E, H: InPlaceHandler<E>> InPlaceInlet for Here<E, H> {
         ensures kept { here_place self.new ≡ here_place self.old }
         ensures publishes { Publishes (sending_here self.old) (sending_here self.new) }
         // The ring is changed by nothing else, and no handler has a turn.
-        ensures stores { stores_here self.old lo hi self.new }
+        ensures called { does_here H.goes self.old (PublishesFilled lo hi) self.new }
     {
         InPlaceInlet::publish(&mut self.sender, lo, hi)
     }

@@ -8,8 +8,8 @@ ghost use lib.ListN.{get_elem?};
 ghost use Rattle.dr_plain.specs.Calls.Ends.{ReceiverEnd, SenderEnd, received_of, sender_place};
 ghost use Rattle.dr_plain.specs.Calls.Making.{AreFreshEnds};
 ghost use Rattle.dr_plain.specs.Calls.Sending.{CloseCall};
-ghost use Rattle.dr_plain.specs.Calls.Settling.{AreAllEnds, IsHalterOf};
-ghost use Rattle.dr_plain.specs.Meaning.Records.{events_of};
+ghost use Rattle.dr_plain.specs.Calls.Settling.{AreAllEnds};
+ghost use Rattle.dr_lent.specs.Events.{events_of};
 ghost use Rattle.dr_disruptor.specs.Handlers.{AllWentThrough};
 ghost use Rattle.dr_disruptor.specs.Serving.{AreInBatches, IsIdle, given_end, given_handler};
 ghost use Rattle.dr_disruptor.specs.Running.{AreServedBack, AreSettled, IsOutcomeBy, refusal_of, shape_of};
@@ -22,7 +22,7 @@ use crate::workers::{Back, Worker, apart, join, start, wait_for};
 use dr_cells::Values;
 use dr_graph::Graph;
 use dr_meaning::{InPlaceHandler, MAX_LIMIT};
-use dr_plain::{Halter, Receiver, Sender, Settled, finish, ring};
+use dr_plain::{Halter, Receiver, Sender, Settled, ring, settle_all};
 use dr_seq::Size;
 use dr_workers::Bell;
 use std::alloc::{AllocError, Global};
@@ -55,7 +55,7 @@ pub(crate) fn open<E: Drop>(
 ) -> Result<Opened<E>, RunFault>
     requires { length events.items ≡ size }
     ensures fresh { IfOk result (λ r. (strip : Ptr) × AreFreshEnds (shape_of graph.now.upstreams size strip) events.items r.0 r.1.items r.2) }
-    ensures ends { IfOk result (λ r. AreAllEnds r.0 r.1.items × IsHalterOf r.0 r.2) }
+    ensures ends { IfOk result (λ r. AreAllEnds r.0 r.1.items r.2) }
     ensures many { IfOk result (λ r. (handlers ≡ length graph.now.upstreams) × (length r.1.items ≡ handlers)) }
     ensures refused { IfErr result (λ e. e ≡ refusal_of (length graph.now.upstreams) handlers) }
 {
@@ -89,7 +89,7 @@ fn begin<
     way: Way,
 ) -> Result<(Sender<E>, Vec<Worker<Receiver<E>, H>>), AllocError>
     requires many { length receivers.items ≡ length handlers.items }
-    requires idle { All (λ e. IsIdle (received_of e)) receivers.items }
+    requires idle { All (λ e. IsIdle (received_of e.knows)) receivers.items }
     requires batch { 0 < way.batch }
     ensures sender { IfOk result (λ r. r.0 ≡ sender) }
     ensures ends { IfOk result (λ r. map given_end r.1.items ≡ receivers.items) }
@@ -126,10 +126,9 @@ fn wind_up<R: Threads + Wait + Copy, E: Drop, H: InPlaceHandler<E> + Drop>(
     halter: Halter<E>,
     batch: u64,
 ) -> Result<(Vec<H>, Settled<E>, Values<E>), AllocError>
-    requires ends { AreAllEnds live (map given_end workers.items) }
-    requires halter { IsHalterOf live halter }
+    requires ends { AreAllEnds live (map given_end workers.items) halter }
     requires unhalted { halter.knows.halted ≡ false }
-    requires fresh { (h : _) (e : ReceiverEnd E) → get_elem? (map given_end workers.items) h ≡ some e → (received_of e).events ≡ [] }
+    requires fresh { (h : _) (e : ReceiverEnd E) → get_elem? (map given_end workers.items) h ≡ some e → (received_of e.knows).events ≡ [] }
     requires batches { AreInBatches batch workers.items }
     ensures through { IfOk result (λ r. AllWentThrough H.goes batch (events_of live.knows.published) (map given_handler workers.items) r.0.items) }
     ensures served { IfOk result (λ r. AreServedBack H.goes batch (map given_end workers.items) (map given_handler workers.items) r.1.receivers.value.items r.0.items) }
@@ -138,7 +137,7 @@ fn wind_up<R: Threads + Wait + Copy, E: Drop, H: InPlaceHandler<E> + Drop>(
     let sender = closed(live);
     let served = join(&rt, workers)?;
     let Back { outlets, handlers } = apart(alloc, served)?;
-    let (settled, events) = finish(sender, outlets, halter);
+    let (settled, events) = settle_all(sender, outlets, halter);
     Ok((handlers, settled, events))
 }
 

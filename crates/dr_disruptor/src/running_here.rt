@@ -4,8 +4,8 @@ ghost use Rattle.std.specs.Prelude.{◌≡◌, ◌<◌, [], false, IfErr, IfOk, 
 ghost use mathlib.Core.Option.{some};
 ghost use lib.ListN.{get_elem?};
 ghost use Rattle.dr_plain.specs.Calls.Ends.{ReceiverEnd, received_of};
-ghost use Rattle.dr_plain.specs.Calls.Settling.{AreAllEnds, IsHalterOf};
-ghost use Rattle.dr_plain.specs.Meaning.Records.{events_of};
+ghost use Rattle.dr_plain.specs.Calls.Settling.{AreAllEnds};
+ghost use Rattle.dr_lent.specs.Events.{events_of};
 ghost use Rattle.dr_disruptor.specs.Handlers.{AllWentThrough};
 ghost use Rattle.dr_disruptor.specs.Here.{HereEnd, sending_here};
 ghost use Rattle.dr_disruptor.specs.Running.{AreServedBack, AreSettled, IsOutcomeBy, refusal_of, shape_of};
@@ -21,7 +21,7 @@ use crate::workers::{Back, apart};
 use dr_cells::Values;
 use dr_graph::Graph;
 use dr_meaning::InPlaceHandler;
-use dr_plain::{Halter, Settled, finish};
+use dr_plain::{Halter, Settled, settle_all};
 use dr_seq::Size;
 use dr_workers::WaitStrategy;
 use std::alloc::{AllocError, Global};
@@ -34,10 +34,9 @@ fn wind_up_here<R: Wait + Copy, E: Drop, H: InPlaceHandler<E> + Drop>(
     live: LiveSender<R, Here<E, H>>,
     halter: Halter<E>,
 ) -> Result<(Vec<H>, Settled<E>, Values<E>), AllocError>
-    requires ends { AreAllEnds live.sender live.ends }
-    requires halter { IsHalterOf live.sender halter }
+    requires ends { AreAllEnds live.sender live.ends halter }
     requires unhalted { halter.knows.halted ≡ false }
-    requires fresh { (h : _) (e : ReceiverEnd E) → get_elem? live.ends h ≡ some e → (received_of e).events ≡ [] }
+    requires fresh { (h : _) (e : ReceiverEnd E) → get_elem? live.ends h ≡ some e → (received_of e.knows).events ≡ [] }
     ensures through { IfOk result (λ r. AllWentThrough H.goes live.batch (events_of live.sender.knows.published) live.starts r.0.items) }
     ensures served { IfOk result (λ r. AreServedBack H.goes live.batch live.ends live.starts r.1.receivers.value.items r.0.items) }
     ensures settled { IfOk result (λ r. AreSettled live.sender r.1 r.2) }
@@ -45,7 +44,7 @@ fn wind_up_here<R: Wait + Copy, E: Drop, H: InPlaceHandler<E> + Drop>(
     let (here, _bell) = live.into_end();
     let (sender, served) = here.drained(&rt, alloc)?;
     let Back { outlets, handlers } = apart(alloc, served)?;
-    let (settled, events) = finish(sender, outlets, halter);
+    let (settled, events) = settle_all(sender, outlets, halter);
     Ok((handlers, settled, events))
 }
 

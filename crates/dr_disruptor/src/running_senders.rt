@@ -23,7 +23,7 @@ use crate::workers::{Back, Worker, apart, join, start, wait_for};
 use dr_cells::Values;
 use dr_graph::Graph;
 use dr_meaning::{InPlaceHandler, MAX_LIMIT, Mode};
-use dr_plain_senders::{Halter, Receiver, Sender, Settled, finish, senders_ring};
+use dr_plain_senders::{Halter, Receiver, Sender, Settled, ring, settle_all};
 use dr_seq::Size;
 use dr_workers::{Bell, WaitStrategy};
 use std::alloc::{AllocError, Global};
@@ -70,9 +70,7 @@ fn open<E: Drop>(
         return Err(RunFault::Senders { given: feeds });
     }
     let bell = Arc::new(alloc, Bell::new())?;
-    let Ok((senders, receivers, halter)) = senders_ring(
-        alloc, graph, size, MAX_LIMIT, feeds, events,
-    ) else {
+    let Ok((senders, receivers, halter)) = ring(alloc, graph, size, MAX_LIMIT, feeds, events) else {
         return Err(RunFault::Memory);
     };
     Ok((senders, receivers, halter, bell))
@@ -189,7 +187,7 @@ fn wind_up<R: Threads, E: Drop, H: InPlaceHandler<E> + Drop, A: Drop>(
     let served = join(rt, workers)?;
     let Back { outlets, handlers } = apart(alloc, served)?;
     let (senders, answers) = senders_apart(alloc, sent)?;
-    let (settled, events) = finish(senders, outlets, halter);
+    let (settled, events) = settle_all(senders, outlets, halter);
     Ok((handlers, settled, events, answers))
 }
 

@@ -1,11 +1,12 @@
 //! The sender of a run: each of its calls claims, fills and publishes.
 
-ghost use Rattle.std.specs.Prelude.{◌≡◌, ◌+◌, ◌++◌, ◌-◌, ◌<◌, ◌^◌, [], IfErr, IfOk, OnOk, length, min};
+ghost use Rattle.std.specs.Prelude.{◌≡◌, ◌+◌, ◌++◌, ◌-◌, ◌<◌, ◌^◌, [], Err, IfErr, IfOk, OnOk, length, min};
 ghost use Rattle.std.specs.Fn.{FnOnceReturnsAtMut};
+ghost use Rattle.dr_meaning.specs.Calls.Calling.{ClaimsStretch};
 ghost use Rattle.dr_meaning.specs.Calls.Filling.{FillsFrom, FillsOne};
 ghost use Rattle.dr_meaning.specs.Calls.Ends.{IsStretch};
 ghost use Rattle.dr_meaning.specs.Calls.InPlaceInlets.{Opens};
-ghost use Rattle.dr_disruptor.specs.Sending.{ClaimedAtOnce, ClaimedInCuts, Fills, FillsOn, FillsPart, IsNth, IsRefused, SendsAll, SendsOne, StopsAfter};
+ghost use Rattle.dr_disruptor.specs.Sending.{ClaimedAtOnce, ClaimedInCuts, Fills, FillsOn, FillsPart, IsNth, IsRefused, OnlyCalled, SendsAll, SendsOne, StopsAfter};
 ghost use Rattle.dr_plain_senders.specs.Calls.InPlace.{sending_of};
 ghost use Rattle.dr_plain_senders.specs.Calls.Sending.{HaltCall};
 ghost use Rattle.dr_plain_senders.specs.Calls.Ends.{sender_place};
@@ -50,9 +51,10 @@ fn claim<R: Wait, I: InPlaceInlet>(
 ) -> Result<Claimed, Refusal>
     requires closed { (I.sending end.old).pending ≡ [] }
     ensures kept { I.kept end.new ≡ I.kept end.old }
+    ensures called { OnlyCalled I.does end.old end.new }
     ensures stretch { IfOk result (IsStretch n) }
     ensures opens { IfOk result (λ c. Opens c.lo n (I.sending end.old) (I.sending end.new)) }
-    ensures refused { IfErr result (λ r. IsRefused I.kept I.sending I.refuses n r end.old end.new) }
+    ensures refused { IfErr result (λ r. IsRefused I.kept I.sending I.does n r end.old end.new) }
 {
     let mut waits = strategy.begin(rt, bell, n);
     for _ in rt.forever() {
@@ -86,6 +88,7 @@ fn fill_each<I: InPlaceInlet, F: Fn(&mut I::Event, u64)>(
     requires within { FillsPart (Fills (FillsOne F.Fn fill.now) first) 0 n lo (I.sending end.old) (I.sending end.old) }
     requires fits { (lo + n < 2 ^ 64) × (first + n < 2 ^ 64) }
     ensures kept { I.kept end.new ≡ I.kept end.old }
+    ensures called { OnlyCalled I.does end.old end.new }
     ensures filled { FillsPart (Fills (FillsOne F.Fn fill.now) first) n n lo (I.sending end.old) (I.sending end.new) }
 {
     for k in 0..n {
@@ -104,6 +107,7 @@ fn fill_by<I: InPlaceInlet, F: FnMut(&mut I::Event, u64)>(
     requires within { FillsPart (λ events. FillsOn (FillsFrom F.FnMut) fill.old 0 events fill.old) 0 n lo (I.sending end.old) (I.sending end.old) }
     requires fits { lo + n < 2 ^ 64 }
     ensures kept { I.kept end.new ≡ I.kept end.old }
+    ensures called { OnlyCalled I.does end.old end.new }
     ensures filled { FillsPart (λ events. FillsOn (FillsFrom F.FnMut) fill.old 0 events fill.new) n n lo (I.sending end.old) (I.sending end.new) }
     ensures callable { F.IsAlwaysCallable fill.new }
 {
@@ -147,12 +151,13 @@ impl<R: Copy, I: InPlaceInlet> LiveSender<R, I> {
         fill: F,
     ) -> Result<(), ClaimFault>
         requires { F.IsAlwaysCallable fill }
-        // It is still the same ring's sender.
+        // It is still the same ring's sender, to which nothing was done but calls of an end in place, one after another.
         ensures kept { I.kept self.new ≡ I.kept self.old }
+        ensures called { OnlyCalled I.does self.old self.new }
         // What the closure left of what lay there is published behind all that was before.
         ensures sent { OnOk result (SendsOne (λ was now. FnOnceReturnsAtMut F.FnOnce fill was tt now) (I.sending self.old).published (I.sending self.new).published) }
         // A refused claim sends nothing.
-        ensures refused { IfErr result (λ fault. I.refuses self.old 1 fault self.new × (I.sending self.new ≡ I.sending self.old)) }
+        ensures refused { IfErr result (λ fault. I.does self.old (ClaimsStretch 1 (Err fault)) self.new × (I.sending self.new ≡ I.sending self.old)) }
     {
         let Claimed { lo, hi } = self.end.try_claim(1)?;
         self.end.update(lo, fill);
@@ -184,12 +189,13 @@ impl<R: Wait + Copy, I: InPlaceInlet> LiveSender<R, I> {
     /// It is refused with `Exhausted` after 2^62 events, or with `Halted`, and changes nothing then.
     pub fn publish_with<F: FnOnce(&mut I::Event) + Drop>(&mut self, fill: F) -> Result<(), Refusal>
         requires { F.IsAlwaysCallable fill }
-        // It is still the same ring's sender.
+        // It is still the same ring's sender, to which nothing was done but calls of an end in place, one after another.
         ensures kept { I.kept self.new ≡ I.kept self.old }
+        ensures called { OnlyCalled I.does self.old self.new }
         // What the closure left of what lay there is published behind all that was before.
         ensures sent { OnOk result (SendsOne (λ was now. FnOnceReturnsAtMut F.FnOnce fill was tt now) (I.sending self.old).published (I.sending self.new).published) }
         // A refused claim sends nothing, and is not refused for want of room.
-        ensures refused { IfErr result (λ r. IsRefused I.kept I.sending I.refuses 1 r self.old self.new) }
+        ensures refused { IfErr result (λ r. IsRefused I.kept I.sending I.does 1 r self.old self.new) }
     {
         let Claimed { lo, hi } = claim(&self.rt, &mut self.end, &self.bell, self.strategy, 1)?;
         self.end.update(lo, fill);
@@ -208,9 +214,10 @@ impl<R: Wait + Copy, I: InPlaceInlet> LiveSender<R, I> {
         requires callable { F.IsAlwaysCallable fill.now }
         requires fits { first + part < 2 ^ 64 }
         ensures kept { I.kept self.new ≡ I.kept self.old }
+        ensures called { OnlyCalled I.does self.old self.new }
         ensures sent { OnOk result (SendsAll (Fills (FillsOne F.Fn fill.now) first) part (I.sending self.old).published (I.sending self.new).published) }
         ensures claims { OnOk result (ClaimedAtOnce I.kept I.sending (length (I.sending self.old).published) part self.old self.new) }
-        ensures refused { IfErr result (λ r. IsRefused I.kept I.sending I.refuses part r self.old self.new) }
+        ensures refused { IfErr result (λ r. IsRefused I.kept I.sending I.does part r self.old self.new) }
     {
         let Claimed { lo, hi } = claim(&self.rt, &mut self.end, &self.bell, self.strategy, part)?;
         fill_each(&mut self.end, lo, part, first, fill);
@@ -230,14 +237,15 @@ impl<R: Wait + Copy, I: InPlaceInlet> LiveSender<R, I> {
     ) -> Result<(), Refusal>
         requires callable { F.IsAlwaysCallable fill }
         requires cut { 0 < cut }
-        // It is still the same ring's sender.
+        // It is still the same ring's sender, to which nothing was done but calls of an end in place, one after another.
         ensures kept { I.kept self.new ≡ I.kept self.old }
+        ensures called { OnlyCalled I.does self.old self.new }
         // So many events are published behind all that was before, each as the closure leaves it, by its number.
         ensures sent { OnOk result (SendsAll (Fills (FillsOne F.Fn fill) 0) count (I.sending self.old).published (I.sending self.new).published) }
         // It claimed `cut` of them at once, again and again, and at last those that were left.
         ensures claims { OnOk result (ClaimedInCuts I.kept I.sending cut count self.old self.new) }
         // The first claims were sent whole, and the next one was refused.
-        ensures refused { IfErr result (λ r. StopsAfter (FillsOne F.Fn fill) I.kept I.sending I.refuses count cut r self.old self.new) }
+        ensures refused { IfErr result (λ r. StopsAfter (FillsOne F.Fn fill) I.kept I.sending I.does count cut r self.old self.new) }
     {
         let mut done = 0;
         while done < count {
@@ -258,14 +266,15 @@ impl<R: Wait + Copy, I: InPlaceInlet> LiveSender<R, I> {
         fill: &mut F,
     ) -> Result<(), Refusal>
         requires callable { F.IsAlwaysCallable fill.old }
-        // It is still the same ring's sender.
+        // It is still the same ring's sender, to which nothing was done but calls of an end in place, one after another.
         ensures kept { I.kept self.new ≡ I.kept self.old }
+        ensures called { OnlyCalled I.does self.old self.new }
         // So many events are published behind all that was before, each as the closure leaves it, which goes from state to state.
         ensures sent { OnOk result (SendsAll (λ events. FillsOn (FillsFrom F.FnMut) fill.old 0 events fill.new) n (I.sending self.old).published (I.sending self.new).published) }
         // All of them were claimed at once.
         ensures claims { OnOk result (ClaimedAtOnce I.kept I.sending (length (I.sending self.old).published) n self.old self.new) }
         // A refused claim sends nothing, and calls the closure for nothing.
-        ensures refused { IfErr result (λ r. IsRefused I.kept I.sending I.refuses n r self.old self.new × (fill.new ≡ fill.old)) }
+        ensures refused { IfErr result (λ r. IsRefused I.kept I.sending I.does n r self.old self.new × (fill.new ≡ fill.old)) }
         // You may call the closure again.
         ensures callable { F.IsAlwaysCallable fill.new }
         // A batch of none is refused.
@@ -284,14 +293,15 @@ impl<R: Wait + Copy, E: Copy, I: InPlaceInlet<Event = E>> LiveSender<R, I> {
     /// [`LiveSender::publish_each`] is.
     pub fn publish_all(&mut self, events: &[E], cut: u64) -> Result<(), Refusal>
         requires cut { 0 < cut }
-        // It is still the same ring's sender.
+        // It is still the same ring's sender, to which nothing was done but calls of an end in place, one after another.
         ensures kept { I.kept self.new ≡ I.kept self.old }
+        ensures called { OnlyCalled I.does self.old self.new }
         // Just these events are published, behind all that was before.
         ensures sent { OnOk result ((I.sending self.new).published ≡ (I.sending self.old).published ++ events.now) }
         // It claimed `cut` of them at once, again and again, and at last those that were left.
         ensures claims { OnOk result (ClaimedInCuts I.kept I.sending cut (length events.now) self.old self.new) }
         // The first claims were sent whole, and the next one was refused.
-        ensures refused { IfErr result (λ r. StopsAfter (IsNth events.now) I.kept I.sending I.refuses (length events.now) cut r self.old self.new) }
+        ensures refused { IfErr result (λ r. StopsAfter (IsNth events.now) I.kept I.sending I.does (length events.now) cut r self.old self.new) }
     {
         self.publish_each(
             events.len() as u64,

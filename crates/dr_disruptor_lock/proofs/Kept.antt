@@ -1,6 +1,6 @@
 -- What threads gave back that kept their promises.
 use Rattle.std.proofs.Common.{◌≡◌, ℕ, ◌<◌, List, length, map, get_or, Result, Ok, Err, sym, ap, subst, ◌∙◌, arith}
-use Rattle.std.specs.Prelude.{IfOk}
+use Rattle.std.specs.Prelude.{IfErr, IfOk}
 use mathlib.Core.Option.{some}
 use lib.ListN.{get_elem?, length-map}
 use Rattle.atomic_table.proofs.Lists.{at_map}
@@ -14,7 +14,7 @@ use Rattle.dr_disruptor_lock.specs.declared.jobs.Task.{Task}
 use Rattle.dr_disruptor_lock.specs.declared.sending.Delivered.{Delivered}
 use Rattle.dr_disruptor_lock.specs.declared.serving.Served.{Served}
 use Rattle.dr_disruptor_lock.specs.declared.workers.Joined.{Joined}
-use Rattle.dr_disruptor_lock.specs.Joining.{AreSent, AreServed, IsJoined}
+use Rattle.dr_disruptor_lock.specs.Joining.{AreSent, AreServed, ComesBack}
 use Rattle.dr_disruptor_lock.specs.Serving.{Producer, Sending, Serving, Worker, given_job, given_size, given_task}
 
 module _ {W B : Type 0} (Keeps : W → B → Type 0) where
@@ -55,10 +55,10 @@ are_served {L} {A} begun goes workers served many each = record {
       (given_job w, at_map given_job workers h w at_w, serving);
 }
 
-pub are_joined : {L A E : Type 0} (begun : History Event) (size : ℕ) (goes : Relation Event A) (halter : EndView Event) (workers : List (Worker L A))
-    (jobs : List (Job L A)) (tasks : List (Task L)) (r : Result (Joined L A) E) → map given_job workers ≡ jobs
-    → IfOk r (λ joined. HasHalted halter joined.halter) → IfOk r (λ joined. AreSent begun size tasks joined.sent.items)
-    → IfOk r (λ joined. AreServed begun goes (map given_job workers) joined.served.items) → IfOk r (λ joined. IsJoined begun size goes halter jobs tasks joined)
-are_joined {L} {A} begun size goes halter workers jobs tasks (Ok joined) given halted sent served =
+pub comes_back : {L A : Type 0} (begun : History Event) (size : ℕ) (goes : Relation Event A) (halter : EndView Event) (workers : List (Worker L A))
+    (jobs : List (Job L A)) (tasks : List (Task L)) (r : Result (Joined L A) (EndView Event)) → map given_job workers ≡ jobs
+    → IfOk r (λ joined. HasHalted halter joined.halter) → IfErr r (λ halted. HasHalted halter halted) → IfOk r (λ joined. AreSent begun size tasks joined.sent.items)
+    → IfOk r (λ joined. AreServed begun goes (map given_job workers) joined.served.items) → ComesBack begun size goes halter jobs tasks r
+comes_back {L} {A} begun size goes halter workers jobs tasks (Ok joined) given halted lacking sent served =
     record { halted = halted; served = subst (λ (l : List (Job L A)). AreServed begun goes l joined.served.items) given served; sent = sent }
-are_joined begun size goes halter workers jobs tasks (Err e) given halted sent served = tt
+comes_back begun size goes halter workers jobs tasks (Err end) given halted lacking sent served = lacking

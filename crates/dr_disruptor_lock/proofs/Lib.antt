@@ -5,5 +5,8 @@ pub mod Listing
 pub mod Sends
 pub mod Kept
 pub mod Fronts
+pub mod Alike
+pub mod Lengths
+pub mod Chosen
 pub mod Returned
 pub mod Merged

@@ -144,12 +144,12 @@ inside goes a b [] is = ap (λ (w : Watching _). w.handler) is
 inside goes a b (x ∷ xs) is = (is.0.handler, is.1.shown, inside goes is.0 b xs is.2)
 
 -- all that it was shown is in its list
-record Lists {A : Type 0} (a b : Watching A) (xs : List (Showing Event)) : Type 0 where
-  whole : a.is_whole ≡ true
-  list : b.list.items ≡ a.list.items ++ events_shown xs
-  numbered : Numbered (length a.list.items) xs
+pub record Lists {A : Type 0} (a b : Watching A) (xs : List (Showing Event)) : Type 0 where
+  pub whole : a.is_whole ≡ true
+  pub list : b.list.items ≡ a.list.items ++ events_shown xs
+  pub numbered : Numbered (length a.list.items) xs
 
-lists : {A : Type 0} (goes : Relation Event A) (a b : Watching A) (xs : List (Showing Event)) → GoesThrough (Watches goes) a xs b → b.is_whole ≡ true → Lists a b xs
+pub lists : {A : Type 0} (goes : Relation Event A) (a b : Watching A) (xs : List (Showing Event)) → GoesThrough (Watches goes) a xs b → b.is_whole ≡ true → Lists a b xs
 lists goes a b [] is whole = record {
   whole = ap (λ (w : Watching _). w.is_whole) is ∙ whole;
   list = ap (λ (w : Watching _). w.list.items) (sym is) ∙ sym (append-nil a.list.items);
@@ -165,7 +165,7 @@ lists goes a b (x ∷ xs) is whole =
       numbered = (one.1, subst (λ (n : ℕ). Numbered n xs) long rest.numbered);
     }
 
-ends : {A : Type 0} (goes : Relation Event A) (a b : Watching A) (xs : List (Showing Event)) → GoesThrough (Watches goes) a xs b → EndsSo b.is_ended xs
+pub ends : {A : Type 0} (goes : Relation Event A) (a b : Watching A) (xs : List (Showing Event)) → GoesThrough (Watches goes) a xs b → EndsSo b.is_ended xs
 ends goes a b [] is = tt
 ends goes a b (x ∷ []) is = sym is.1.ended ∙ ap (λ (w : Watching _). w.is_ended) is.2
 ends goes a b (x ∷ y ∷ xs) is = ends goes is.0 b (y ∷ xs) is.2

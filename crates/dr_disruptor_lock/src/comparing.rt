@@ -5,7 +5,7 @@ ghost use Rattle.dr_meaning.specs.Meaning.Machine.{handlers};
 ghost use Rattle.dr_lock.specs.Meaning.Audit.{Faults, IsAudited, scripts_of};
 ghost use Rattle.dr_lock.specs.Meaning.History.{transcript};
 ghost use Rattle.dr_disruptor_lock.specs.Running.{IsAmiss};
-ghost use Rattle.dr_disruptor_lock.specs.Watching.{HasListed, IsUnlike};
+ghost use Rattle.dr_disruptor_lock.specs.Watching.{HasListed, IsFirstUnlike, IsNamedUnlike};
 
 use crate::watching::Watching;
 use dr_lock::{AuditFault, Recorded, audit};
@@ -14,7 +14,7 @@ use std::alloc::{AllocError, Global};
 use thiserror::Error;
 
 /// Why a history was not found to be that of its workers. Nothing that is known of an exchange makes one of these
-/// come, but for a lack of memory; no contract rules them out.
+/// come, but that an audit lacks memory; no contract rules them out.
 #[derive(Clone, Copy, Debug, PartialEq, Eq, Error)]
 pub enum HistoryFault {
     /// What an audit finds amiss, against what was sent of each script.
@@ -39,7 +39,7 @@ fn views<'a>(alloc: Global, scripts: &'a [Vec<Event>]) -> Result<Vec<&'a [Event]
 // The least handler that was not shown just these events.
 fn first_unlike<H: Drop>(watchings: &[Watching<H>], events: &[Event]) -> Option<usize>
     ensures none { IfNone result (All (HasListed events.now) watchings.now) }
-    ensures unlike { IfSome result (IsUnlike watchings.now events.now) }
+    ensures unlike { IfSome result (IsFirstUnlike watchings.now events.now) }
 {
     for h in 0..watchings.len() {
         if !watchings[h].has_listed(events) {
@@ -47,6 +47,22 @@ fn first_unlike<H: Drop>(watchings: &[Watching<H>], events: &[Event]) -> Option<
         }
     }
     None
+}
+
+// A list of events, where all handlers were shown just these.
+fn if_all_listed<H: Drop>(
+    list: Vec<Event>,
+    watchings: &[Watching<H>],
+) -> Result<Vec<Event>, HistoryFault>
+    ensures list { IfOk result (λ same. same ≡ list) }
+    ensures shown { IfOk result (λ same. All (HasListed same.items) watchings.now) }
+    // It asks for no memory, so it never says that there was none.
+    ensures unlike { IfErr result (IsNamedUnlike watchings.now list.items) }
+{
+    match first_unlike(watchings, list.as_slice()) {
+        None => Ok(list),
+        Some(h) => Err(HistoryFault::Shown(h)),
+    }
 }
 
 // The one list of events that the history has, by an audit.
@@ -72,13 +88,10 @@ pub(crate) fn compared<H: Drop>(
 ) -> Result<Vec<Event>, HistoryFault>
     ensures audited { IfOk result (λ list. IsAudited (transcript recorded.now.history) (handlers recorded.now.history.core.setup) (map (λ v. v.items) scripts.now) list.items) }
     ensures shown { IfOk result (λ list. All (HasListed list.items) watchings.now) }
-    ensures amiss { IfErr result (IsAmiss (transcript recorded.now.history) (handlers recorded.now.history.core.setup) (map (λ v. v.items) scripts.now) (IsUnlike watchings.now)) }
+    ensures amiss { IfErr result (IsAmiss (transcript recorded.now.history) (handlers recorded.now.history.core.setup) (map (λ v. v.items) scripts.now) (IsFirstUnlike watchings.now)) }
 {
     match audited(alloc, recorded, scripts) {
-        Ok(list) => match first_unlike(watchings, list.as_slice()) {
-            None => Ok(list),
-            Some(h) => Err(HistoryFault::Shown(h)),
-        },
+        Ok(list) => if_all_listed(list, watchings),
         Err(found) => Err(HistoryFault::Audit(found)),
     }
 }

@@ -48,7 +48,7 @@ pub(crate) fn jobs_of<L: Exchange<Event>, H: Drop>(
     ensures begun { IfOk result (λ jobs. shared.new.begun ≡ shared.old.begun) }
     ensures given { IfOk result (λ jobs. shared.new.given ≡ shared.old.given + length jobs.items) }
     ensures handlers { IfOk result (λ jobs. map (λ j. j.watching.handler) jobs.items ≡ handlers.items) }
-    ensures fresh { IfOk result (λ jobs. AreJobs jobs.items) }
+    ensures fresh { IfOk result (λ jobs. AreJobs room jobs.items) }
 {
     let mut jobs = Vec::with_capacity(alloc, handlers.len())?;
     for handler in handlers {

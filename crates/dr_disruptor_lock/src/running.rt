@@ -1,8 +1,8 @@
 //! A whole run over an exchange behind a lock.
 
-ghost use Rattle.std.specs.Prelude.{◌≡◌, ◌^◌, ◌≤◌, [], None, false, IfErr, IfOk, Ok, OnOk, length, map};
+ghost use Rattle.std.specs.Prelude.{◌≡◌, ◌+◌, ◌*◌, ◌^◌, ◌≤◌, [], None, false, IfErr, IfOk, IfSome, MatchOption, Ok, OnOk, length, map, sum_by};
 ghost use Rattle.dr_meaning.specs.declared.mode.Mode.TheVariants.{Multi};
-ghost use Rattle.dr_meaning.specs.Meaning.Machine.{setup_of};
+ghost use Rattle.dr_meaning.specs.Meaning.Machine.{handlers as handlers_of, setup_of};
 ghost use Rattle.dr_meaning.specs.Calls.OpenFault.{has_bad_producers};
 ghost use Rattle.dr_workers.specs.Meaning.FirstFault.{first_fault as first_of};
 ghost use Rattle.dr_disruptor.specs.Handlers.{AllWentThrough};
@@ -71,17 +71,22 @@ impl<H: Drop> RunOutcome<H> {
     }
 }
 
-// How many events all scripts have, or as many as there may be.
-fn events_in(scripts: &[Vec<Event>]) -> usize {
-    scripts.iter().fold(
-        0,
-        |n: usize, script: &Vec<Event>| n.saturating_add(script.len()),
-    )
+// How many events all scripts have, or `None` past the greatest number.
+fn events_in(scripts: &[Vec<Event>]) -> Option<usize>
+    ensures { MatchOption result (2 ^ 64 ≤ sum_by (λ s. length s.items) scripts.now) (λ events. events ≡ sum_by (λ s. length s.items) scripts.now) }
+{
+    let mut events: usize = 0;
+    for script in scripts {
+        events = events.checked_add(script.len())?;
+    }
+    Some(events)
 }
 
 // How many entries a history has at most of so many events that so many handlers are shown: the claim, the write and
 // the publication of each, and for each handler its batch and its completion; the halt, and each handler's `Drained`.
-fn entries_for(handlers: usize, events: usize) -> Option<usize> {
+fn entries_for(handlers: usize, events: usize) -> Option<usize>
+    ensures { IfSome result (λ entries. entries ≡ (handlers * 2 + 3) * events + handlers + 1) }
+{
     let each = handlers.checked_mul(2)?.checked_add(3)?;
     let all = each.checked_mul(events)?;
     all.checked_add(handlers)?.checked_add(1)
@@ -103,26 +108,31 @@ fn check(graph: usize, given: usize, scripts: usize) -> Result<(), RunFault>
     Ok(())
 }
 
-// The exchange of a graph, with as many handlers as it has and so many producers, and room for its history.
+// The exchange of a graph, with as many handlers as it has and a producer for each script, and room for its history;
+// and how many events the scripts have.
 fn open(
     alloc: Global,
     graph: Graph,
     size: Size,
     handlers: usize,
-    scripts: usize,
-    events: usize,
-) -> Result<Recorded<Event>, RunFault>
-    ensures setup { IfOk result (λ recorded. recorded.history.core.setup ≡ setup_of graph.upstreams size (Multi scripts) (2 ^ 62)) }
-    ensures fresh { IfOk result (λ recorded. recorded.history.entries ≡ []) }
+    scripts: &[Vec<Event>],
+) -> Result<(Recorded<Event>, usize), RunFault>
+    ensures setup { IfOk result (λ opened. opened.0.history.core.setup ≡ setup_of graph.upstreams size (Multi (length scripts.now)) (2 ^ 62)) }
+    ensures fresh { IfOk result (λ opened. opened.0.history.entries ≡ []) }
+    ensures events { IfOk result (λ opened. opened.1 ≡ sum_by (λ s. length s.items) scripts.now) }
+    // No call of the run's workers has to ask for memory.
+    ensures room { IfOk result (λ opened. (opened.0.entry_room ≡ (handlers * 2 + 3) * opened.1 + handlers + 1) × (opened.0.value_room ≡ handlers * opened.1)) }
     ensures many { IfOk result (λ _. handlers ≡ length graph.upstreams) }
-    ensures few { IfOk result (λ _. scripts ≤ 16) }
-    ensures fits { IfOk result (λ _. has_bad_producers (Multi scripts) ≡ false) }
-    ensures refused { IfErr result (λ e. e ≡ refusal_of (length graph.upstreams) handlers scripts) }
+    ensures few { IfOk result (λ _. length scripts.now ≤ 16) }
+    ensures fits { IfOk result (λ _. has_bad_producers (Multi (length scripts.now)) ≡ false) }
+    ensures refused { IfErr result (λ e. e ≡ refusal_of (length graph.upstreams) handlers (length scripts.now)) }
 {
-    check(graph.len(), handlers, scripts)?;
-    let mode = Mode::Multi(scripts as u64);
+    let producers = scripts.len();
+    check(graph.len(), handlers, producers)?;
+    let mode = Mode::Multi(producers as u64);
+    let events = events_in(scripts).ok_or(AllocError)?;
     let entries = entries_for(handlers, events).ok_or(AllocError)?;
-    let words = handlers.checked_mul(events).ok_or(AllocError)?;
+    let values = handlers.checked_mul(events).ok_or(AllocError)?;
     match Recorded::open(
         alloc,
         graph,
@@ -131,9 +141,9 @@ fn open(
         MAX_LIMIT,
         Event::NONE,
         entries,
-        words,
+        values,
     ) {
-        Ok(recorded) => Ok(recorded),
+        Ok(recorded) => Ok((recorded, events)),
         Err(_) => Err(RunFault::Memory),
     }
 }
@@ -154,11 +164,11 @@ fn run_over<
     events: usize,
     strategy: WaitStrategy,
 ) -> Result<RunOutcome<H>, AllocError>
-    requires name { blank.name ≡ L.name }
-    requires parts { blank.parts ≡ L.parts }
-    requires ends { blank.parts ≡ 65 }
+    requires blank { (blank.name ≡ L.name) × (blank.parts ≡ L.parts) × (blank.parts ≡ 65) }
     requires begun { recorded.history ≡ L.begun }
     requires few { length scripts.items ≤ 16 }
+    requires many { length handlers.items ≡ handlers_of recorded.history.core.setup }
+    requires room { sum_by (λ s. length s.items) scripts.items ≤ events }
     ensures { IfOk result (IsOutcome H.goes recorded.history size (map (λ s. s.items) scripts.items) handlers.items) }
 {
     let mut shared = Shared::<Event, L>::new(recorded, blank);
@@ -175,7 +185,7 @@ fn run_over<
     };
     match exchange(alloc, &around, halter, jobs, tasks) {
         Ok(joined) => settled(alloc, shared, joined),
-        Err(lacking) => Err(lacking),
+        Err(_halted) => Err(AllocError),
     }
 }
 
@@ -187,8 +197,9 @@ fn run_over<
 /// order. Which merge of the scripts it is may differ from run to run.
 ///
 /// It is refused with `Handlers` where there are not as many handlers as the graph has, with `Senders` where there
-/// are no scripts or more than 16, and with `Memory` where a thread could not be started. Where memory runs out, or
-/// a thread cannot be started, what was done is lost. The graph is spent, at a fault too.
+/// are no scripts or more than 16, and with `Memory` where memory ran out or a thread could not be started. Then the
+/// exchange is halted, all threads have ended, and what was done is lost; where a handler's thread was lacking, nothing
+/// was sent. The graph is spent, at a fault too.
 pub fn run_locked<R: Threads + Wait + Sync, H: InPlaceHandler<Event> + Drop + Send>(
     rt: &R,
     alloc: Global,
@@ -201,15 +212,15 @@ pub fn run_locked<R: Threads + Wait + Sync, H: InPlaceHandler<Event> + Drop + Se
     // Where no worker has a fault and the history agrees, all handlers went through the list, a merge of the scripts.
     ensures whole { IfOk result (λ ran. IfOk ran.list (λ list. AreFine ran.endings.items → AllWentThroughMerge (AllWentThrough H.goes) 256 (map (λ s. s.items) scripts.items) list.items handlers.items ran.handlers.items)) }
     // It went over a new exchange of this graph and size, and the list is of what was sent of the scripts, whatever the faults.
+    // A handler is named in its place only if it was shown other events, and each before it just these.
     ensures run { IfOk result (IsRun H.goes graph.upstreams size (map (λ s. s.items) scripts.items) handlers.items) }
     // It takes as many handlers as the graph has, and 1 to 16 scripts; any other fault is `Memory`.
     ensures many { IfOk result (λ _. length handlers.items ≡ length graph.upstreams) }
     ensures few { IfOk result (λ _. has_bad_producers (Multi (length scripts.items)) ≡ false) }
     ensures refused { IfErr result (λ e. e ≡ refusal_of (length graph.upstreams) (length handlers.items) (length scripts.items)) }
 {
-    let (given, many) = (handlers.len(), scripts.len());
-    let events = events_in(scripts.as_slice());
-    let recorded = open(alloc, graph, size, given, many, events)?;
+    let given = handlers.len();
+    let (recorded, events) = open(alloc, graph, size, given, scripts.as_slice())?;
     let blank = Blank::new(65);
     match run_over::<Brand, R, H>(
         rt, alloc, blank, recorded, size, handlers, scripts, events, strategy,

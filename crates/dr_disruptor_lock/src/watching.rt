@@ -1,6 +1,6 @@
 //! A handler that lists what it is shown.
 
-ghost use Rattle.std.specs.Prelude.{◌↔◌, IfOk, IsTrue};
+ghost use Rattle.std.specs.Prelude.{◌≡◌, ◌↔◌, IfOk, IsTrue, vec_capacity};
 ghost use Rattle.dr_disruptor_lock.specs.Watching.{HasListed, IsNew};
 
 use dr_meaning::InPlaceHandler;
@@ -22,7 +22,10 @@ pub struct Watching<H> {
 impl<H: Drop> Watching<H> {
     /// One that was shown nothing yet, with room for so many events.
     pub fn new(alloc: Global, handler: H, room: usize) -> Result<Watching<H>, AllocError>
-        ensures { IfOk result (λ watching. IsNew handler watching) }
+        // It has this handler, and was shown nothing yet.
+        ensures new { IfOk result (λ watching. IsNew handler watching) }
+        // It lists so many events without asking for memory.
+        ensures room { IfOk result (λ watching. vec_capacity watching.list ≡ room) }
     {
         let list = Vec::with_capacity(alloc, room)?;
         Ok(Watching {

@@ -1,9 +1,9 @@
 //! The threads of a run: how they are started, and what they give back.
 
-ghost use Rattle.std.specs.Prelude.{IfOk, map};
+ghost use Rattle.std.specs.Prelude.{IfErr, IfOk, map};
 ghost use denote.Param.Send.{IsSend, IsSync};
 ghost use Rattle.dr_lock.specs.Calls.Lock.{HasHalted};
-ghost use Rattle.dr_disruptor_lock.specs.Joining.{AreSent, AreServed, IsJoined};
+ghost use Rattle.dr_disruptor_lock.specs.Joining.{AreSent, AreServed, CanBegin, ComesBack};
 ghost use Rattle.dr_disruptor_lock.specs.Serving.{given_job};
 
 use crate::around::Around;
@@ -26,13 +26,24 @@ pub struct Joined<L: Ledger, H> {
     pub sent: Vec<Delivered<L>>,
 }
 
+/// A handler's thread.
+type Worker<L, H> = PromisedHandle<Served<L, H>, ServesPromise<L, H>>;
+
 // Starts a thread for each task, and joins them. An error is that memory ran out or that a thread could not be
 // started: those before it send their scripts all the same.
-fn send_all<L: Exchange<Event> + Send + Sync, R: Threads + Wait + Sync>(
+fn send_all<
+    L: Exchange<Event> + Send + Sync,
+    R: Threads + Wait + Sync,
+    H: InPlaceHandler<Event> + Drop,
+>(
     alloc: Global,
     around: &Around<'_, L, R>,
     tasks: Vec<Task<L>>,
+    _halter: &End<Event, L>,
+    _workers: &[Worker<L, H>],
 ) -> Result<Vec<Delivered<L>>, AllocError>
+    // Nothing is sent before each handler has its thread, nor once the exchange is halted.
+    requires begins { CanBegin L.begun _halter.now _workers.now }
     ensures { IfOk result (λ sent. AreSent L.begun around.now.size tasks.items sent.items) }
 {
     thread::scope(
@@ -65,14 +76,16 @@ fn halted<L: Exchange<Event>, R: Wait>(around: &Around<'_, L, R>, halter: &mut E
 // their scope.
 fn abandoned<L: Exchange<Event>, R: Wait>(
     around: &Around<'_, L, R>,
-    mut halter: End<Event, L>,
-) -> AllocError {
-    halted(around, &mut halter);
-    AllocError
+    mut end: End<Event, L>,
+) -> End<Event, L>
+    ensures { HasHalted end result }
+{
+    halted(around, &mut end);
+    end
 }
 
-// Sends all scripts, halts the exchange, and joins the handlers' threads. It halts and joins also where memory ran
-// out or a sender's thread could not be started.
+// Sends all scripts, halts the exchange, and joins the handlers' threads. An error is that memory ran out or that a
+// sender's thread could not be started: the end that halted comes back.
 fn served<
     L: Exchange<Event> + Send + Sync,
     R: Threads + Wait + Sync,
@@ -82,26 +95,33 @@ fn served<
     around: &Around<'_, L, R>,
     mut halter: End<Event, L>,
     tasks: Vec<Task<L>>,
-    workers: Vec<PromisedHandle<Served<L, H>, ServesPromise<L, H>>>,
-) -> Result<Joined<L, H>, AllocError>
+    workers: Vec<Worker<L, H>>,
+) -> Result<Joined<L, H>, End<Event, L>>
+    requires begins { CanBegin L.begun halter workers.items }
     ensures halted { IfOk result (λ joined. HasHalted halter joined.halter) }
+    // No handler is left waiting, whatever is lacking.
+    ensures lacking { IfErr result (λ halted. HasHalted halter halted) }
     ensures sent { IfOk result (λ joined. AreSent L.begun around.now.size tasks.items joined.sent.items) }
     ensures served { IfOk result (λ joined. AreServed L.begun H.goes (map given_job workers.items) joined.served.items) }
 {
-    let sent = send_all(alloc, around, tasks);
+    let sent = send_all(alloc, around, tasks, &halter, workers.as_slice());
     halted(around, &mut halter);
-    let served = thread::join_promised(around.rt, workers)?;
-    let sent = sent?;
-    Ok(Joined {
-        halter,
-        served,
-        sent,
-    })
+    let Ok(served) = thread::join_promised(around.rt, workers) else {
+        return Err(halter);
+    };
+    match sent {
+        Ok(sent) => Ok(Joined {
+            halter,
+            served,
+            sent,
+        }),
+        Err(_) => Err(halter),
+    }
 }
 
 /// Starts a thread for each handler, then one for each script; joins the senders, halts the exchange, and joins the
 /// handlers. An error is that memory ran out or that a thread could not be started: where it was a handler's,
-/// nothing is sent.
+/// nothing is sent. The exchange is halted then too, by the end that comes back.
 pub(crate) fn exchange<
     L: Exchange<Event> + Send + Sync,
     R: Threads + Wait + Sync,
@@ -112,19 +132,21 @@ pub(crate) fn exchange<
     halter: End<Event, L>,
     jobs: Vec<Job<L, H>>,
     tasks: Vec<Task<L>>,
-) -> Result<Joined<L, H>, AllocError>
-    ensures { IfOk result (λ joined. IsJoined L.begun around.now.size H.goes halter jobs.items tasks.items joined) }
+) -> Result<Joined<L, H>, End<Event, L>>
+    requires begins { CanBegin L.begun halter jobs.items }
+    ensures { ComesBack L.begun around.now.size H.goes halter jobs.items tasks.items result }
 {
     thread::scope(
         thread::scope_env(),
         around.rt,
-        move |scope| -> Result<Joined<L, H>, AllocError>
+        move |scope| -> Result<Joined<L, H>, End<Event, L>>
             requires shared { IsSync L.row }
             requires workers { IsSync R.row }
             requires handlers { IsSend H.row }
-            ensures { IfOk result (λ joined. IsJoined L.begun around.entry.now.size H.goes halter jobs.items tasks.items joined) }
+            requires begins { CanBegin L.begun halter jobs.items }
+            ensures { ComesBack L.begun around.entry.now.size H.goes halter jobs.items tasks.items result }
         {
-            let mut started = Vec::with_capacity(alloc, jobs.len())?;
+            let mut started = Vec::new(alloc);
             for job in jobs {
                 let promise = ServesPromise::of(&job);
                 let Ok(worker) = scope.spawn_with(promise, move || serve(around, job)) else {

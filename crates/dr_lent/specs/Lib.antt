@@ -1,3 +1,4 @@
+pub mod Events
 pub mod Over
 pub mod Rows
 pub mod Slots

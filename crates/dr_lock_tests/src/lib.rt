@@ -13,6 +13,8 @@ mod faults;
 #[cfg(test)]
 mod finishing;
 #[cfg(test)]
+mod gates;
+#[cfg(test)]
 mod graphs;
 #[cfg(test)]
 mod histories;

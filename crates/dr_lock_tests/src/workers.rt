@@ -158,7 +158,7 @@ fn stops_at_one() -> StopsAtOne {
     }
 }
 
-const SCRIPT: [Event; 5] = [Event::NONE; 5];
+pub const SCRIPT: [Event; 5] = [Event::NONE; 5];
 
 // What the worker of a producer answers that sends the script through an end, at most so many events a claim.
 fn check_sent<R: Wait + Abort, G: Gate>(
@@ -217,11 +217,11 @@ fn stopped_producers(rt: HostRuntime) {
     check(&rt, gate.passed.load(Ordering::SeqCst), 4);
 }
 
-// An end that hands out six events, in batches of one, two and three, of which it marks the last batch alone, and finds no
-// memory at each third call. It refuses to complete less than it dealt, and more than the handler was shown. Others
-// retired its handler once it has taken so many events.
+/// An end that hands out six events, in batches of one, two and three, of which it marks the last batch alone, and finds no
+/// memory at each third call. It refuses to complete less than it dealt, and more than the handler was shown. Others
+/// retired its handler once it has taken so many events.
 #[derive(Drop)]
-struct Dealer<'a> {
+pub struct Dealer<'a> {
     shown: &'a AtomicU64,
     calls: u64,
     dealt: u64,
@@ -229,7 +229,7 @@ struct Dealer<'a> {
     told: bool,
 }
 
-fn six_events(shown: &AtomicU64, retired_at: u64) -> Dealer<'_> {
+pub fn six_events(shown: &AtomicU64, retired_at: u64) -> Dealer<'_> {
     Dealer {
         shown,
         calls: 0,
@@ -284,16 +284,16 @@ impl Outlet<Event> for Dealer<'_> {
     }
 }
 
-// A handler that counts marks, adds the first words, and tells how many events it was shown.
+/// A handler that counts marks, adds the first words, and tells how many events it was shown.
 #[derive(Drop)]
-struct Adder<'a> {
+pub struct Adder<'a> {
     shown: &'a AtomicU64,
     marks: u64,
     sum: u64,
 }
 
 impl Adder<'_> {
-    fn new(shown: &AtomicU64) -> Adder<'_> {
+    pub fn new(shown: &AtomicU64) -> Adder<'_> {
         Adder {
             shown,
             marks: 0,
@@ -315,8 +315,8 @@ impl Handler<Event> for Adder<'_> {
     }
 }
 
-// More events than there are.
-const NEVER: u64 = 7;
+/// More events than there are.
+pub const NEVER: u64 = 7;
 
 // What the worker of a handler answers over an end with six events, and how many of them, marks and what sum it was shown.
 fn check_taken<R: Wait + Abort, G: Gate>(

@@ -4,7 +4,7 @@ ghost use Rattle.std.specs.Prelude.{◌≡◌, ◌||◌, ◌<◌, ◌≤◌, ℕ
 ghost use Rattle.std.specs.Fn.{FnOnceReturnsAtMut};
 ghost use mathlib.Core.Option.{some};
 ghost use lib.ListN.{get_elem?};
-ghost use Rattle.dr_meaning.specs.Calls.Calling.{CompletesUpTo, InPlaceCall, Polls};
+ghost use Rattle.dr_meaning.specs.Calls.Calling.{ChangesEvent, ClaimsStretch, CompletesUpTo, InPlaceCall, InPlaceInletCall, Polls, PublishesFilled};
 ghost use Rattle.dr_meaning.specs.Calls.Ends.{IsStretch, Received, tells_drained, with_completed};
 ghost use Rattle.dr_meaning.specs.Calls.Filling.{FillsFrom, FillsOne};
 ghost use Rattle.dr_meaning.specs.Calls.InPlaceInlets.{Changes, IsOpen, IsWhole, Opens, Publishes, Sending};
@@ -16,8 +16,6 @@ use crate::command::{Claimed, Polled};
 /// A sender's end that fills events where they lie, one stretch after another: each is published before the next is
 /// claimed. Only claims are refused. What else an [`Inlet`](crate::Inlet) would refuse, the caller owes here.
 pub trait InPlaceInlet {
-    ghost use Rattle.dr_meaning.specs.declared.claim_fault.ClaimFault.{ClaimFault};
-
     /// What lies in the exchange.
     type Event;
 
@@ -29,11 +27,9 @@ pub trait InPlaceInlet {
     /// What it published so far, and the stretch that it claimed and did not publish.
     ghost sending: { Self → Sending Self.Event };
 
-    /// What it tells of a claim of so many that was refused, by the end before and after it.
-    ghost refuses: { Self → ℕ → ClaimFault → Self → Type 0 };
-
-    /// And of a publication, from its first sequence to its last: so that this changes nothing else.
-    ghost stores: { Self → ℕ → ℕ → Self → Type 0 };
+    /// What a call with its answer tells of the end before and after it, beside what it shows: so that it changes
+    /// nothing else.
+    ghost does: { Self → InPlaceInletCall → Self → Type 0 };
 
     /// Claims the next `n` sequences. It waits for nothing.
     fn try_claim(&mut self, n: u64) -> Result<Claimed, ClaimFault>
@@ -43,8 +39,10 @@ pub trait InPlaceInlet {
         // An accepted claim gives `n` sequences, which are open then, none of them filled.
         ensures stretch { IfOk result (IsStretch n) }
         ensures opens { IfOk result (λ c. Opens c.lo n (sending self.old) (sending self.new)) }
-        // A refusal changes nothing that it shows, and is as its type says.
-        ensures refused { IfErr result (λ fault. refuses self.old n fault self.new × (sending self.new ≡ sending self.old)) };
+        // A refusal changes nothing that it shows.
+        ensures refused { IfErr result (λ fault. sending self.new ≡ sending self.old) }
+        // What its type says of such a call holds too.
+        ensures called { does self.old (ClaimsStretch n result) self.new };
 
     /// Fills the event of a sequence that it claimed and did not publish, where it lies. What `change` finds there
     /// is what an earlier event left, or an earlier change.
@@ -53,7 +51,9 @@ pub trait InPlaceInlet {
         requires within { IsOpen (sending self.old) s }
         // It stays the same end, and the sequence has what `change` left of what it found there.
         ensures kept { kept self.new ≡ kept self.old }
-        ensures changes { Changes (λ was now. FnOnceReturnsAtMut F.FnOnce change was tt now) s (sending self.old) (sending self.new) };
+        ensures changes { Changes (λ was now. FnOnceReturnsAtMut F.FnOnce change was tt now) s (sending self.old) (sending self.new) }
+        // What its type says of such a call holds too.
+        ensures called { does self.old (ChangesEvent s) self.new };
 
     /// As `update`, by a closure that is told a number.
     fn update_at<F: Fn(&mut Self::Event, u64)>(&mut self, s: u64, fill: &F, number: u64)
@@ -61,7 +61,9 @@ pub trait InPlaceInlet {
         requires within { IsOpen (sending self.old) s }
         // It stays the same end, and the sequence has what `fill` left of what it found there.
         ensures kept { kept self.new ≡ kept self.old }
-        ensures changes { Changes (FillsOne F.Fn fill.now number) s (sending self.old) (sending self.new) };
+        ensures changes { Changes (FillsOne F.Fn fill.now number) s (sending self.old) (sending self.new) }
+        // What its type says of such a call holds too.
+        ensures called { does self.old (ChangesEvent s) self.new };
 
     /// As `update_at`, by a closure with a state of its own.
     fn update_by<F: FnMut(&mut Self::Event, u64)>(&mut self, s: u64, fill: &mut F, number: u64)
@@ -70,6 +72,8 @@ pub trait InPlaceInlet {
         // It stays the same end, and the sequence has what `fill` left of what it found there.
         ensures kept { kept self.new ≡ kept self.old }
         ensures changes { Changes (λ was now. FillsFrom F.FnMut fill.old number was fill.new now) s (sending self.old) (sending self.new) }
+        // What its type says of such a call holds too.
+        ensures called { does self.old (ChangesEvent s) self.new }
         // You may call `fill` again.
         ensures callable { F.IsAlwaysCallable fill.new };
 
@@ -79,8 +83,8 @@ pub trait InPlaceInlet {
         // It stays the same end; what was open is published in order, after all before, and nothing is open.
         ensures kept { kept self.new ≡ kept self.old }
         ensures publishes { Publishes (sending self.old) (sending self.new) }
-        // What its type says of such a publication holds too.
-        ensures stores { stores self.old lo hi self.new };
+        // What its type says of such a call holds too.
+        ensures called { does self.old (PublishesFilled lo hi) self.new };
 }
 
 /// A handler's end that shows what it took, of a handler that never retires. No call that it allows is refused: what

@@ -17,19 +17,21 @@ use Rattle.dr_runs.proofs.Seats.{adds_nothing, adds_one}
 use Rattle.dr_lent.specs.declared.lent.Lent.{Lent}
 use Rattle.dr_plain.specs.Meaning.Shape.{Shape, handlers_of}
 use Rattle.dr_plain.specs.Meaning.Words.{words_of}
-use Rattle.dr_runs.specs.Words.{cursor_word, closed_word, halt_word, count_word}
+use Rattle.dr_runs.specs.OneSender.Words.{cursor_word, closed_word, halt_word, count_word}
 use Rattle.dr_plain.specs.declared.record.SenderRecord.{SenderRecord}
 use Rattle.dr_plain.specs.declared.record.ReceiverRecord.{ReceiverRecord}
 use Rattle.dr_plain.specs.declared.record.HalterRecord.{HalterRecord}
 use Rattle.dr_plain.specs.declared.record.Step.{Step}
 use Rattle.dr_plain.specs.declared.record.Step.TheVariants.{SenderLooksAtCount, SenderLooksAtHalt, SenderPublishes, SenderHalts, SenderCloses}
 use Rattle.dr_plain.specs.declared.record.Step.TheVariants.{ReceiverLooksAtClosed, ReceiverLooksAtCursor, ReceiverLooksAtCount, ReceiverCompletes, HalterHalts, HalterLooks}
-use Rattle.dr_plain.specs.Meaning.Records.{events_of, claimed, laid, sender_looked, halt_looked, published_more, sender_halted, sender_closed}
+use Rattle.dr_plain.specs.Meaning.Records.{claimed, laid, sender_looked, halt_looked, published_more, sender_halted, sender_closed}
+use Rattle.dr_lent.specs.Events.{events_of}
 use Rattle.dr_plain.specs.Meaning.Records.{closed_looked, receiver_looked, taken_at, cursor_looked, completed_to, halter_halted, halter_looked, SeesRoom}
 use Rattle.dr_plain.specs.Meaning.Rule.{World, KeepsRule}
 use Rattle.dr_plain.specs.Meaning.Lying.{LiesBy, Lies}
 use Rattle.dr_plain.specs.Meaning.Steps.{Happens, next_of}
-use Rattle.dr_plain.specs.Calls.Finds.{FindsMore, FindsCompleted, FindsHalt, FindsEvents}
+use Rattle.dr_plain.specs.Calls.Finds.{FindsCompleted, FindsHalt, FindsEvents}
+use Rattle.dr_runs.specs.Looks.{FindsMore}
 use Rattle.dr_plain.specs.Inside.Seats.{End, Hand, Sitting, Tells, ring_ends, Loads, Stores, world_of, Ruled, as_sender, as_receiver, as_halter}
 use Rattle.dr_plain.specs.Inside.Seats.{sender_of, receiver_of, halter_of, IsSender, IsReceiver, IsHalter}
 use Rattle.dr_plain.specs.Inside.Seats.{lent_all, taken_by_claim, given_by_publication, taken_by_poll, given_by_completion, SenderLookedAtCount}

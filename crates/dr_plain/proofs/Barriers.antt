@@ -7,7 +7,7 @@ use Rattle.dr_graph.specs.Meaning.Graph.{upstreams_of, least_of}
 use Rattle.dr_lent.specs.declared.lent.Lent.{Lent}
 use Rattle.dr_plain.specs.Meaning.Shape.{Shape, handlers_of}
 use Rattle.dr_plain.specs.Meaning.Words.{words_of}
-use Rattle.dr_runs.specs.Words.{cursor_word, count_word}
+use Rattle.dr_runs.specs.OneSender.Words.{cursor_word, count_word}
 use Rattle.dr_runs.specs.declared.look.Look.{Look}
 use Rattle.dr_plain.specs.declared.record.ReceiverRecord.{ReceiverRecord}
 use Rattle.dr_plain.specs.Meaning.Records.{barrier_seen, taken_at}
@@ -16,7 +16,8 @@ use Rattle.dr_plain.specs.Meaning.Rule.{World, ArePast, KeepsRule}
 use Rattle.dr_plain.specs.Meaning.Steps.{next_of}
 use Rattle.dr_runs.proofs.Looks.{last_look_le}
 use Rattle.dr_runs.proofs.Completions.{upstream_inside}
-use Rattle.dr_plain.proofs.Keeps.{word_at, receiver_of_handler}
+use Rattle.dr_plain.proofs.Keeps.{receiver_of_handler}
+use Rattle.dr_runs.proofs.Elements.{word_at}
 
 offered_at : (cursor : ℕ) (f : ℕ → ℕ) (us : List ℕ) (u i : ℕ) → i < length us → get_or us i u ≡ u → offered_by cursor (map f us) ≤ f u
 offered_at cursor f [] u i lt e = absurd (omega arith)

@@ -1,17 +1,16 @@
 -- A ring at its opening, and what every list of steps keeps.
-use Rattle.std.proofs.Common.{◌≡◌, ℕ, zero, suc, ◌+◌, ◌<◌, ◌==◌, List, [], ◌∷◌, length, get_or, map, replicate, sym, refl, ap, ◌∙◌, subst, arith}
+use Rattle.std.proofs.Common.{◌≡◌, ℕ, zero, suc, ◌+◌, ◌==◌, List, [], ◌∷◌, length, get_or, map, replicate, sym, refl, ap, ◌∙◌, subst, arith}
 use Rattle.std.specs.Prelude.{nat_lt}
 use Rattle.std.specs.List.{range_with_len}
 use Rattle.std.proofs.lemmas.Bool.{le-ltb}
 use Rattle.std.proofs.lemmas.List.{length-replicate}
 use mathlib.Core.Option.{some, some-injective, some-ne-none}
 use lib.ListN.{get_elem?}
-use Rattle.dr_graph.specs.Meaning.Graph.{IsGraph}
 use Rattle.dr_meaning.specs.Meaning.Machine as machine
 use Rattle.dr_meaning.specs.Meaning.Transcript.{Transcript}
-use Rattle.dr_plain.specs.Meaning.Shape.{Shape, handlers_of, ring_setup}
+use Rattle.dr_plain.specs.Meaning.Shape.{Shape, IsShape, handlers_of, ring_setup}
 use Rattle.dr_plain.specs.Meaning.Words.{words_of}
-use Rattle.dr_runs.specs.Words.{cursor_word, closed_word, halt_word, count_word}
+use Rattle.dr_runs.specs.OneSender.Words.{cursor_word, closed_word, halt_word, count_word}
 use Rattle.dr_plain.specs.declared.record.ReceiverRecord.{ReceiverRecord}
 use Rattle.dr_plain.specs.declared.record.Step.{Step}
 use Rattle.dr_plain.specs.declared.record.Step.TheVariants.{SenderLooksAtCount, SenderLooksAtHalt, SenderPublishes, SenderHalts, SenderCloses}
@@ -44,10 +43,10 @@ module _ {T : Type 0} where
   fresh_at k h (suc n) zero r e = sym (some-injective _ r e) ∙ (let z : h ≡ h + 0 = omega arith in ap (λ (g : ℕ). fresh_receiver k g) z)
   fresh_at k h (suc n) (suc i) r e = fresh_at k (suc h) n i r e ∙ (let s : suc h + i ≡ h + suc i = omega arith in ap (λ (g : ℕ). fresh_receiver k g) s)
 
-pub kept_opening : (T : Type 0) (k : Shape) → IsGraph k.upstreams → 0 < k.size → KeepsRule {T = T} k (new_world k)
-kept_opening T k graph some_slot = let n = words_of k in let ws = zeros n in let halt = all_zero n halt_word in let close = all_zero n closed_word in record {
-  graph = graph;
-  some_slot = some_slot;
+pub kept_opening : (T : Type 0) (k : Shape) → IsShape k → KeepsRule {T = T} k (new_world k)
+kept_opening T k shape = let n = words_of k in let ws = zeros n in let halt = all_zero n halt_word in let close = all_zero n closed_word in record {
+  graph = shape.graph;
+  some_slot = shape.some_slot;
   wide = (let z : ℕ = 0 in length-replicate n z);
   ends = fresh_count T k 0 (handlers_of k);
   sender_plan = refl;

@@ -17,16 +17,18 @@ use Rattle.dr_runs.specs.Runs.{IsBeginning}
 use Rattle.dr_lent.specs.declared.lent.Lent.{Lent}
 use Rattle.dr_plain.specs.Meaning.Shape.{Shape, handlers_of}
 use Rattle.dr_plain.specs.Meaning.Words.{cell_of}
-use Rattle.dr_runs.specs.Words.{halt_word, count_word}
+use Rattle.dr_runs.specs.OneSender.Words.{halt_word, count_word}
 use Rattle.dr_runs.specs.declared.look.Look.{Look}
 use Rattle.dr_plain.specs.declared.record.SenderRecord.{SenderRecord}
 use Rattle.dr_runs.specs.declared.written.Written.{Written}
 use Rattle.dr_plain.specs.Meaning.Lying.{placed}
-use Rattle.dr_plain.specs.Meaning.Records.{events_of, claimed, laid, halt_looked}
-use Rattle.dr_runs.specs.Looks.{look, last_look, count_looks}
+use Rattle.dr_plain.specs.Meaning.Records.{claimed, laid, halt_looked}
+use Rattle.dr_lent.specs.Events.{events_of}
+use Rattle.dr_runs.specs.Looks.{look, last_look}
+use Rattle.dr_runs.specs.OneSender.Looks.{count_looks}
 use Rattle.dr_plain.specs.Calls.Ends.{SenderStand, SenderEnd, sent_of}
 use Rattle.dr_plain.specs.Calls.Plans.{IsPlan}
-use Rattle.dr_plain.specs.Calls.Sending.{gate_looks, FoundRoom, LooksToClaim, TriesToClaim, ClaimCall}
+use Rattle.dr_plain.specs.Calls.Sending.{gate_looks, FoundRoom, LooksToClaim, TriesToClaim, ClaimCall, tests_of_claim}
 use Rattle.dr_plain.specs.Inside.Scans.{sender_saw, more_claimed, LooksAtFinals, IsEnough, IsShort}
 use Rattle.dr_plain.specs.Inside.Fits.{IsSeenLeast, SenderFields, SenderFits, TokensFit, no_lents, open_slots}
 use Rattle.dr_plain.specs.Inside.Hands.{with_hand}
@@ -41,7 +43,6 @@ use Rattle.dr_runs.proofs.Looks.{last_look_else}
 use Rattle.dr_runs.proofs.Elements.{at_below, there}
 use Rattle.dr_plain.proofs.Noting.{noted_more, unclaimed, writes_both, writes_none, writes_count}
 use Rattle.dr_plain.proofs.Rowing.{dropped, length_rows, replicate_both, rows_both}
-use Rattle.dr_plain.specs.Meaning.Replies.{tests_of_claim}
 
 no_more : (p v n : ℕ) → (v ≡ 0 → n ≡ 0) → p + (if v == 0 then n else 0) ≡ p
 no_more p zero n none = let e = none refl in omega arith

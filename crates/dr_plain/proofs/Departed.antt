@@ -17,14 +17,15 @@ use Rattle.dr_plain.specs.Meaning.Records.{claimed}
 use Rattle.dr_plain.specs.declared.record.EndRecord.{EndRecord}
 use Rattle.dr_plain.specs.declared.record.SenderRecord.{SenderRecord}
 use Rattle.dr_plain.specs.declared.record.Step.{Step}
-use Rattle.dr_plain.specs.Calls.Ends.{SenderEnd, ReceiverEnd, SenderStand, HalterStand}
+use Rattle.dr_plain.specs.Calls.Ends.{SenderEnd, ReceiverEnd, SenderStand, HalterEnd}
 use Rattle.dr_plain.specs.Calls.Settling.{handler_counts}
 use Rattle.dr_plain.specs.Inside.Seats.{End, Hand, Sitting, ring_ends, exchange, as_receiver, IsSender, IsReceiver, IsHalter}
-use Rattle.dr_plain.specs.Inside.Stations.{sender_stand, receiver_stand, halter_stand}
+use Rattle.dr_plain.specs.Inside.Stations.{sender_stand, receiver_stand, halter_end}
 use Rattle.dr_plain.specs.Inside.Views.{sender_end, receiver_end}
 use Rattle.dr_plain.specs.Inside.Fits.{SenderFields, SenderFits, TokensFit}
 use Rattle.dr_plain.specs.Inside.Gathering.{sender_known, receiver_known, halter_known}
-use Rattle.dr_plain.specs.Inside.Finishing.{first_lent, left_of, HasAllEnds, AreHandsOf, EndsKeep, AreLanes}
+use Rattle.dr_plain.specs.Inside.Finishing.{first_lent, left_of, HasAllEnds, AreLanes}
+use Rattle.dr_plain.specs.Inside.Bringing.{AreHandsOf, EndsKeep}
 use Rattle.dr_plain.specs.Inside.Leaving.{BelongsSender}
 use Rattle.dr_plain.proofs.Gathering.{Together, all_stand}
 use Rattle.dr_plain.proofs.Ending.{own_sender, own_halter}
@@ -49,10 +50,10 @@ module _ {T : Type 0} where
   sender_in ring me w cells s is same =
       own_sender me s is (ap (λ (e : SenderEnd T). e.knows) same) (ap (λ (e : SenderEnd T). e.past) same) (ap (λ (e : SenderEnd T). e.stored) same)
 
-  pub halter_in : (ring : TableId) (me : Sitting T) (t : HalterStand T) → IsHalter (end_of me) → halter_stand ring me ≡ t
+  pub halter_in : (ring : TableId) (me : Sitting T) (t : HalterEnd T) → IsHalter (end_of me) → halter_end ring me ≡ t
       → IsInView ring_ends me.0 (halter_known t)
   halter_in ring me t is same =
-      own_halter me t is (ap (λ (e : HalterStand T). e.knows) same) (ap (λ (e : HalterStand T). e.past) same) (ap (λ (e : HalterStand T). e.stored) same)
+      own_halter me t is (ap (λ (e : HalterEnd T). e.knows) same) (ap (λ (e : HalterEnd T). e.past) same) (ap (λ (e : HalterEnd T). e.stored) same)
 
   pub receiver_in : (ring : TableId) (me : Sitting T) (e : ReceiverEnd T) → IsReceiver (end_of me) → receiver_end (receiver_stand ring me) ≡ e
       → IsInView ring_ends me.0 (receiver_known e)
@@ -61,7 +62,7 @@ module _ {T : Type 0} where
       (ap (λ (x : ReceiverEnd T). x.past) same) (ap (λ (x : ReceiverEnd T). x.stored) same)
 
   -- the ends of a view that has all of them
-  pub together_of : (k : Shape) (v : View (EndRecord T) (Step T)) (s : SenderEnd T) (es : List (ReceiverEnd T)) (t : HalterStand T) → HasAllEnds v s es t
+  pub together_of : (k : Shape) (v : View (EndRecord T) (Step T)) (s : SenderEnd T) (es : List (ReceiverEnd T)) (t : HalterEnd T) → HasAllEnds v s es t
       → ViewRan (exchange k) v → Together k v v s es
   together_of k v s es t H ran = record {
     ran = ran;
@@ -71,7 +72,7 @@ module _ {T : Type 0} where
       come = λ i x here. (let m = at_map receiver_known es i x here in
           subst (λ (y : Known (EndRecord T) (Step T)). IsInView ring_ends v y) m.2 (H.receivers i m.0 m.1));
     };
-    all = H.all;
+    all = H.all.receivers;
   }
 
   -- what a sender keeps, with what came to it of the receivers
@@ -89,7 +90,7 @@ module _ {T : Type 0} where
   }
 
   -- where all parts are then
-  pub lanes_kept : (k plan : Shape) (v : View (EndRecord T) (Step T)) (s : SenderEnd T) (es : List (ReceiverEnd T)) (t : HalterStand T) (upto published : ℕ)
+  pub lanes_kept : (k plan : Shape) (v : View (EndRecord T) (Step T)) (s : SenderEnd T) (es : List (ReceiverEnd T)) (t : HalterEnd T) (upto published : ℕ)
       (tokens : List (Token T)) (counts : List HandlerCounts) (hands : List (List (Token T))) (hand others : Hand T)
       → HasAllEnds v s es t → EndsKeep s es upto published tokens counts hands → ViewRan (exchange k) v → plan ≡ s.knows.plan → hand ≡ left_of s es ++ others
       → AreLanes plan counts (upto - plan.size) published s.knows.published hand hands tokens
@@ -97,5 +98,5 @@ module _ {T : Type 0} where
       let near = A.near in let next = A.next in let front = A.front in
       let first : upto - plan.size ≡ first_lent s.knows = (λ i. next i - (same i).size) in
       subst (λ (x : Shape × (ℕ × ℕ)). AreLanes x.0 counts x.1.0 x.1.1 s.knows.published hand hands tokens) (λ i. (sym same i, (sym first i, sym front i)))
-      (lanes_of k _ _ s es tokens counts hands hand others (all_stand k v v s es (together_of k v s es t H ran)) H.all A.tokens_fit (omega arith)
+      (lanes_of k _ _ s es tokens counts hands hand others (all_stand k v v s es (together_of k v s es t H ran)) H.all.receivers A.tokens_fit (omega arith)
       A.counted A.handed is)

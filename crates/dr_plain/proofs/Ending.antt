@@ -2,10 +2,10 @@
 use Rattle.std.proofs.Common.{◌≡◌, ◌⊎◌, ℕ, zero, suc, ◌+◌, ◌<◌, ◌≤◌, inl, inr, Bool, true, false, if◌then◌else◌, List, [], ◌∷◌, ◌++◌, map}
 use Rattle.std.proofs.Common.{length, set, drop, Some, sym, refl, ap, ◌∙◌, subst, arith}
 use Rattle.std.proofs.lemmas.List.{length-drop}
-use mathlib.Core.Option.{some, none, some-injective, some-ne-none}
+use mathlib.Core.Option.{some, some-injective, some-ne-none}
 use mathlib.Core.Option as maybe
 use lib.ListN.{get_elem?}
-use Rattle.atomic_table.specs.Table.{step, Allows, State}
+use Rattle.atomic_table.specs.Table.{Allows, State}
 use Rattle.atomic_table.proofs.Lists.{at_set}
 use Rattle.dr_cells.specs.declared.token.Token.{Token}
 use Rattle.dr_runs.specs.declared.view.View.{View}
@@ -33,7 +33,7 @@ use Rattle.dr_plain.specs.declared.record.HalterRecord.{HalterRecord}
 use Rattle.dr_plain.specs.declared.record.EndRecord.{EndRecord}
 use Rattle.dr_plain.specs.declared.record.EndRecord.TheVariants.{Sends, Receives, Halts}
 use Rattle.dr_plain.specs.declared.record.Step.{Step}
-use Rattle.dr_plain.specs.Calls.Ends.{SenderEnd, ReceiverEnd, HalterStand}
+use Rattle.dr_plain.specs.Calls.Ends.{SenderEnd, ReceiverEnd, HalterEnd}
 use Rattle.dr_plain.specs.Calls.Settling.{AreAllEnds, handler_counts}
 use Rattle.dr_plain.specs.Inside.Seats.{End, Hand, Sitting, ring_ends, stored_of, Stands, exchange, Ruled, IsOver, as_sender, as_halter, sender_of}
 use Rattle.dr_plain.specs.Inside.Seats.{halter_of, IsSender, IsHalter}
@@ -193,7 +193,7 @@ module _ {T : Type 0} (k : Shape) where
       each = each_map seen (λ e past. seen e past × Stands R.world e) v.ends v.pasts (λ j e past in_v was. (was, (R.each_end id v at j e in_v).1)) (R.each_past id v at);
     }
 
-    stand_of : (s : SenderEnd T) (es : List (ReceiverEnd T)) (t : HalterStand T) → HasAllEnds v s es t → AllStand k R.world R.reached.steps s es
+    stand_of : (s : SenderEnd T) (es : List (ReceiverEnd T)) (t : HalterEnd T) → HasAllEnds v s es t → AllStand k R.world R.reached.steps s es
     unfolding ran_of
     stand_of s es t H = all_stand k v v s es (record {
       ran = ran_of;
@@ -202,7 +202,7 @@ module _ {T : Type 0} (k : Shape) where
         stay = λ x in_view. in_view;
         come = λ i x here. (let m = at_map receiver_known es i x here in subst (λ (y : Known (EndRecord T) (Step T)). IsInView ring_ends v y) m.2 (H.receivers i m.0 m.1));
       };
-      all = H.all;
+      all = H.all.receivers;
     })
 
     -- no other seat stands for an end
@@ -212,7 +212,7 @@ module _ {T : Type 0} (k : Shape) where
     seat_of x I seat view here e first same =
         ap (λ (p : ℕ × ℕ). p.0) (sym (R.each_end seat view here 0 e first).0 ∙ ap R.place same ∙ (R.each_end id v at I.0 x.knows (in_ends v x I)).0)
 
-    none_but : (s : SenderEnd T) (es : List (ReceiverEnd T)) (t : HalterStand T) → HasAllEnds v s es t
+    none_but : (s : SenderEnd T) (es : List (ReceiverEnd T)) (t : HalterEnd T) → HasAllEnds v s es t
         → (seat : ℕ) (view : View (EndRecord T) (Step T)) → get_elem? st.views seat ≡ some view
         → (e : EndRecord T) → get_elem? view.ends 0 ≡ some e → seat ≡ id
     none_but s es t H seat view here (Sends r) first = seat_of (sender_known s) H.sender seat view here (Sends r) first refl
@@ -226,15 +226,15 @@ module _ {T : Type 0} (k : Shape) where
     is_empty [] none_there = refl
     is_empty (e ∷ es) none_there = absurd (none_there e refl)
 
-    over_now : (s : SenderEnd T) (es : List (ReceiverEnd T)) (t : HalterStand T) → HasAllEnds v s es t
+    over_now : (s : SenderEnd T) (es : List (ReceiverEnd T)) (t : HalterEnd T) → HasAllEnds v s es t
         → IsOver (record { words = []; homes = []; views = set st.views id no_view })
     over_now s es t H seat view here = elim (at_set st.views id seat no_view view here) [
       | inl x ↦ ap (λ (u : View (EndRecord T) (Step T)). u.ends) (sym x.1)
       | inr x ↦ is_empty view.ends (λ e first. x.0 (none_but s es t H seat view x.1 e first))
     ]
 
-  pub takes_all : (slots id word : ℕ) (me : Sitting T) (s : SenderEnd T) (es : List (ReceiverEnd T)) (t : HalterStand T) → HasAllEnds me.0 s es t
-      → Allows (Ruled k) slots id me word (λ n. n) (TookAll k (step slots word 0 0 none) me)
+  pub takes_all : (slots id word : ℕ) (me : Sitting T) (s : SenderEnd T) (es : List (ReceiverEnd T)) (t : HalterEnd T) → HasAllEnds me.0 s es t
+      → Allows (Ruled k) slots id me word (λ n. n) (TookAll k me)
   takes_all slots id word me s es t H st rule len at small = elim rule [
     | inl R ↦ (
         let w = R.world in let A = stand_of st R id me.0 at s es t H in
@@ -263,19 +263,19 @@ module _ {T : Type 0} where
       → IsInView ring_ends me.0 (sender_known s)
   own_sender me s is knows past stored = in_own ring_ends (me.0, []) (sender_known s) (ap (λ (m : End T). (m.0, [])) is ∙ ap (λ (r : SenderRecord T). as_sender r []) knows) past stored
 
-  pub own_halter : (me : Sitting T) (t : HalterStand T) → IsHalter (end_of me) → halter_of me.0.ends ≡ t.knows → past_of me.0 ≡ t.past
+  pub own_halter : (me : Sitting T) (t : HalterEnd T) → IsHalter (end_of me) → halter_of me.0.ends ≡ t.knows → past_of me.0 ≡ t.past
       → stored_of me.0 ≡ t.stored
       → IsInView ring_ends me.0 (halter_known t)
   own_halter me t is knows past stored = in_own ring_ends (me.0, []) (halter_known t) (ap (λ (m : End T). (m.0, [])) is ∙ ap (λ (r : HalterRecord T). as_halter r) knows) past stored
 
   -- all ends are together
-  pub record AllTogether (own first now : View (EndRecord T) (Step T)) (s : SenderEnd T) (es : List (ReceiverEnd T)) (t : HalterStand T) : Type 0 where
+  pub record AllTogether (own first now : View (EndRecord T) (Step T)) (s : SenderEnd T) (es : List (ReceiverEnd T)) (t : HalterEnd T) : Type 0 where
     pub mine : IsInView ring_ends own (sender_known s)
     pub halter : Gathers ring_ends own (halter_known t ∷ []) first
     pub receivers : Gathers ring_ends first (map receiver_known es) now
-    pub all : AreAllEnds s es
+    pub all : AreAllEnds s es t
 
-  pub has_all : (own first now : View (EndRecord T) (Step T)) (s : SenderEnd T) (es : List (ReceiverEnd T)) (t : HalterStand T)
+  pub has_all : (own first now : View (EndRecord T) (Step T)) (s : SenderEnd T) (es : List (ReceiverEnd T)) (t : HalterEnd T)
       → AllTogether own first now s es t → HasAllEnds now s es t
   has_all own first now s es t A = record {
     sender = A.receivers.stay (sender_known s) (A.halter.stay (sender_known s) A.mine);
@@ -284,7 +284,7 @@ module _ {T : Type 0} where
     all = A.all;
   }
 
-  pub together : (k : Shape) (own first now : View (EndRecord T) (Step T)) (s : SenderEnd T) (es : List (ReceiverEnd T)) (t : HalterStand T)
+  pub together : (k : Shape) (own first now : View (EndRecord T) (Step T)) (s : SenderEnd T) (es : List (ReceiverEnd T)) (t : HalterEnd T)
       → AllTogether own first now s es t
       → ViewRan (exchange k) now → Together k first now s es
-  together k own first now s es t A ran = record { ran = ran; first = A.halter.stay (sender_known s) A.mine; gathers = A.receivers; all = A.all }
+  together k own first now s es t A ran = record { ran = ran; first = A.halter.stay (sender_known s) A.mine; gathers = A.receivers; all = A.all.receivers }

@@ -1,9 +1,8 @@
 -- The run of a ring's ends, once its receivers' seats have come to the sender's.
-use Rattle.std.proofs.Common.{◌≡◌, ℕ, ◌<◌, false, List, map, sym, ap, ◌∙◌, subst}
+use Rattle.std.proofs.Common.{◌≡◌, ℕ, false, List, map, sym, ap, ◌∙◌, subst}
 use Rattle.std.proofs.lemmas.List.{length-map}
 use mathlib.Core.Option.{some}
 use lib.ListN.{get_elem?}
-use Rattle.dr_graph.specs.Meaning.Graph.{IsGraph}
 use Rattle.dr_meaning.specs.Meaning.Transcript.{Transcript, LeadsTo}
 use Rattle.dr_meaning.specs.Meaning.Laws.{Laws}
 use Rattle.dr_runs.specs.declared.view.View.{View}
@@ -16,22 +15,22 @@ use Rattle.dr_plain.specs.declared.record.ReceiverRecord.{ReceiverRecord}
 use Rattle.dr_plain.specs.declared.record.HalterRecord.{HalterRecord}
 use Rattle.dr_plain.specs.declared.record.EndRecord.{EndRecord}
 use Rattle.dr_plain.specs.declared.record.Step.{Step}
-use Rattle.dr_plain.specs.Meaning.Shape.{Shape, handlers_of, ring_setup}
+use Rattle.dr_plain.specs.Meaning.Shape.{Shape, IsShape, handlers_of, ring_setup}
 use Rattle.dr_plain.specs.Meaning.Rule.{World, KeepsRule}
 use Rattle.dr_plain.specs.Meaning.Moments.{new_world, picture_of, Runs}
 use Rattle.dr_plain.specs.Meaning.Stores.{stores_of_sender, stores_of_receiver}
 use Rattle.dr_plain.specs.Meaning.Settling.{FoundUnhalted, Settles}
 use Rattle.dr_plain.specs.Inside.Seats.{ring_ends, exchange}
 use Rattle.dr_plain.specs.Inside.Gathering.{sender_known, receiver_known, halter_known}
-use Rattle.dr_plain.specs.Calls.Ends.{SenderEnd, ReceiverEnd, HalterStand}
-use Rattle.dr_plain.specs.Calls.Settling.{AreAllEnds, HasRun}
+use Rattle.dr_plain.specs.Calls.Ends.{SenderEnd, ReceiverEnd, HalterEnd}
+use Rattle.dr_plain.specs.Calls.Settling.{AreReceiversOf, HasRun}
 use Rattle.dr_plain.proofs.Beginning.{kept_opening, keeps_runs}
 use Rattle.dr_plain.proofs.Settling.{settles}
 use Rattle.dr_plain.proofs.Unhalted.{unhalted_since}
 
 module _ {T : Type 0} where
   kept_of : (k : Shape) (w : World T) → IsReached (exchange k) w → KeepsRule k w
-  kept_of k w R = keeps_runs k R.steps R.entries (new_world k) w R.runs (kept_opening T k R.made.0 R.made.1)
+  kept_of k w R = keeps_runs k R.steps R.entries (new_world k) w R.runs (kept_opening T k R.made)
 
   abbrev pub knows_of : ReceiverEnd T → ReceiverRecord T
   knows_of e = e.knows
@@ -41,7 +40,7 @@ module _ {T : Type 0} where
     pub ran : ViewRan (exchange k) now
     pub first : IsInView ring_ends v (sender_known s)
     pub gathers : Gathers ring_ends v (map receiver_known es) now
-    pub all : AreAllEnds s es
+    pub all : AreReceiversOf s es
 
   -- the ends are in the run, and the records of all of them stand in the world that it came to
   pub record AllStand (k : Shape) (w : World T) (steps : List (Step T)) (s : SenderEnd T) (es : List (ReceiverEnd T)) : Type 0 where
@@ -80,20 +79,20 @@ module _ {T : Type 0} where
       ap (λ (n : ℕ). get_elem? w.receivers n) (A.rule.received h r here).number ∙ here)) A.rule
 
   -- where a halter never halted, the sender found no halt but its own
-  pub all_unhalted : (k : Shape) (v now : View (EndRecord T) (Step T)) (s : SenderEnd T) (es : List (ReceiverEnd T)) (t : HalterStand T)
+  pub all_unhalted : (k : Shape) (v now : View (EndRecord T) (Step T)) (s : SenderEnd T) (es : List (ReceiverEnd T)) (t : HalterEnd T)
       → IsInView ring_ends now (halter_known t) → Together k v now s es → t.knows.halted ≡ false → FoundUnhalted s.knows
   all_unhalted k v now s es t I G off =
       let H : InRun (exchange k) G.ran.world G.ran.reached.steps (halter_known t) = in_run (exchange k) now G.ran (halter_known t) I in
       let R = G.ran.reached in
       subst FoundUnhalted (all_stand k v now s es G).sender
-      (unhalted_since k R.steps R.entries G.ran.world R.made.0 R.made.1 R.runs (ap (λ (q : HalterRecord T). q.halted) H.stands ∙ off))
+      (unhalted_since k R.steps R.entries G.ran.world R.made R.runs (ap (λ (q : HalterRecord T). q.halted) H.stands ∙ off))
 
   abbrev Moments : (Shape → List (Step T) → Transcript T → World T → Type 0) → Type 0
-  Moments P = (k : Shape) (steps : List (Step T)) (entries : Transcript T) (w : World T) → IsGraph k.upstreams → 0 < k.size
+  Moments P = (k : Shape) (steps : List (Step T)) (entries : Transcript T) (w : World T) → IsShape k
       → Runs k steps entries (new_world k) w → P k steps entries w
 
   -- the run of the ends that came together
-  pub has_run : (k : Shape) (v now : View (EndRecord T) (Step T)) (s : SenderEnd T) (es : List (ReceiverEnd T)) (t : HalterStand T)
+  pub has_run : (k : Shape) (v now : View (EndRecord T) (Step T)) (s : SenderEnd T) (es : List (ReceiverEnd T)) (t : HalterEnd T)
       → IsInView ring_ends now (halter_known t)
       → Together k v now s es
       → Moments (λ k steps entries w. LeadsTo (ring_setup k) entries (picture_of k w)) → Moments (λ k steps entries w. Laws (ring_setup k) entries)
@@ -104,7 +103,7 @@ module _ {T : Type 0} where
       let plan : k ≡ s.knows.plan = sym A.rule.sender_plan ∙ ap (λ (q : SenderRecord T). q.plan) A.sender in
       let P : Shape
       → Type 0 = λ p. Runs p R.steps R.entries (new_world p) w × LeadsTo (ring_setup p) R.entries (picture_of p w) × Laws (ring_setup p) R.entries in
-      let all : P s.knows.plan = subst P plan (R.runs, leads k R.steps R.entries w R.made.0 R.made.1 R.runs, laws k R.steps R.entries w R.made.0 R.made.1 R.runs) in record {
+      let all : P s.knows.plan = subst P plan (R.runs, leads k R.steps R.entries w R.made R.runs, laws k R.steps R.entries w R.made R.runs) in record {
         steps = R.steps;
         entries = R.entries;
         world = w;

@@ -4,7 +4,7 @@ use Rattle.std.proofs.Common.{get_or-set_same, get_or-set_other}
 use Rattle.std.proofs.lemmas.List.{length-append}
 use Rattle.dr_meaning.specs.Meaning.Transcript.{Transcript}
 use Rattle.dr_plain.specs.Meaning.Shape.{Shape}
-use Rattle.dr_runs.specs.Words.{cursor_word, closed_word, halt_word, count_word}
+use Rattle.dr_runs.specs.OneSender.Words.{cursor_word, closed_word, halt_word, count_word}
 use Rattle.dr_plain.specs.declared.record.Step.{Step}
 use Rattle.dr_plain.specs.declared.record.Step.TheVariants.{SenderLooksAtCount, SenderLooksAtHalt, SenderPublishes, SenderHalts, SenderCloses}
 use Rattle.dr_plain.specs.declared.record.Step.TheVariants.{ReceiverLooksAtClosed, ReceiverLooksAtCursor, ReceiverLooksAtCount, ReceiverCompletes, HalterHalts, HalterLooks}
@@ -12,7 +12,8 @@ use Rattle.dr_plain.specs.Meaning.Records.{claimed}
 use Rattle.dr_plain.specs.Meaning.Rule.{World, KeepsRule}
 use Rattle.dr_plain.specs.Meaning.Steps.{Happens}
 use Rattle.dr_plain.specs.Meaning.Moments.{Runs}
-use Rattle.dr_plain.proofs.Keeps.{word_at, claims_none}
+use Rattle.dr_plain.proofs.Keeps.{claims_none}
+use Rattle.dr_runs.proofs.Elements.{word_at}
 use Rattle.dr_plain.proofs.Beginning.{keeps_step}
 
 module _ {T : Type 0} where

@@ -25,10 +25,11 @@ use Rattle.dr_plain.specs.declared.record.SenderRecord.{SenderRecord}
 use Rattle.dr_plain.specs.declared.record.ReceiverRecord.{ReceiverRecord}
 use Rattle.dr_plain.specs.declared.record.Step.{Step}
 use Rattle.dr_plain.specs.Calls.Ends.{SenderEnd, ReceiverEnd}
-use Rattle.dr_plain.specs.Calls.Settling.{AreAllEnds, handler_counts}
+use Rattle.dr_plain.specs.Calls.Settling.{AreReceiversOf, handler_counts}
 use Rattle.dr_plain.specs.Inside.Fits.{Keeps, TokensFit, PartsFit}
 use Rattle.dr_plain.specs.Inside.Seats.{Hand}
-use Rattle.dr_plain.specs.Inside.Finishing.{first_lent, all_left, left_of, AreHandsOf, AreOut, AreLanes}
+use Rattle.dr_plain.specs.Inside.Finishing.{first_lent, all_left, left_of, AreOut, AreLanes}
+use Rattle.dr_plain.specs.Inside.Bringing.{AreHandsOf}
 use Rattle.dr_runs.proofs.Elements.{there, at_below}
 use Rattle.dr_plain.proofs.Collecting.{laid_first, laid_count}
 use Rattle.dr_plain.proofs.Gathering.{knows_of, AllStand}
@@ -85,7 +86,7 @@ module _ {T : Type 0} where
 
   -- where all parts are
   pub lanes_of : (k : Shape) (w : World T) (steps : List (Step T)) (s : SenderEnd T) (es : List (ReceiverEnd T)) (tokens : List (Token T)) (counts : List HandlerCounts)
-      (hands : List (List (Token T))) (hand others : Hand T) → AllStand k w steps s es → AreAllEnds s es → TokensFit s.knows tokens
+      (hands : List (List (Token T))) (hand others : Hand T) → AllStand k w steps s es → AreReceiversOf s es → TokensFit s.knows tokens
       → claimed s.knows ≤ s.knows.plan.size + length s.knows.published → counts ≡ map (λ (e : ReceiverEnd T). handler_counts e.knows) es → AreHandsOf es hands
       → hand ≡ left_of s es ++ others → AreLanes s.knows.plan counts (first_lent s.knows) (length s.knows.published) s.knows.published hand hands tokens
   lanes_of k w steps s es tokens counts hands hand others A E F close counted H is =

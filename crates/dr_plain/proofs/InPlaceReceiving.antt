@@ -10,15 +10,15 @@ use Rattle.dr_meaning.specs.declared.command.Polled.{Polled}
 use Rattle.dr_meaning.specs.declared.command.Polled.TheVariants.{Batch, Drained, Gating, Idle}
 use Rattle.dr_lent.specs.declared.lent.Lent.{Lent}
 use Rattle.dr_runs.specs.declared.look.Look.{Look}
-use Rattle.dr_runs.specs.Looks.{count_looks, look, offered_by}
+use Rattle.dr_runs.specs.Looks.{look, offered_by}
+use Rattle.dr_runs.specs.OneSender.Looks.{count_looks}
 use Rattle.dr_runs.specs.LastLooks.{found_last}
-use Rattle.dr_runs.specs.Polls.{PollLooks, offer}
-use Rattle.dr_runs.specs.Words.{closed_word, count_word, cursor_word}
+use Rattle.dr_runs.specs.OneSender.Polls.{PollLooks, offer}
+use Rattle.dr_runs.specs.OneSender.Words.{closed_word, count_word, cursor_word}
 use Rattle.dr_runs.proofs.LastLooks.{found_behind, found_counts}
 use Rattle.dr_runs.proofs.Lists.{at_behind}
 use Rattle.dr_plain.specs.declared.record.ReceiverRecord.{ReceiverRecord}
-use Rattle.dr_plain.specs.Meaning.Records.{events_of}
-use Rattle.dr_plain.specs.Meaning.Replies as replies
+use Rattle.dr_lent.specs.Events.{events_of}
 use Rattle.dr_plain.specs.Calls.Ends.{ReceiverEnd, received_of}
 use Rattle.dr_plain.specs.Calls.Receiving.{PollCall}
 use Rattle.dr_meaning.specs.Calls.InPlaceOutlets.{SawMore, TakesNext, TakesUpTo}
@@ -89,7 +89,7 @@ module _ {T : Type 0} where
   saw_same r r' same = saw_more r r' [] (same ∙ sym (append-nil r.looks))
 
   pub takes : (room : ℕ) (e e' : ReceiverEnd T) (polled : Polled) → PollCall e room e' (Ok polled) → length e'.knows.received < 2 ^ 64 → 0 < room
-      → TakesUpTo room (offered_of e') (SawPublished e'.knows) polled (received_of e) (received_of e')
+      → TakesUpTo room (offered_of e') (SawPublished e'.knows) polled (received_of e.knows) (received_of e'.knows)
   takes room e e' (Batch first count end) call fits there =
       let sees = call.1.1 in
       let seen : PollLooks = sees.0 in
@@ -109,7 +109,7 @@ module _ {T : Type 0} where
       let off : offered_of e' ≡ offer seen =
       ap (λ (r : ReceiverRecord T). offered_in (length (upstreams_of r.plan.upstreams r.number)) r.looks) A.5.2
       ∙ offered_is e.knows.looks seen.closed seen.cursor ups seen.counts sees.1 in
-      subst (λ (o : ℕ). TakesNext room o (SawPublished e'.knows) first count end (received_of e) (received_of e')) (sym off) (record {
+      subst (λ (o : ℕ). TakesNext room o (SawPublished e'.knows) first count end (received_of e.knows) (received_of e'.knows)) (sym off) (record {
         events = events_of lents;
         many = length-map lents (λ (l : Lent T). l.event) ∙ taken;
         begins = next ∙ sym (length-map e.knows.received (λ (l : Lent T). l.event));
@@ -121,6 +121,6 @@ module _ {T : Type 0} where
         fits = omega arith;
         taken = λ i. record { events = events i; completed = completed i };
       })
-  takes room e e' Drained call fits there = ap replies.received_of call.1.1.2.3
-  takes room e e' Gating call fits there = ap replies.received_of call.1.1.2.3
-  takes room e e' Idle call fits there = ap replies.received_of call.1.1.2.3
+  takes room e e' Drained call fits there = ap received_of call.1.1.2.3
+  takes room e e' Gating call fits there = ap received_of call.1.1.2.3
+  takes room e e' Idle call fits there = ap received_of call.1.1.2.3

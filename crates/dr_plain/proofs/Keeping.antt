@@ -5,8 +5,8 @@ use lib.Seq.{map-set_same}
 use mathlib.Core.Option.{some}
 use lib.ListN.{get_elem?}
 use Rattle.dr_plain.specs.Meaning.Shape.{handlers_of}
-use Rattle.dr_plain.specs.Calls.Ends.{SenderEnd, ReceiverEnd, SenderPlace, ReceiverPlace, sender_place, receiver_place}
-use Rattle.dr_plain.specs.Calls.Settling.{AreAllEnds}
+use Rattle.dr_plain.specs.Calls.Ends.{SenderEnd, ReceiverEnd, HalterEnd, SenderPlace, ReceiverPlace, sender_place, receiver_place}
+use Rattle.dr_plain.specs.Calls.Settling.{AreAllEnds, AreReceiversOf}
 use Rattle.dr_runs.proofs.Elements.{there, at_below, value_at}
 
 module _ {T : Type 0} where
@@ -15,9 +15,9 @@ module _ {T : Type 0} where
   place_at rs h e d at = get_or-map receiver_place rs h e d (at_below rs h e at) ∙ ap receiver_place (value_at rs h e e at)
 
   -- the sender and each receiver keep their places
-  pub still_all : (s s' : SenderEnd T) (rs rs' : List (ReceiverEnd T)) → sender_place s' ≡ sender_place s → map receiver_place rs' ≡ map receiver_place rs
-      → AreAllEnds s rs → AreAllEnds s' rs'
-  still_all s s' rs rs' sends places A =
+  still_receivers : (s s' : SenderEnd T) (rs rs' : List (ReceiverEnd T)) → sender_place s' ≡ sender_place s → map receiver_place rs' ≡ map receiver_place rs
+      → AreReceiversOf s rs → AreReceiversOf s' rs'
+  still_receivers s s' rs rs' sends places A =
       let count : length rs' ≡ length rs = sym (length-map rs' receiver_place) ∙ ap length places ∙ length-map rs receiver_place in record {
         all = count ∙ A.all ∙ ap (λ (p : SenderPlace). handlers_of p.1) (sym sends);
         each = λ h e' at. (
@@ -27,7 +27,14 @@ module _ {T : Type 0} where
             (ap (λ (x : ReceiverPlace). x.0) same ∙ was.0 ∙ ap (λ (x : SenderPlace). x.0) (sym sends), ap (λ (x : ReceiverPlace). x.2) same ∙ was.1));
       }
 
+  pub still_all : (s s' : SenderEnd T) (rs rs' : List (ReceiverEnd T)) (t : HalterEnd T) → sender_place s' ≡ sender_place s → map receiver_place rs' ≡ map receiver_place rs
+      → AreAllEnds s rs t → AreAllEnds s' rs' t
+  still_all s s' rs rs' t sends places A = record {
+    receivers = still_receivers s s' rs rs' sends places A.receivers;
+    halter = A.halter ∙ ap (λ (x : SenderPlace). x.0) (sym sends);
+  }
+
   -- one receiver is called, and keeps its place
-  pub all_receiver_at : (s : SenderEnd T) (rs : List (ReceiverEnd T)) (h : ℕ) (e e' : ReceiverEnd T) → AreAllEnds s rs → e ≡ get_or rs h e
-      → receiver_place e' ≡ receiver_place e → AreAllEnds s (set rs h e')
-  all_receiver_at s rs h e e' A at same = still_all s s rs (set rs h e') refl (map-set_same receiver_place rs h e' e (same ∙ ap receiver_place at)) A
+  pub all_receiver_at : (s : SenderEnd T) (rs : List (ReceiverEnd T)) (t : HalterEnd T) (h : ℕ) (e e' : ReceiverEnd T) → AreAllEnds s rs t → e ≡ get_or rs h e
+      → receiver_place e' ≡ receiver_place e → AreAllEnds s (set rs h e') t
+  all_receiver_at s rs t h e e' A at same = still_all s s rs (set rs h e') t refl (map-set_same receiver_place rs h e' e (same ∙ ap receiver_place at)) A

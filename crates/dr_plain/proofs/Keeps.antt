@@ -1,5 +1,5 @@
 -- What the rule gives, and the sender's looks keep it.
-use Rattle.std.proofs.Common.{◌≡◌, ℕ, ◌+◌, ◌<◌, ◌≤◌, inl, inr, ◌==◌, if◌then◌else◌, List, [], ◌∷◌, ◌++◌, length, get_or}
+use Rattle.std.proofs.Common.{◌≡◌, ℕ, ◌+◌, ◌<◌, ◌≤◌, inl, inr, ◌==◌, if◌then◌else◌, List, [], ◌∷◌, ◌++◌, length}
 use Rattle.std.proofs.Common.{sym, refl, ◌∙◌, subst, arith}
 use Rattle.std.proofs.lemmas.Bool.{cases_eq, cases_lt, eq-eqb, ne_eqb}
 use mathlib.Core.Option.{some}
@@ -8,21 +8,18 @@ use Rattle.dr_graph.specs.Meaning.Graph.{IsOrderly, IsGraph}
 use Rattle.dr_lent.specs.declared.lent.Lent.{Lent}
 use Rattle.dr_plain.specs.Meaning.Shape.{Shape, handlers_of}
 use Rattle.dr_plain.specs.Meaning.Words.{words_of}
-use Rattle.dr_runs.specs.Words.{closed_word, halt_word, count_word, HaltAndClose}
+use Rattle.dr_runs.specs.OneSender.Words.{closed_word, halt_word, count_word, HaltAndClose}
 use Rattle.dr_runs.specs.declared.look.Look.{Look}
 use Rattle.dr_plain.specs.declared.record.ReceiverRecord.{ReceiverRecord}
 use Rattle.dr_plain.specs.Meaning.Records.{claimed, sender_looked, halt_looked, SeesRoom}
 use Rattle.dr_runs.specs.Looks.{look}
 use Rattle.dr_plain.specs.Meaning.Rule.{World, Room, ArePast, ReceiverKept, KeepsRule}
 use Rattle.dr_plain.specs.Meaning.Steps.{sender_knows}
-use Rattle.dr_runs.proofs.Elements.{there}
+use Rattle.dr_runs.proofs.Elements.{word_at, there}
 use Rattle.dr_runs.proofs.Flags.{flags_open}
 use Rattle.dr_runs.proofs.Completions as one
 use Rattle.dr_runs.proofs.Completions.{upstream_inside, falls}
 use Rattle.dr_runs.proofs.Looks.{past_more}
-
-abbrev pub word_at : List ℕ → ℕ → ℕ
-word_at words i = get_or words i 0
 
 -- how many more are claimed at a look at halt
 pub claims_some : (found n : ℕ) → found ≡ 0 → (if found == 0 then n else 0) ≡ n

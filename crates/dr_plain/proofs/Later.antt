@@ -14,23 +14,23 @@ use Rattle.dr_meaning.specs.declared.command.Polled.TheVariants.{Batch, Drained,
 use Rattle.dr_meaning.specs.Meaning.Machine.{State, front, offered, available}
 use Rattle.dr_meaning.specs.Meaning.Transcript.{Transcript}
 use Rattle.dr_plain.specs.Meaning.Shape.{Shape, ring_setup}
-use Rattle.dr_runs.specs.Words.{cursor_word, closed_word, count_word}
+use Rattle.dr_runs.specs.OneSender.Words.{cursor_word, closed_word, count_word}
 use Rattle.dr_runs.specs.declared.look.Look.{Look}
 use Rattle.dr_plain.specs.declared.record.ReceiverRecord.{ReceiverRecord}
 use Rattle.dr_plain.specs.declared.record.Step.{Step}
 use Rattle.dr_plain.specs.declared.record.Step.TheVariants.{SenderLooksAtCount, SenderLooksAtHalt, SenderPublishes, SenderHalts, SenderCloses}
 use Rattle.dr_plain.specs.declared.record.Step.TheVariants.{ReceiverLooksAtClosed, ReceiverLooksAtCursor, ReceiverLooksAtCount, ReceiverCompletes, HalterHalts, HalterLooks}
 use Rattle.dr_plain.specs.Meaning.Records.{closed_looked, receiver_looked, taken_at, cursor_looked, completed_to}
-use Rattle.dr_runs.specs.Looks.{look, last_look, offered_by, count_looks}
+use Rattle.dr_runs.specs.Looks.{look, last_look, offered_by}
+use Rattle.dr_runs.specs.OneSender.Looks.{count_looks}
 use Rattle.dr_plain.specs.Meaning.Rule.{World, KeepsRule}
 use Rattle.dr_plain.specs.Meaning.Steps.{Happens, next_of}
 use Rattle.dr_plain.specs.Meaning.Moments.{Runs, picture_of}
-use Rattle.dr_plain.specs.Meaning.Replies.{LooksAt, OffersWhatWasThere}
 use Rattle.dr_plain.specs.Calls.Receiving.{AnswersAsSeen}
-use Rattle.dr_runs.specs.Polls.{PollLooks, offer, handed}
-use Rattle.dr_plain.specs.Calls.Handing.{HandsWhatWasThere}
-use Rattle.dr_runs.proofs.Elements.{at_below}
-use Rattle.dr_plain.proofs.Keeps.{word_at}
+use Rattle.dr_runs.specs.Polls.{handed}
+use Rattle.dr_runs.specs.OneSender.Polls.{PollLooks, offer}
+use Rattle.dr_plain.specs.Calls.Handing.{HandsWhatWasThere, LooksAt, OffersWhatWasThere}
+use Rattle.dr_runs.proofs.Elements.{at_below, word_at}
 use Rattle.dr_plain.proofs.Beginning.{keeps_step}
 use Rattle.dr_runs.proofs.Completions.{count_at, upstream_inside}
 use Rattle.dr_plain.proofs.Pictures.{inside_of}

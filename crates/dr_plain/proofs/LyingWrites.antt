@@ -1,7 +1,7 @@
 -- What is written of the sender's open sequences, once those below a number are noted as written.
 use Rattle.std.proofs.Common.{◌≡◌, ℕ, zero, suc, ◌+◌, ◌-◌, ◌%◌, ◌<◌, ◌≤◌, true, if◌then◌else◌, List, ◌∷◌, ◌++◌, length, get_or, max, Option, Some, None}
 use Rattle.std.proofs.Common.{sym, refl, ap, ◌∙◌, subst, arith}
-use Rattle.std.specs.Prelude.{◌||◌, min, map, drop, is_none}
+use Rattle.std.specs.Prelude.{◌||◌, min, drop, is_none}
 use Rattle.std.proofs.lemmas.Bool.{lt-ltb}
 use Rattle.std.proofs.lemmas.List.{length-map}
 use Rattle.std.proofs.Math.Seq.{drop-append_seam}
@@ -9,7 +9,7 @@ use Rattle.dr_seq.specs.Rounds.{is_marked}
 use Rattle.dr_lent.specs.Rows.{cells_of}
 use Rattle.dr_lent.specs.declared.lent.Lent.{Lent}
 use Rattle.dr_runs.specs.declared.written.Written.{Written}
-use Rattle.dr_runs.specs.Noted.{is_noted}
+use Rattle.dr_runs.specs.OneSender.Noted.{is_noted}
 use Rattle.dr_plain.specs.Calls.Ends.{SenderStand, SenderEnd, sent_of}
 use Rattle.dr_plain.specs.Calls.Sending.{lying_from, with_lying, AreWrittenBelow}
 use Rattle.dr_plain.specs.Inside.Fits.{SenderFields, SenderFits}

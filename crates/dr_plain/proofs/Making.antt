@@ -8,14 +8,13 @@ use Rattle.atomic_table.specs.Table.{opening as table_opening}
 use Rattle.atomic_table.specs.Seated.{TableId}
 use Rattle.dr_cells.specs.declared.token.Token.{Token}
 use Rattle.dr_cells.specs.Tokens.{no_token}
-use Rattle.dr_graph.specs.Meaning.Graph.{IsGraph}
 use Rattle.dr_runs.specs.Seats.{seat_at, fresh_seat, first_view, rest_view}
 use Rattle.dr_runs.proofs.Lists.{at_map, map_there}
 use Rattle.dr_runs.proofs.Rows.{replicate_at, at_replicate}
 use Rattle.dr_runs.proofs.Cuts.{ruled_fresh}
 use Rattle.dr_lent.specs.declared.lent.Lent.{Lent}
 use Rattle.dr_lent.proofs.Lanes.{inside_lanes}
-use Rattle.dr_plain.specs.Meaning.Shape.{Shape, handlers_of}
+use Rattle.dr_plain.specs.Meaning.Shape.{Shape, IsShape, handlers_of}
 use Rattle.dr_plain.specs.Meaning.Words.{words_of, slot_of, slots_of}
 use Rattle.dr_plain.specs.Meaning.Lying.{part_of, Lies}
 use Rattle.dr_plain.specs.Calls.Plans.{IsPlan}
@@ -28,9 +27,9 @@ use Rattle.dr_plain.specs.Inside.Seats.{End, Sitting, end_number, Stands, exchan
 use Rattle.dr_plain.specs.Inside.Stations.{receiver_stand, ReceiverSits}
 use Rattle.dr_plain.specs.Inside.Fits.{ReceiverFits}
 use Rattle.dr_plain.specs.Inside.Views.{receiver_end}
-use Rattle.dr_plain.specs.Calls.Ends.{SenderEnd, ReceiverEnd, HalterStand}
+use Rattle.dr_plain.specs.Calls.Ends.{SenderEnd, ReceiverEnd, HalterEnd}
 use Rattle.dr_plain.specs.Calls.Settling.{AreAllEnds}
-use Rattle.dr_plain.specs.Calls.Making.{at_ring, AreFreshEnds}
+use Rattle.dr_plain.specs.Calls.Making.{receiver_at_ring, AreFreshEnds}
 use Rattle.dr_runs.proofs.Elements.{at_below}
 use Rattle.dr_plain.proofs.Beginning.{fresh_at, fresh_count}
 
@@ -61,10 +60,10 @@ module _ {T : Type 0} where
 
   -- a new ring keeps the rule
   pub ruled_new : (k : Shape) (ws : List ℕ) (cs : List (Token T)) → ws ≡ replicate (words_of k) 0 → cs ≡ replicate (slots_of k) no_token
-      → IsGraph k.upstreams → 0 < k.size
+      → IsShape k
       → Ruled {T = T} k (table_opening ws cs (all_ends k))
-  ruled_new k ws cs is blank graph some_slot =
-      inl (ruled_fresh (exchange k) (fresh_ends k) (λ n. n) ws cs (sym is) (lies_fresh k cs blank some_slot) (graph, some_slot) (stands_fresh k))
+  ruled_new k ws cs is blank shape =
+      inl (ruled_fresh (exchange k) (fresh_ends k) (λ n. n) ws cs (sym is) (lies_fresh k cs blank shape.some_slot) shape (stands_fresh k))
 
   -- the next of the receivers
   fresh_next : (k : Shape) (h n : ℕ) → h < n → fresh_receivers {T = T} k h (n - h) ≡ fresh_receiver k h ∷ fresh_receivers k (h + 1) (n - (h + 1))
@@ -93,7 +92,7 @@ module _ {T : Type 0} where
 
   pub sits_fresh : (at own : TableId) (me : End T) (k : Shape) (h : ℕ) → IsAtTable own at k → IsPlan k → h < handlers_of k
       → me ≡ as_receiver (fresh_receiver k h) [] → ReceiverSits at own k me h 0
-  sits_fresh at own me k h table made lt is = subst (λ (m : End T). ReceiverSits at own k m h 0) (sym is) (record { table = table; made = made; end = refl; plan = refl; mine = refl; handler = lt; looks = refl })
+  sits_fresh at own me k h table made lt is = subst (λ (m : End T). ReceiverSits at own k m h 0) (sym is) (record { table = table; made = made; end = refl; plan = refl; own = refl; handler = lt; looks = refl })
 
   -- a receiver that has not stepped took nothing
   pub fits_fresh : (k : Shape) (h : ℕ) (own : TableId) (m : Sitting T) (parts : List (Token T)) → m ≡ own_seat k h → length parts ≡ k.size
@@ -108,32 +107,35 @@ module _ {T : Type 0} where
   })
 
   pub listed_next : (t : TableId) (k : Shape) (h n : ℕ) (items new : List (ReceiverEnd T)) (e : ReceiverEnd T) (all : List (ReceiverEnd T)) → h < n
-      → items ++ map (λ r. at_ring t r) (fresh_receivers k h (n - h)) ≡ all → new ≡ items ++ e ∷ [] → e ≡ at_ring t (fresh_receiver k h)
-      → new ++ map (λ r. at_ring t r) (fresh_receivers k (h + 1) (n - (h + 1))) ≡ all
-  listed_next t k h n items new e all lt was is own = let rest : List (ReceiverEnd T) = map (λ r. at_ring t r) (fresh_receivers k (h + 1) (n - (h + 1))) in
+      → items ++ map (λ r. receiver_at_ring t r) (fresh_receivers k h (n - h)) ≡ all → new ≡ items ++ e ∷ [] → e ≡ receiver_at_ring t (fresh_receiver k h)
+      → new ++ map (λ r. receiver_at_ring t r) (fresh_receivers k (h + 1) (n - (h + 1))) ≡ all
+  listed_next t k h n items new e all lt was is own = let rest : List (ReceiverEnd T) = map (λ r. receiver_at_ring t r) (fresh_receivers k (h + 1) (n - (h + 1))) in
       ap (λ (xs : List (ReceiverEnd T)). xs ++ rest) (is ∙ ap (λ (x : ReceiverEnd T). items ++ x ∷ []) own)
-      ∙ append_assoc items (at_ring t (fresh_receiver k h) ∷ []) rest
-      ∙ ap (λ (rs : List (ReceiverRecord T)). items ++ map (λ r. at_ring t r) rs) (sym (fresh_next k h n lt)) ∙ was
+      ∙ append_assoc items (receiver_at_ring t (fresh_receiver k h) ∷ []) rest
+      ∙ ap (λ (rs : List (ReceiverRecord T)). items ++ map (λ r. receiver_at_ring t r) rs) (sym (fresh_next k h n lt)) ∙ was
 
   pub view_fresh : (t own : TableId) (me : Sitting T) (k : Shape) (h : ℕ) → own ≡ t → me ≡ own_seat k h
-      → receiver_end (receiver_stand own me) ≡ at_ring t (fresh_receiver k h)
+      → receiver_end (receiver_stand own me) ≡ receiver_at_ring t (fresh_receiver k h)
   view_fresh t own me k h same is = λ i. receiver_end (receiver_stand (same i) (is i))
 
-  fresh_end : (k : Shape) (t : TableId) (h n i : ℕ) (e : ReceiverEnd T) → get_elem? (map (λ r. at_ring t r) (fresh_receivers k h n)) i ≡ some e
+  fresh_end : (k : Shape) (t : TableId) (h n i : ℕ) (e : ReceiverEnd T) → get_elem? (map (λ r. receiver_at_ring t r) (fresh_receivers k h n)) i ≡ some e
       → (e.ring ≡ t) × (e.knows.number ≡ h + i)
   fresh_end k t h zero i e at = absurd (some-ne-none e (sym at))
-  fresh_end k t h (suc n) zero e at = subst (λ (x : ReceiverEnd T). (x.ring ≡ t) × (x.knows.number ≡ h + 0)) (some-injective (at_ring t (fresh_receiver k h)) e at) (refl, omega arith)
+  fresh_end k t h (suc n) zero e at = subst (λ (x : ReceiverEnd T). (x.ring ≡ t) × (x.knows.number ≡ h + 0)) (some-injective (receiver_at_ring t (fresh_receiver k h)) e at) (refl, omega arith)
   fresh_end k t h (suc n) (suc i) e at = let r = fresh_end k t (suc h) n i e at in let m = r.1 in (r.0, omega arith)
 
   -- the ends of a new ring are all of its ends
-  pub all_fresh : (k : Shape) (events : List T) (s : SenderEnd T) (rs : List (ReceiverEnd T)) (t : HalterStand T) → AreFreshEnds k events s rs t
-      → AreAllEnds s rs
+  pub all_fresh : (k : Shape) (events : List T) (s : SenderEnd T) (rs : List (ReceiverEnd T)) (t : HalterEnd T) → AreFreshEnds k events s rs t
+      → AreAllEnds s rs t
   all_fresh k events s rs t F = record {
-    all = ap length F.receivers ∙ length-map (fresh_receivers k 0 (handlers_of k)) (λ (r : ReceiverRecord T). at_ring s.ring r) ∙ fresh_count T k 0 (handlers_of k)
-        ∙ sym (ap (λ (q : SenderRecord T). handlers_of q.plan) F.sender);
-    each = λ h e at. (
-        let x : (e.ring ≡ s.ring) × (e.knows.number ≡ 0 + h) = fresh_end k s.ring 0 (handlers_of k) h e (subst (λ (xs : List (ReceiverEnd T)). get_elem? xs h ≡ some e) F.receivers at) in
-        let m = x.1 in (x.0, omega arith));
+    receivers = record {
+      all = ap length F.receivers ∙ length-map (fresh_receivers k 0 (handlers_of k)) (λ (r : ReceiverRecord T). receiver_at_ring s.ring r) ∙ fresh_count T k 0 (handlers_of k)
+          ∙ sym (ap (λ (q : SenderRecord T). handlers_of q.plan) F.sender);
+      each = λ h e at. (
+          let x : (e.ring ≡ s.ring) × (e.knows.number ≡ 0 + h) = fresh_end k s.ring 0 (handlers_of k) h e (subst (λ (xs : List (ReceiverEnd T)). get_elem? xs h ≡ some e) F.receivers at) in
+          let m = x.1 in (x.0, omega arith));
+    };
+    halter = ap (λ (x : HalterEnd T). x.ring) F.halter;
   }
 
 pub some_words : (k : Shape) (n : ℕ) (ws : List ℕ) → n ≡ length ws → ws ≡ replicate (words_of k) 0 → 0 < n

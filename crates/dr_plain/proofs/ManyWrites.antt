@@ -9,7 +9,7 @@ use Rattle.dr_meaning.proofs.ManyWrites.{below_more, answer_before, written_more
 use Rattle.dr_plain.specs.Calls.Ends.{SenderEnd, sent_of}
 use Rattle.dr_plain.specs.Calls.Sending.{Call, WriteCall}
 use Rattle.dr_plain.specs.Calls.Inlets.{cells_with, WriteAllCall}
-use Rattle.dr_plain.proofs.Stations.{begins_same, begins_on}
+use Rattle.dr_runs.proofs.Beginnings.{begins_same, begins_on}
 
 module _ {T : Type 0} where
   -- a sender has written the first k of some events

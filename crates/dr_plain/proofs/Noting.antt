@@ -7,7 +7,7 @@ use Rattle.std.proofs.lemmas.Bool.{cases_lt, lt-ltb, le-ltb, or_from}
 use Rattle.dr_seq.specs.Rounds.{is_marked}
 use Rattle.dr_runs.specs.declared.written.Written.{Written}
 use Rattle.dr_plain.specs.Inside.Noted.{Noted, writes_from}
-use Rattle.dr_runs.specs.Noted.{Notes, is_noted}
+use Rattle.dr_runs.specs.OneSender.Noted.{Notes, is_noted}
 use Rattle.dr_runs.proofs.Noting.{notes_one}
 
 pub noted_write : (size next : ℕ) (w w' : Written) (s : ℕ) → 0 < size → s < next → next ≤ s + size → Noted size next w → Notes w s w' → Noted size next w'

@@ -9,14 +9,15 @@ use Rattle.dr_graph.specs.Meaning.Graph.{upstreams_of}
 use Rattle.dr_lent.specs.declared.lent.Lent.{Lent}
 use Rattle.dr_lent.proofs.Looks.{seen_counts, offered_same}
 use Rattle.dr_plain.specs.Meaning.Shape.{Shape}
-use Rattle.dr_runs.specs.Words.{cursor_word, closed_word, count_word}
+use Rattle.dr_runs.specs.OneSender.Words.{cursor_word, closed_word, count_word}
 use Rattle.dr_runs.specs.declared.look.Look.{Look}
 use Rattle.dr_plain.specs.declared.record.ReceiverRecord.{ReceiverRecord}
 use Rattle.dr_plain.specs.Meaning.Records.{barrier_seen, taken_at, tells_drained, receiver_looked, cursor_looked}
-use Rattle.dr_runs.specs.Looks.{look, last_look, offered_by, lesser_of, count_looks}
+use Rattle.dr_runs.specs.Looks.{look, last_look, offered_by, lesser_of}
+use Rattle.dr_runs.specs.OneSender.Looks.{count_looks}
 use Rattle.dr_plain.specs.Calls.Finds.{FindsEvents}
-use Rattle.dr_plain.specs.Calls.Receiving.{received_all}
-use Rattle.dr_plain.specs.Inside.Polling.{ups_of, receiver_saw, cursor_seen, IsNear, LooksAtFirst, LooksRound}
+use Rattle.dr_plain.specs.Calls.Receiving.{received_all, ups_of}
+use Rattle.dr_plain.specs.Inside.Polling.{receiver_saw, cursor_seen, IsNear, LooksAtFirst, LooksRound}
 use Rattle.dr_plain.specs.Inside.Seats.{Hand, taken_by_poll}
 use Rattle.dr_runs.proofs.Lists.{no_elements, take_whole}
 use Rattle.dr_runs.proofs.Looks.{last_look_more, looks_more}

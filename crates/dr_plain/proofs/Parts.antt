@@ -16,7 +16,7 @@ use Rattle.dr_runs.proofs.Seats.{Moves}
 use Rattle.dr_lent.proofs.Lists.{taken_there, slice_at, at_slice}
 use Rattle.dr_lent.specs.declared.lent.Lent.{Lent}
 use Rattle.dr_plain.specs.Meaning.Shape.{Shape, handlers_of}
-use Rattle.dr_runs.specs.Words.{halt_word}
+use Rattle.dr_runs.specs.OneSender.Words.{halt_word}
 use Rattle.dr_plain.specs.declared.record.SenderRecord.{SenderRecord}
 use Rattle.dr_plain.specs.declared.record.ReceiverRecord.{ReceiverRecord}
 use Rattle.dr_plain.specs.Meaning.Records.{claimed, laid, SeesRoom}
@@ -24,8 +24,8 @@ use Rattle.dr_plain.specs.Meaning.Rule.{World, Room, KeepsRule}
 use Rattle.dr_plain.specs.Meaning.Lying.{placed, LiesBy, Lies}
 use Rattle.dr_plain.specs.Meaning.Steps.{next_of}
 use Rattle.dr_plain.specs.Inside.Seats.{Hand, exchange, lent_all}
-use Rattle.dr_runs.proofs.Elements.{at_below}
-use Rattle.dr_plain.proofs.Keeps.{word_at, ahead_of_all, above, near, room_seen, claims_some, claims_none}
+use Rattle.dr_runs.proofs.Elements.{at_below, word_at}
+use Rattle.dr_plain.proofs.Keeps.{ahead_of_all, above, near, room_seen, claims_some, claims_none}
 use Rattle.dr_plain.proofs.Moving.{Stretches, claims_take, publishes_give, receiver_takes, receiver_gives}
 
 abbrev nothing_lent : (T : Type 0) → Option (Lent T)

@@ -17,10 +17,11 @@ use Rattle.dr_meaning.specs.Meaning.Transcript.{Transcript}
 use Rattle.dr_lent.specs.declared.lent.Lent.{Lent}
 use Rattle.dr_plain.specs.Meaning.Shape.{Shape, handlers_of, ring_setup}
 use Rattle.dr_plain.specs.Meaning.Words.{words_of}
-use Rattle.dr_runs.specs.Words.{cursor_word, closed_word, halt_word, count_word}
+use Rattle.dr_runs.specs.OneSender.Words.{cursor_word, closed_word, halt_word, count_word}
 use Rattle.dr_runs.specs.declared.look.Look.{Look}
 use Rattle.dr_plain.specs.declared.record.ReceiverRecord.{ReceiverRecord}
-use Rattle.dr_plain.specs.Meaning.Records.{events_of, claimed, barrier_seen, halt_looked, published_more, closed_looked, receiver_looked}
+use Rattle.dr_plain.specs.Meaning.Records.{claimed, barrier_seen, halt_looked, published_more, closed_looked, receiver_looked}
+use Rattle.dr_lent.specs.Events.{events_of}
 use Rattle.dr_runs.specs.Looks.{look}
 use Rattle.dr_plain.specs.Meaning.Records.{taken_at, tells_drained, cursor_looked, completed_to, SeesRoom}
 use Rattle.dr_plain.specs.Meaning.Rule.{World, KeepsRule, ArePast}
@@ -28,14 +29,15 @@ use Rattle.dr_plain.specs.declared.record.Step.{Step}
 use Rattle.dr_plain.specs.declared.record.Step.TheVariants.{SenderLooksAtCount, SenderLooksAtHalt, SenderPublishes, SenderHalts, SenderCloses}
 use Rattle.dr_plain.specs.declared.record.Step.TheVariants.{ReceiverLooksAtClosed, ReceiverLooksAtCursor, ReceiverLooksAtCount, ReceiverCompletes, HalterHalts, HalterLooks}
 use Rattle.dr_plain.specs.Meaning.Steps.{Happens, sender_knows, sender_stores, receiver_knows, receiver_stores, next_of}
-use Rattle.dr_plain.specs.Meaning.Moments.{fresh_receiver, taken_of, picture_of, writes_of, poll_of, receiver_at, entries_of, Runs}
-use Rattle.dr_runs.specs.Entries.{entry}
-use Rattle.dr_runs.proofs.Elements.{at_below, value_at}
+use Rattle.dr_plain.specs.Meaning.Moments.{fresh_receiver, taken_of, picture_of, writes_of, receiver_at, entries_of, Runs}
+use Rattle.dr_runs.specs.Entries.{entry, poll_of}
+use Rattle.dr_runs.proofs.Entries.{poll_none, poll_some}
+use Rattle.dr_runs.proofs.Elements.{at_below, value_at, word_at}
 use Rattle.dr_runs.proofs.Completions as completions
 use Rattle.dr_runs.proofs.Completions.{machine_room, count_at, counts_stay, count_set, upstream_inside}
 use Rattle.dr_runs.proofs.Offers.{offered_at_most, offered_at_least}
 use Rattle.dr_runs.proofs.Looks.{past_more}
-use Rattle.dr_plain.proofs.Keeps.{word_at, receiver_of_handler, room_seen, ahead_of_all, claims_some, claims_none}
+use Rattle.dr_plain.proofs.Keeps.{receiver_of_handler, room_seen, ahead_of_all, claims_some, claims_none}
 use Rattle.dr_plain.proofs.Barriers.{below_upstream, below_front, next_count, takes_below}
 use Rattle.dr_plain.proofs.Stores.{tells_truth}
 use Rattle.dr_plain.proofs.Beginning.{keeps_step}
@@ -186,15 +188,6 @@ module _ {T : Type 0} where
 
   abbrev told_of : Shape → World T → ℕ → ℕ → ReceiverRecord T → Bool → Transcript T
   told_of k w h room r b = if b then entry (Poll h 1) Drained [] else batch_of k w h cursor_word room r
-
-  -- some events are handed out, or none
-  poll_none : (h taken : ℕ) (es : List T) (to : ℕ) → length es ≡ 0 → poll_of h taken es to ≡ []
-  poll_none h taken [] to none = refl
-  poll_none h taken (e ∷ es) to none = absurd (omega arith)
-
-  poll_some : (h taken : ℕ) (es : List T) (to n : ℕ) → length es ≡ n → 0 < n → poll_of h taken es to ≡ entry (Poll h n) (Batch taken n (taken + n == to)) es
-  poll_some h taken [] to n is some_one = absurd (omega arith)
-  poll_some h taken (e ∷ es) to n is some_one = λ i. entry (Poll h (is i)) (Batch taken (is i) (taken + is i == to)) (e ∷ es)
 
   -- so much is there for a handler as its barrier let through when it looked
   offer_seen : (k : Shape) (w : World T) (h : ℕ) (looks : List Look) (n : ℕ) → h < handlers_of k → ArePast k w.words looks → KeepsRule k w

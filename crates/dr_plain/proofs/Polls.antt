@@ -16,18 +16,19 @@ use Rattle.dr_lent.proofs.Lists.{drop_seam}
 use Rattle.dr_lent.specs.declared.lent.Lent.{Lent}
 use Rattle.dr_lent.specs.Trades.{PartsTaken}
 use Rattle.dr_plain.specs.Meaning.Words.{cell_of}
-use Rattle.dr_runs.specs.Words.{cursor_word, closed_word}
+use Rattle.dr_runs.specs.OneSender.Words.{cursor_word, closed_word}
 use Rattle.dr_plain.specs.Meaning.Lying.{placed}
 use Rattle.dr_runs.specs.declared.look.Look.{Look}
 use Rattle.dr_plain.specs.declared.record.ReceiverRecord.{ReceiverRecord}
 use Rattle.dr_plain.specs.Meaning.Records.{closed_looked}
-use Rattle.dr_runs.specs.Looks.{look, count_looks}
+use Rattle.dr_runs.specs.Looks.{look}
+use Rattle.dr_runs.specs.OneSender.Looks.{count_looks}
 use Rattle.dr_plain.specs.Calls.Ends.{ReceiverStand}
-use Rattle.dr_plain.specs.Calls.Receiving.{looked_round, received_all, AnswersAsSeen}
-use Rattle.dr_runs.specs.Polls.{PollLooks, nothing_offered}
+use Rattle.dr_plain.specs.Calls.Receiving.{looked_round, received_all, AnswersAsSeen, ups_of}
+use Rattle.dr_runs.specs.OneSender.Polls.{PollLooks, nothing_offered}
 use Rattle.dr_plain.specs.Inside.Fits.{taken_slots, ReceiverFits}
 use Rattle.dr_plain.specs.Inside.Hands.{with_hand}
-use Rattle.dr_plain.specs.Inside.Polling.{ups_of, receiver_saw, cursor_seen, LooksRound}
+use Rattle.dr_plain.specs.Inside.Polling.{receiver_saw, cursor_seen, LooksRound}
 use Rattle.dr_plain.specs.Inside.Seats.{Hand, lent_all, taken_by_poll}
 use Rattle.dr_plain.specs.Inside.Trades.{parts_between, blanks_between}
 use Rattle.dr_runs.proofs.Elements.{there, at_below}

@@ -22,7 +22,8 @@ use Rattle.dr_lent.proofs.Lanes.{cell_later}
 use Rattle.dr_plain.specs.Meaning.Shape.{Shape, handlers_of}
 use Rattle.dr_plain.specs.Meaning.Words.{cell_of}
 use Rattle.dr_plain.specs.Meaning.Lying.{placed}
-use Rattle.dr_plain.specs.Meaning.Records.{events_of, claimed, laid, published_more}
+use Rattle.dr_plain.specs.Meaning.Records.{claimed, laid, published_more}
+use Rattle.dr_lent.specs.Events.{events_of}
 use Rattle.dr_plain.specs.declared.record.SenderRecord.{SenderRecord}
 use Rattle.dr_runs.specs.declared.written.Written.{Written}
 use Rattle.dr_plain.specs.Calls.Ends.{SenderStand, SenderEnd, sent_of}
@@ -31,7 +32,7 @@ use Rattle.dr_plain.specs.Inside.Fits.{Keeps, SenderFields, SenderFits, TokensFi
 use Rattle.dr_plain.specs.Inside.Lending.{lanes, lents_of, AreLent, SameBut}
 use Rattle.dr_plain.specs.Inside.Hands.{with_hand}
 use Rattle.dr_plain.specs.Inside.Noted.{Noted, writes_from}
-use Rattle.dr_runs.specs.Noted.{AreNoted, HasUnnoted, is_noted}
+use Rattle.dr_runs.specs.OneSender.Noted.{AreNoted, HasUnnoted, is_noted}
 use Rattle.dr_plain.specs.Inside.Seats.{Hand, lent_all, given_by_publication}
 use Rattle.dr_plain.specs.Inside.Views.{sender_end}
 use Rattle.dr_runs.proofs.Answering.{open_at, AllWritten, accepted, unwritten, out_of_order, published_before}
@@ -41,7 +42,7 @@ use Rattle.dr_plain.proofs.Tokens.{out}
 use Rattle.dr_runs.proofs.Elements.{there, value_at}
 use Rattle.dr_plain.proofs.Noting.{write_at, writes_at, written_at, unwritten_at, writes_both, writes_same, writes_count, noted_published, noted_later}
 use Rattle.dr_plain.proofs.Rowing.{dropped, taken, length_rows, replicate_both, rows_both}
-use Rattle.dr_plain.proofs.Stations.{begins_same}
+use Rattle.dr_runs.proofs.Beginnings.{begins_same}
 
 module _ {T : Type 0} where
   -- what lies in the cell of a sequence

@@ -13,19 +13,20 @@ use Rattle.dr_meaning.specs.Meaning.Machine.{front}
 use Rattle.dr_meaning.specs.Calls.Replies.{claim_reply, poll_reply}
 use Rattle.dr_meaning.specs.Calls.Ends.{IsAnswerOf, as_end}
 use Rattle.dr_graph.specs.Meaning.Graph.{finals}
-use Rattle.dr_runs.specs.Words.{halt_word, count_word}
+use Rattle.dr_runs.specs.OneSender.Words.{halt_word, count_word}
 use Rattle.dr_runs.specs.declared.look.Look.{Look}
 use Rattle.dr_runs.specs.Looks.{look, looks_at}
-use Rattle.dr_runs.specs.Replies.{claim_tests_of, DecidesClaimOf, DecidesPollOf}
+use Rattle.dr_runs.specs.OneSender.Replies.{claim_tests_of, DecidesClaimOf, DecidesPollOf}
 use Rattle.dr_plain.specs.Meaning.Shape.{Shape}
 use Rattle.dr_plain.specs.declared.record.SenderRecord.{SenderRecord}
 use Rattle.dr_plain.specs.declared.record.ReceiverRecord.{ReceiverRecord}
 use Rattle.dr_plain.specs.Meaning.Records.{claimed, SeesRoom}
 use Rattle.dr_plain.specs.Meaning.Rule.{World, KeepsRule}
 use Rattle.dr_plain.specs.Meaning.Moments.{picture_of, taken_of}
-use Rattle.dr_plain.specs.Meaning.Replies.{sent_with, received_of, tests_of_claim, tests_of_poll}
-use Rattle.dr_plain.specs.Calls.Sending.{LooksToClaim}
-use Rattle.dr_plain.specs.Calls.Replies.{Replies, DecidesClaim, DecidesPoll, RepliesAsAnswered}
+use Rattle.dr_plain.specs.Calls.Ends.{received_of}
+use Rattle.dr_plain.specs.Calls.Receiving.{tests_of_poll}
+use Rattle.dr_plain.specs.Calls.Sending.{LooksToClaim, tests_of_claim}
+use Rattle.dr_plain.specs.Calls.Replies.{Replies, DecidesClaim, DecidesPoll, RepliesAsAnswered, sent_with}
 use Rattle.dr_runs.proofs.Elements.{there, value_at}
 use Rattle.dr_runs.proofs.Replies as one
 use Rattle.dr_runs.proofs.Replies.{Picture, IsKept, Shows, HasRoom, IsAt}

@@ -3,15 +3,14 @@ use Rattle.std.proofs.Common.{ℕ, ◌+◌, ◌<◌, ◌≤◌, inl, inr, List, 
 use Rattle.std.proofs.lemmas.Bool.{cases_eq}
 use Rattle.dr_meaning.specs.Meaning.Transcript.{Transcript}
 use Rattle.dr_plain.specs.Meaning.Shape.{Shape}
-use Rattle.dr_runs.specs.Words.{cursor_word, closed_word, halt_word, count_word}
+use Rattle.dr_runs.specs.OneSender.Words.{cursor_word, closed_word, halt_word, count_word}
 use Rattle.dr_plain.specs.declared.record.Step.{Step}
 use Rattle.dr_plain.specs.declared.record.Step.TheVariants.{SenderLooksAtCount, SenderLooksAtHalt, SenderPublishes, SenderHalts, SenderCloses}
 use Rattle.dr_plain.specs.declared.record.Step.TheVariants.{ReceiverLooksAtClosed, ReceiverLooksAtCursor, ReceiverLooksAtCount, ReceiverCompletes, HalterHalts, HalterLooks}
 use Rattle.dr_plain.specs.Meaning.Rule.{World, KeepsRule}
 use Rattle.dr_plain.specs.Meaning.Steps.{Happens}
 use Rattle.dr_plain.specs.Meaning.Moments.{Runs}
-use Rattle.dr_runs.proofs.Elements.{at_below}
-use Rattle.dr_plain.proofs.Keeps.{word_at}
+use Rattle.dr_runs.proofs.Elements.{at_below, word_at}
 use Rattle.dr_plain.proofs.Beginning.{keeps_step}
 
 -- what is stored is no less than what was there

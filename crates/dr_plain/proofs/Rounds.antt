@@ -4,7 +4,7 @@ use Rattle.std.proofs.Common.{[], ◌∷◌, ◌++◌, length, get_or, sym, ap, 
 use Rattle.std.proofs.lemmas.List.{append-nil}
 use Rattle.dr_graph.specs.Meaning.Graph.{finals}
 use Rattle.dr_plain.specs.Calls.Plans.{IsPlan}
-use Rattle.dr_runs.specs.Words.{count_word}
+use Rattle.dr_runs.specs.OneSender.Words.{count_word}
 use Rattle.dr_runs.specs.declared.look.Look.{Look}
 use Rattle.dr_plain.specs.declared.record.SenderRecord.{SenderRecord}
 use Rattle.dr_plain.specs.Meaning.Records.{sender_looked}

@@ -27,7 +27,7 @@ use Rattle.dr_plain.proofs.Beginning.{kept_opening, keeps_runs}
 module _ {T : Type 0} where
   -- what the rule comes to
   pub kept_of : (k : Shape) (w : World T) → IsReached (exchange k) w → KeepsRule k w
-  kept_of k w R = keeps_runs k R.steps R.entries (new_world k) w R.runs (kept_opening T k R.made.0 R.made.1)
+  kept_of k w R = keeps_runs k R.steps R.entries (new_world k) w R.runs (kept_opening T k R.made)
 
   -- the other ends stand where the record of one changes
   not_sender : (k : Shape) (w : World T) (us : List ℕ) (q : SenderRecord T) → OthersStand (exchange k) w (world_of us q w.receivers w.halter) 0

@@ -6,7 +6,7 @@ use lib.ListN.{get_elem?}
 use Rattle.dr_graph.specs.Meaning.Graph.{upstreams_of, finals}
 use Rattle.dr_runs.proofs.Lists.{take_whole}
 use Rattle.dr_plain.specs.Meaning.Shape.{Shape, handlers_of}
-use Rattle.dr_runs.specs.Words.{count_word, cursor_word}
+use Rattle.dr_runs.specs.OneSender.Words.{count_word, cursor_word}
 use Rattle.dr_runs.specs.declared.look.Look.{Look}
 use Rattle.dr_plain.specs.declared.record.SenderRecord.{SenderRecord}
 use Rattle.dr_plain.specs.declared.record.ReceiverRecord.{ReceiverRecord}

@@ -10,7 +10,7 @@ use Rattle.dr_graph.specs.Meaning.Graph.{upstreams_of}
 use Rattle.dr_lent.specs.declared.lent.Lent.{Lent}
 use Rattle.dr_plain.specs.Meaning.Shape.{Shape, handlers_of}
 use Rattle.dr_plain.specs.Meaning.Words.{words_of}
-use Rattle.dr_runs.specs.Words.{cursor_word, closed_word, halt_word, count_word, HaltAndClose}
+use Rattle.dr_runs.specs.OneSender.Words.{cursor_word, closed_word, halt_word, count_word, HaltAndClose}
 use Rattle.dr_plain.specs.declared.record.ReceiverRecord.{ReceiverRecord}
 use Rattle.dr_plain.specs.Meaning.Records.{claimed, taken_at, published_more, seen_before, sender_halted, sender_closed, closed_looked}
 use Rattle.dr_runs.specs.declared.look.Look.{Look}
@@ -18,10 +18,10 @@ use Rattle.dr_runs.specs.Looks.{look}
 use Rattle.dr_plain.specs.Meaning.Records.{receiver_looked, tells_drained, cursor_looked, completed_to, halter_halted, halter_looked}
 use Rattle.dr_plain.specs.Meaning.Rule.{World, Room, ReceiverKept, KeepsRule}
 use Rattle.dr_plain.specs.Meaning.Steps.{sender_stores, receiver_knows, receiver_stores, next_of}
-use Rattle.dr_runs.proofs.Elements.{at_below, each_set}
+use Rattle.dr_runs.proofs.Elements.{at_below, each_set, word_at}
 use Rattle.dr_runs.proofs.Looks.{past_set, past_more}
 use Rattle.dr_runs.proofs.Completions.{counts_rise, upstream_inside, room_stays}
-use Rattle.dr_plain.proofs.Keeps.{word_at, receiver_stays}
+use Rattle.dr_plain.proofs.Keeps.{receiver_stays}
 use Rattle.dr_plain.proofs.Barriers.{below_upstream, below_front, next_count, next_are, takes_below}
 use Rattle.dr_runs.proofs.Flags.{flags_stay, flags_open, drained_truth, halts_flags, closes_flags}
 

@@ -5,7 +5,7 @@ use Rattle.std.proofs.lemmas.Bool.{or_cases, false≢true}
 use mathlib.Core.Option.{some}
 use lib.ListN.{get_elem?}
 use Rattle.dr_meaning.specs.Meaning.Transcript.{Transcript}
-use Rattle.dr_runs.specs.Words.{cursor_word, closed_word, count_word}
+use Rattle.dr_runs.specs.OneSender.Words.{cursor_word, closed_word, count_word}
 use Rattle.dr_runs.specs.Entries.{told_drained}
 use Rattle.dr_runs.proofs.Told.{WasTold, all_stay, one_hears, none_hears, told_runs}
 use Rattle.dr_plain.specs.Meaning.Shape.{Shape, handlers_of}
@@ -18,7 +18,7 @@ use Rattle.dr_plain.specs.Meaning.Rule.{World}
 use Rattle.dr_plain.specs.Meaning.Steps.{Happens, next_of}
 use Rattle.dr_plain.specs.Meaning.Moments.{Runs, entries_of, batch_at, new_world, receiver_at, WereTold}
 use Rattle.dr_plain.proofs.Beginning.{fresh_at}
-use Rattle.dr_plain.proofs.Keeps.{word_at}
+use Rattle.dr_runs.proofs.Elements.{word_at}
 use Rattle.dr_plain.proofs.Pictures.{is_receiver}
 
 -- each look that tells a receiver so has the entry

@@ -1,14 +1,13 @@
 -- Before it halts a ring itself, a sender finds no halt that the halter has not stored.
-use Rattle.std.proofs.Common.{◌≡◌, ◌<◌, if◌then◌else◌, Bool, true, false, List, [], ◌∷◌, ◌++◌, sym, refl, ◌∙◌, subst, ⊎_elim, arith}
+use Rattle.std.proofs.Common.{◌≡◌, if◌then◌else◌, Bool, true, false, List, [], ◌∷◌, ◌++◌, sym, refl, ◌∙◌, subst, ⊎_elim, arith}
 use Rattle.std.specs.Prelude.{All}
 use Rattle.std.proofs.lemmas.Bool.{false≢true}
 use Rattle.std.proofs.lemmas.List.Elements.{All-nil, All-push}
-use Rattle.dr_graph.specs.Meaning.Graph.{IsGraph}
 use Rattle.dr_meaning.specs.Meaning.Transcript.{Transcript}
 use Rattle.dr_runs.specs.declared.look.Look.{Look}
 use Rattle.dr_runs.specs.Looks.{look}
-use Rattle.dr_runs.specs.Words.{halt_word, count_word}
-use Rattle.dr_plain.specs.Meaning.Shape.{Shape}
+use Rattle.dr_runs.specs.OneSender.Words.{halt_word, count_word}
+use Rattle.dr_plain.specs.Meaning.Shape.{Shape, IsShape}
 use Rattle.dr_plain.specs.declared.record.Step.{Step}
 use Rattle.dr_plain.specs.declared.record.Step.TheVariants.{SenderLooksAtCount, SenderLooksAtHalt, SenderPublishes, SenderHalts, SenderCloses}
 use Rattle.dr_plain.specs.declared.record.Step.TheVariants.{ReceiverLooksAtClosed, ReceiverLooksAtCursor, ReceiverLooksAtCount, ReceiverCompletes, HalterHalts, HalterLooks}
@@ -16,7 +15,7 @@ use Rattle.dr_plain.specs.Meaning.Rule.{World, KeepsRule}
 use Rattle.dr_plain.specs.Meaning.Settling.{FoundUnhalted}
 use Rattle.dr_plain.specs.Meaning.Steps.{Happens}
 use Rattle.dr_plain.specs.Meaning.Moments.{Runs, new_world}
-use Rattle.dr_plain.proofs.Keeps.{word_at}
+use Rattle.dr_runs.proofs.Elements.{word_at}
 use Rattle.dr_plain.proofs.Beginning.{kept_opening, keeps_step}
 
 -- a look did not find the ring halted
@@ -68,7 +67,7 @@ module _ {T : Type 0} where
   unhalted_runs k (s ∷ steps) es w u R K is = unhalted_runs k steps R.1 R.0 u R.4 (keeps_step k s w R.0 R.2 K) (unhalted_step k s w R.0 R.2 K is)
 
   -- from the opening on
-  pub unhalted_since : (k : Shape) (steps : List (Step T)) (es : Transcript T) (u : World T) → IsGraph k.upstreams → 0 < k.size → Runs k steps es (new_world k) u
+  pub unhalted_since : (k : Shape) (steps : List (Step T)) (es : Transcript T) (u : World T) → IsShape k → Runs k steps es (new_world k) u
       → u.halter.halted ≡ false → FoundUnhalted u.sender
-  unhalted_since k steps es u graph some_slot R =
-      unhalted_runs k steps es (new_world k) u R (kept_opening T k graph some_slot) (λ off. All-nil NoHalt)
+  unhalted_since k steps es u shape R =
+      unhalted_runs k steps es (new_world k) u R (kept_opening T k shape) (λ off. All-nil NoHalt)

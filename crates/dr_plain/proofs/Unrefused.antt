@@ -5,7 +5,7 @@ use Rattle.std.proofs.lemmas.List.{get_or_at, length-append}
 use Rattle.dr_meaning.specs.declared.refusal.Refusal.TheVariants.{Halted}
 use Rattle.dr_runs.specs.declared.look.Look.{Look}
 use Rattle.dr_runs.specs.Looks.{look}
-use Rattle.dr_runs.specs.Words.{halt_word}
+use Rattle.dr_runs.specs.OneSender.Words.{halt_word}
 use Rattle.dr_plain.specs.declared.record.SenderRecord.{SenderRecord}
 use Rattle.dr_plain.specs.Meaning.Settling.{FoundUnhalted}
 use Rattle.dr_plain.specs.Calls.Ends.{SenderEnd}

@@ -21,14 +21,15 @@ use Rattle.dr_lent.proofs.Lists.{set_twice}
 use Rattle.dr_lent.specs.declared.lent.Lent.{Lent}
 use Rattle.dr_plain.specs.Meaning.Shape.{Shape}
 use Rattle.dr_plain.specs.Meaning.Words.{cell_of}
-use Rattle.dr_plain.specs.Meaning.Records.{events_of, claimed, laid}
+use Rattle.dr_plain.specs.Meaning.Records.{claimed, laid}
+use Rattle.dr_lent.specs.Events.{events_of}
 use Rattle.dr_plain.specs.declared.record.SenderRecord.{SenderRecord}
 use Rattle.dr_runs.specs.declared.written.Written.{Written}
 use Rattle.dr_plain.specs.Calls.Ends.{SenderStand, SenderEnd, sent_of}
 use Rattle.dr_plain.specs.Calls.Sending.{TriesToWrite}
 use Rattle.dr_plain.specs.Inside.Fits.{SenderFields, SenderFits, TokensFit}
 use Rattle.dr_plain.specs.Inside.Noted.{writes_from}
-use Rattle.dr_runs.specs.Noted.{Notes}
+use Rattle.dr_runs.specs.OneSender.Noted.{Notes}
 use Rattle.dr_plain.specs.Inside.Views.{sender_end}
 use Rattle.dr_plain.proofs.Collecting.{laid_count}
 use Rattle.dr_runs.proofs.Elements.{at_below}

@@ -9,12 +9,12 @@ use Rattle.dr_meaning.specs.declared.command.Reply.TheVariants.{Written}
 use Rattle.dr_meaning.specs.Meaning.Machine.{State, refusals, accepted, step}
 use Rattle.dr_meaning.proofs.Steps.{unless-none}
 use Rattle.dr_plain.specs.Meaning.Shape.{Shape, ring_setup}
-use Rattle.dr_runs.specs.Words.{cursor_word}
+use Rattle.dr_runs.specs.OneSender.Words.{cursor_word}
 use Rattle.dr_plain.specs.Meaning.Records.{claimed}
 use Rattle.dr_plain.specs.Meaning.Rule.{World, KeepsRule}
 use Rattle.dr_plain.specs.Meaning.Moments.{picture_of}
-use Rattle.dr_plain.specs.Meaning.Replies.{picture_with, open_writes}
-use Rattle.dr_plain.proofs.Keeps.{word_at}
+use Rattle.dr_plain.specs.Calls.Replies.{picture_with, open_writes}
+use Rattle.dr_runs.proofs.Elements.{word_at}
 use Rattle.dr_plain.proofs.Machine.{Leads, values_of, next_place}
 use Rattle.dr_plain.proofs.Pictures.{sent, sent_count}
 use Rattle.dr_runs.proofs.OneSender.{leads_one, owner_is}

@@ -13,4 +13,5 @@ pub mod Lending
 pub mod Polling
 pub mod Gathering
 pub mod Finishing
+pub mod Bringing
 pub mod Leaving

@@ -7,5 +7,4 @@ pub mod Lying
 pub mod Steps
 pub mod Stores
 pub mod Moments
-pub mod Replies
 pub mod Settling

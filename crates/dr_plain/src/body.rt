@@ -22,7 +22,7 @@ pub(crate) struct RingBody<T> {
     ghost many: { (senders.count ≡ 1) × (receivers.count ≡ handlers_of plan) × (halters.count ≡ 1) },
 }
 
-// Where a place is empty its end never was, or is brought together with the others by `finish`.
+// Where a place is empty its end never was, or is brought together with the others by `settle_all`.
 impl<T: Drop> Drop for RingBody<T> {
     fn drop(self) {
         let RingBody {
@@ -35,10 +35,10 @@ impl<T: Drop> Drop for RingBody<T> {
         let Some(mut senders) = senders.close() else {
             return;
         };
-        let Some(mut halters) = halters.close() else {
+        let Some(receivers) = receivers.close() else {
             return;
         };
-        let Some(receivers) = receivers.close() else {
+        let Some(mut halters) = halters.close() else {
             return;
         };
         let Some(sender) = senders.pop() else { return };

@@ -1,4 +1,4 @@
-//! Parts go from the slots in hand to their end, and back.
+//! Parts go from the slots in hand to their receiver, and back.
 
 ghost use Rattle.std.specs.Prelude.{◌≡◌, ◌+◌, ◌-◌, ◌<◌, ◌≤◌, ◌∷◌, ◌++◌, [], length, take, drop, Some};
 ghost use mathlib.Core.Option.{some};
@@ -13,28 +13,14 @@ ghost use Rattle.dr_plain.specs.Inside.Hands.{with_hand};
 ghost use Rattle.dr_plain.specs.Inside.Seats.{Hand};
 ghost use Rattle.dr_plain.specs.Inside.Trades.{parts_between, blanks_between};
 
-use crate::laws::{ReceiverStation, SenderStation};
+use crate::laws::ReceiverStation;
 use dr_cells::Token;
 use dr_lent::rows::{at, put_at};
 use dr_lent::slots::turn_by;
 
-impl<T> SenderStation<T> {
+impl<T> ReceiverStation<T> {
     /// Puts a token into the slot that is first in hand, gives what lay there, and turns to the
     /// next slot.
-    pub(crate) fn exchange(&mut self, slot: usize, token: Token<T>) -> Token<T>
-        requires { (old : TokenValue T) × (self.old.hand ≡ (slot, old) ∷ rest self.old.hand) }
-        ensures was { self.old.hand ≡ (slot, result) ∷ rest self.old.hand }
-        ensures hand { self.new ≡ with_hand self.old (rest self.old.hand ++ (slot, token) ∷ []) }
-    {
-        let words = &self.ring.table.shared;
-        let was = words.exchange(&mut self.seat, slot, token);
-        self.seat.turn();
-        was
-    }
-}
-
-impl<T> ReceiverStation<T> {
-    /// As the sender's.
     pub(crate) fn exchange(&mut self, slot: usize, token: Token<T>) -> Token<T>
         requires { (old : TokenValue T) × (self.old.hand ≡ (slot, old) ∷ rest self.old.hand) }
         ensures was { self.old.hand ≡ (slot, result) ∷ rest self.old.hand }

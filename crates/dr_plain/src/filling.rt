@@ -14,7 +14,7 @@ impl<T> Sender<T> {
     /// with a number, and tells what the closure became. So one closure fills event after event.
     ///
     /// It is refused as `update` is, and then does not call `fill`.
-    #[tactic(auto, using(crate::proofs::Stations::begins_same, crate::proofs::Stations::begins_on))]
+    #[tactic(auto, using(dr_runs::proofs::Beginnings::begins_same, dr_runs::proofs::Beginnings::begins_on))]
     pub fn update_by<F: FnMut(&mut T, u64)>(
         &mut self,
         sequence: u64,

@@ -12,12 +12,13 @@ ghost use Rattle.dr_plain.specs.declared.record.EndRecord.{EndRecord};
 ghost use Rattle.dr_plain.specs.declared.record.Step.{Step};
 ghost use Rattle.dr_plain.specs.Meaning.Records.{claimed as claimed_of};
 ghost use Rattle.dr_plain.specs.Meaning.Settling.{FoundUnhalted, Settles};
-ghost use Rattle.dr_plain.specs.Calls.Settling.{AreAllEnds, IsHalterOf, HasRun, handler_counts};
-ghost use Rattle.dr_plain.specs.Calls.Ends.{SenderEnd, ReceiverEnd, HalterStand};
+ghost use Rattle.dr_plain.specs.Calls.Settling.{AreAllEnds, HasRun, handler_counts};
+ghost use Rattle.dr_plain.specs.Calls.Ends.{SenderEnd, ReceiverEnd, HalterEnd};
 ghost use Rattle.dr_plain.specs.Inside.Fits.{PartsFit};
 ghost use Rattle.dr_plain.specs.Inside.Seats.{IsAtTable, ring_ends, exchange};
-ghost use Rattle.dr_plain.specs.Inside.Gathering.{AreOfRing, receiver_known};
-ghost use Rattle.dr_plain.specs.Inside.Finishing.{AreHandsOf, EndsKeep, HasAllEnds};
+ghost use Rattle.dr_plain.specs.Inside.Gathering.{AreReceiversAt, receiver_known};
+ghost use Rattle.dr_plain.specs.Inside.Finishing.{HasAllEnds};
+ghost use Rattle.dr_plain.specs.Inside.Bringing.{AreHandsOf, EndsKeep};
 
 use crate::body::RingBody;
 use crate::laws::{Halter, RingSeat, Words, moments, settling};
@@ -36,7 +37,7 @@ use std::snapshot::Snapshot;
 use std::sync::Arc;
 
 /// A receiver's seat comes to the sender's, and its counts and tokens to their places.
-pub(crate) fn receive<T>(
+pub(crate) fn bring_receiver<T>(
     words: &Words<T>,
     seat: &mut RingSeat<T>,
     receiver: ReceiverLeft<T>,
@@ -56,11 +57,11 @@ pub(crate) fn receive<T>(
         completed: receiver.completed,
     };
     put_at(hands, place, receiver.parts);
-    settling::take_in(words, seat, receiver.seat);
+    settling::unite(words, seat, receiver.seat);
 }
 
 // All receivers come so.
-fn gather<T: Drop>(
+fn gather_receivers<T: Drop>(
     ring: &Arc<RingBody<T>, Global>,
     seat: &mut RingSeat<T>,
     mut receivers: Vec<Receiver<T>>,
@@ -68,7 +69,7 @@ fn gather<T: Drop>(
     hands: &mut Vec<Vec<Token<T>>>,
 )
     requires table { IsAtTable seat.old.table_id (arc_value ring.now).table.shared.table_id (arc_value ring.now).plan }
-    requires receivers { AreOfRing seat.old.table_id receivers.items }
+    requires receivers { AreReceiversAt seat.old.table_id receivers.items }
     requires places { length counts.old.items ≡ length receivers.items }
     requires rooms { length hands.old.items ≡ length receivers.items }
     ensures seat { (seat.new.table_id ≡ seat.old.table_id) × (seat.new.me.1 ≡ seat.old.me.1) }
@@ -79,7 +80,7 @@ fn gather<T: Drop>(
     while let Some(receiver) = receivers.pop() {
         let place = receivers.len();
         let (_, _, left) = receiver.into_left();
-        receive(&ring.table.shared, seat, left, place, counts, hands);
+        bring_receiver(&ring.table.shared, seat, left, place, counts, hands);
     }
 }
 
@@ -98,7 +99,7 @@ pub(crate) fn reclaim_all<T>(
 ) -> Row<T>
     requires table { (seat.table_id ≡ words.now.table_id) × (0 < words.now.table_id.words) }
     requires cells { cells.ptr ≡ plan.now.strip }
-    requires together { (s : SenderEnd T) × (es : List (ReceiverEnd T)) × (t : HalterStand T) × (plan.now ≡ s.knows.plan) × HasAllEnds seat.me.0 s es t × EndsKeep s es claimed published tokens.items counts.now.items (map (λ hand. hand.items) hands.items) }
+    requires together { (s : SenderEnd T) × (es : List (ReceiverEnd T)) × (t : HalterEnd T) × (plan.now ≡ s.knows.plan) × HasAllEnds seat.me.0 s es t × EndsKeep s es claimed published tokens.items counts.now.items (map (λ hand. hand.items) hands.items) }
     ensures ran { ViewRan (exchange words.now.key) seat.me.0 }
     ensures all { IsAll cells.ptr (length tokens.items) result }
     ensures events { map (λ event. Some event) result.items ≡ cells_of tokens.items }
@@ -114,8 +115,7 @@ fn bring_together<T: Drop>(
     receivers: Vec<Receiver<T>>,
     halter: Halter<T>,
 ) -> (Vec<HandlerCounts>, Values<T>)
-    requires ends { AreAllEnds sender receivers.items }
-    requires halter { IsHalterOf sender halter }
+    requires { AreAllEnds sender receivers.items halter }
     ensures handlers { result.0.items ≡ map (λ e. handler_counts e.knows) receivers.items }
     ensures lists { Settles sender.knows (map (λ e. e.knows) receivers.items) }
     ensures unhalted { halter.knows.halted ≡ false → FoundUnhalted sender.knows }
@@ -125,8 +125,8 @@ fn bring_together<T: Drop>(
     let (ring, sends) = sender.into_left();
     let (_, halts) = halter.into_left();
     let (mut seat, mut counts, mut hands) = (sends.seat, sends.counts, sends.hands);
-    settling::take_in(&ring.table.shared, &mut seat, halts.seat);
-    gather(&ring, &mut seat, receivers, &mut counts, &mut hands);
+    settling::unite(&ring.table.shared, &mut seat, halts.seat);
+    gather_receivers(&ring, &mut seat, receivers, &mut counts, &mut hands);
     let row = reclaim_all(
         &ring.table.shared,
         &ring.plan,
@@ -151,13 +151,12 @@ fn bring_together<T: Drop>(
 /// than a round beyond what each final handler completed. There is one run of all ends that came
 /// to what they know, in which each end stored exactly what it did, and its transcript is lawful.
 /// Where the halter never halted the ring, the sender found no halt but its own.
-pub fn finish<T: Drop>(
+pub fn settle_all<T: Drop>(
     sender: Sender<T>,
     receivers: Vec<Receiver<T>>,
     halter: Halter<T>,
 ) -> (Settled<T>, Values<T>)
-    requires ends { AreAllEnds sender receivers.items }
-    requires halter { IsHalterOf sender halter }
+    requires { AreAllEnds sender receivers.items halter }
     // It remembers these ends.
     ensures ends { (result.0.sender.value ≡ sender) × (result.0.receivers.value.items ≡ receivers.items) × (result.0.halter.value ≡ halter) }
     // It counts what was claimed and published, and what each handler took and completed.

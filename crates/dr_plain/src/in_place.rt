@@ -1,7 +1,7 @@
 //! The ends of a ring over plain memory with one sender fill and show events where they lie.
 
 ghost use Rattle.dr_meaning.specs.Calls.Filling.{FillsOne};
-ghost use Rattle.dr_plain.specs.Calls.InPlace.{RefusesClaim, SawPublished, StoresStretch, does_in_place, offered_of, sending_of};
+ghost use Rattle.dr_plain.specs.Calls.InPlace.{SawSome, does_in_place, offered_of, sending_of, sends_in_place};
 ghost use Rattle.dr_plain.specs.Calls.Ends.{receiver_place, received_of, sender_place};
 
 use crate::receiver::Receiver;
@@ -19,9 +19,7 @@ impl<T> InPlaceInlet for Sender<T> {
 
     ghost sending = { sending_of };
 
-    ghost refuses = { RefusesClaim };
-
-    ghost stores = { StoresStretch };
+    ghost does = { sends_in_place };
 
     fn try_claim(&mut self, n: u64) -> Result<Claimed, ClaimFault> {
         match Sender::try_claim(self, n) {
@@ -76,11 +74,11 @@ impl<T> InPlaceOutlet for Receiver<T> {
 
     ghost kept = { receiver_place };
 
-    ghost received = { received_of };
+    ghost received = { λ e. received_of e.knows };
 
     ghost told = { λ e. e.knows.told };
 
-    ghost saw = { λ e n. SawPublished e.knows n };
+    ghost saw = { SawSome };
 
     ghost offered = { offered_of };
 

@@ -41,7 +41,7 @@ impl<T: Copy + Drop> Inlet<T> for Sender<T> {
         Ok(Sender::write(self, s, event)?)
     }
 
-    #[tactic(auto, using(crate::proofs::Stations::begins_same, crate::proofs::Stations::begins_on))]
+    #[tactic(auto, using(dr_runs::proofs::Beginnings::begins_same, dr_runs::proofs::Beginnings::begins_on))]
     fn write_all(&mut self, lo: u64, events: &[T]) -> Wrote
         requires limit { lo + length events.now ≤ 2 ^ 62 }
         ensures kept { sender_place self.new ≡ sender_place self.old }

@@ -82,13 +82,13 @@ pub struct HalterLeft<T> {
 
 impl<T> Model for HalterLeft<T> {
     ghost use Rattle.dr_runs.specs.Seats.{end_of};
-    ghost use Rattle.dr_plain.specs.Calls.Ends.{HalterStand};
+    ghost use Rattle.dr_plain.specs.Calls.Ends.{HalterEnd};
     ghost use Rattle.dr_plain.specs.Inside.Seats.{IsHalter};
-    ghost use Rattle.dr_plain.specs.Inside.Stations.{halter_stand};
+    ghost use Rattle.dr_plain.specs.Inside.Stations.{halter_end};
 
-    ghost Value = { HalterStand T };
+    ghost Value = { HalterEnd T };
 
-    ghost view = { λ s. halter_stand s.seat.table_id s.seat.me };
+    ghost view = { λ s. halter_end s.seat.table_id s.seat.me };
 
     ghost invariant = { λ s. IsHalter (end_of s.seat.me) };
 }

@@ -1,6 +1,8 @@
 //! Parts go from the slots in hand to the sender's tokens at a claim, and back at a publication.
 
-ghost use Rattle.std.specs.Prelude.{◌≡◌, ◌+◌, ◌-◌, ◌*◌, ◌<◌, ◌≤◌, ◌++◌, None, length, take, drop};
+ghost use Rattle.std.specs.Prelude.{◌≡◌, ◌+◌, ◌-◌, ◌*◌, ◌<◌, ◌≤◌, ◌∷◌, ◌++◌, [], None, length, take, drop};
+ghost use Rattle.atomic_table.specs.Table.{rest};
+ghost use Rattle.dr_cells.specs.declared.token.Token.{Token as TokenValue};
 ghost use Rattle.dr_cells.specs.Hold.{held};
 ghost use Rattle.dr_plain.specs.Meaning.Shape.{handlers_of};
 ghost use Rattle.dr_plain.specs.Meaning.Words.{cell_of, slot_of};
@@ -10,12 +12,34 @@ ghost use Rattle.dr_plain.specs.Inside.Seats.{Hand, lent_all, given_by_publicati
 ghost use Rattle.dr_plain.specs.Meaning.Records.{claimed};
 ghost use Rattle.dr_plain.specs.Inside.Lending.{lanes, laid_between, lents_of, TokenFits, TokensFitBetween, IsLending, AreLent, AreWhole, SameBut, HasPublished};
 
-use crate::laws::{Lends, SenderStation};
+use crate::laws::SenderStation;
 use dr_cells::Token;
+use dr_lent::Lends;
 use dr_lent::rows::put_at;
 use dr_lent::slots::turn_by;
 
 impl<T> SenderStation<T> {
+    // Puts a token into the slot that is first in hand, gives what lay there, and turns to the next
+    // slot.
+    fn exchange(&mut self, slot: usize, token: Token<T>) -> Token<T>
+        requires { (old : TokenValue T) × (self.old.hand ≡ (slot, old) ∷ rest self.old.hand) }
+        ensures was { self.old.hand ≡ (slot, result) ∷ rest self.old.hand }
+        ensures hand { self.new ≡ with_hand self.old (rest self.old.hand ++ (slot, token) ∷ []) }
+    {
+        let words = &self.ring.table.shared;
+        let was = words.exchange(&mut self.seat, slot, token);
+        self.seat.turn();
+        was
+    }
+
+    /// So many slots that are first in hand go behind all others, in their order.
+    pub(crate) fn turn_all(&mut self, count: u64)
+        requires { count ≤ length self.old.hand }
+        ensures { self.new ≡ with_hand self.old (drop count self.old.hand ++ take count self.old.hand) }
+    {
+        turn_by(&mut self.seat, count);
+    }
+
     // The slot of a handler's part of a sequence.
     fn slot(&self, handler: usize, sequence: u64) -> usize
         requires { handler < handlers_of self.now.knows.plan }
@@ -38,14 +62,6 @@ impl<T> SenderStation<T> {
         ensures inside { result < self.now.knows.plan.size }
     {
         self.ring.plan.size().slot(sequence)
-    }
-
-    /// So many slots that are first in hand go behind all others, in their order.
-    pub(crate) fn turn_all(&mut self, count: u64)
-        requires { count ≤ length self.old.hand }
-        ensures { self.new ≡ with_hand self.old (drop count self.old.hand ++ take count self.old.hand) }
-    {
-        turn_by(&mut self.seat, count);
     }
 
     /// So many rows of slots that are first in hand go behind all others, in their order.

@@ -1,35 +1,41 @@
 //! The ring over plain memory: one sender hands events of any type to a graph of receivers, each end
 //! on a thread of its own. An event lies once in memory, and tokens of it travel.
+//!
+//! Begin with `specs/Meaning`: `Words` says where each word lies, `Records` what each kind of step
+//! makes of what its end knows, `Rule` is what holds between any two steps, `Lying` where each token
+//! is, and `Steps` lists the kinds.
 #![tactic(auto)]
 
 mod body;
 mod claiming;
-pub mod events;
+mod events;
 mod exchanges;
 mod filling;
-pub mod finishing;
+mod finishing;
 mod in_place;
-pub mod inlet;
+mod inlet;
 pub mod laws;
 mod left;
 mod lending;
 mod opening;
-mod outlets;
+mod outlet;
 mod over;
 mod plan;
 mod polling;
-pub mod receiver;
+mod progress;
+mod receiver;
 mod reclaiming;
 pub mod record;
-pub mod sender;
-pub mod settled;
+mod sender;
+mod settled;
 mod turning;
 mod updating;
 
 pub use dr_cells::Values;
-pub use dr_runs::{HandlerCounts, RingFault};
+pub use dr_meaning::OpenFault;
+pub use dr_runs::HandlerCounts;
 pub use events::Events;
-pub use finishing::finish;
+pub use finishing::settle_all;
 pub use laws::Halter;
 pub use opening::ring;
 pub use plan::Plan;

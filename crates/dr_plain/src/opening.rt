@@ -11,37 +11,23 @@ ghost use Rattle.dr_plain.specs.Meaning.Moments.{fresh_receivers};
 ghost use Rattle.dr_runs.specs.Seats.{fresh_seat};
 ghost use Rattle.dr_plain.specs.Inside.Seats.{IsAtTable, known_receivers};
 ghost use Rattle.dr_plain.specs.Inside.Making.{AreFreshStands, IsPrepared};
-ghost use Rattle.dr_plain.specs.Calls.Settling.{AreAllEnds, IsHalterOf};
-ghost use Rattle.dr_plain.specs.Calls.Making.{at_ring, AreFreshEnds};
-ghost use Rattle.dr_runs.specs.Fault.{fault_of};
+ghost use Rattle.dr_plain.specs.Calls.Settling.{AreAllEnds};
+ghost use Rattle.dr_plain.specs.Calls.Making.{receiver_at_ring, AreFreshEnds, fault_of};
 
 use crate::body::RingBody;
 use crate::laws::{Halter, ReceiverStation, RingSeat, RingTable, SenderStation};
 use crate::plan::Plan;
 use crate::receiver::Receiver;
-use crate::record::View;
 use crate::sender::Sender;
-use atomic_table::Split;
 use dr_cells::{Cells, Row, Strip, Token};
 use dr_graph::Graph;
 use dr_lent::rows::{blanks, deal, empty_hands};
-use dr_meaning::is_valid_limit;
+use dr_meaning::{OpenFault, is_valid_limit};
 use dr_places::Places;
-use dr_runs::{HandlerCounts, RingFault, Written};
+use dr_runs::{Cut, HandlerCounts, Written};
 use dr_seq::{GateCache, Size};
 use std::alloc::{AllocError, Global};
 use std::sync::Arc;
-
-// The first record of a view stays with its seat, and the others go to another.
-struct Cut;
-
-impl<T> Split<View<T>> for Cut {
-    ghost use Rattle.dr_runs.specs.Seats.{first_view, rest_view};
-
-    ghost left = { first_view };
-
-    ghost right = { rest_view };
-}
 
 // The receivers, each with its seat. `rest` stands for them all.
 fn receivers<T: Drop>(
@@ -52,7 +38,7 @@ fn receivers<T: Drop>(
     requires table { IsAtTable rest.table_id (arc_value ring.now).table.shared.table_id (arc_value ring.now).plan }
     requires made { IsPlan (arc_value ring.now).plan }
     requires all { rest.me ≡ fresh_seat (known_receivers (arc_value ring.now).plan 0 (handlers_of (arc_value ring.now).plan)) }
-    ensures { IfOk result (λ v. v.items ≡ map (λ r. at_ring rest.table_id r) (fresh_receivers (arc_value ring.now).plan 0 (handlers_of (arc_value ring.now).plan))) }
+    ensures { IfOk result (λ v. v.items ≡ map (λ r. receiver_at_ring rest.table_id r) (fresh_receivers (arc_value ring.now).plan 0 (handlers_of (arc_value ring.now).plan))) }
 {
     let handlers = ring.plan.handlers();
     let mut receivers = Vec::with_capacity(alloc, handlers)?;
@@ -214,25 +200,24 @@ pub fn ring<T: Drop>(
     size: Size,
     limit: u64,
     events: Vec<T>,
-) -> Result<(Sender<T>, Vec<Receiver<T>>, Halter<T>), RingFault>
+) -> Result<(Sender<T>, Vec<Receiver<T>>, Halter<T>), OpenFault>
     requires events { length events.items ≡ size }
     // They are all ends of a new ring of this shape, in which nothing is claimed, taken or halted.
     ensures made { IfOk result (λ made. (strip : Ptr) × AreFreshEnds (record { upstreams = graph.now.upstreams; size = size; limit = limit; strip = strip }) events.items made.0 made.1.items made.2) }
-    ensures all { IfOk result (λ made. AreAllEnds made.0 made.1.items) }
-    ensures halter { IfOk result (λ made. IsHalterOf made.0 made.2) }
+    ensures all { IfOk result (λ made. AreAllEnds made.0 made.1.items made.2) }
     // A limit of 0 or above 2^62 is refused; where none is, the fault is that memory ran out.
     ensures fits { IsOk result → is_bad_limit limit ≡ false }
     ensures refused { IfErr result (λ fault. fault ≡ fault_of limit) }
 {
     if !is_valid_limit(limit) {
-        return Err(RingFault::BadLimit);
+        return Err(OpenFault::BadLimit);
     }
     let (strip, row) = Strip::new(alloc, events)?;
     match prepare(alloc, graph, size, limit, strip.cells) {
         Ok(prepared) => Ok(ends(prepared, strip, row)),
         Err(_) => {
             drop(strip.close(row));
-            Err(RingFault::NoMemory)
+            Err(OpenFault::NoMemory)
         }
     }
 }

@@ -4,13 +4,13 @@ ghost use Rattle.std.specs.Prelude.{◌≡◌, ◌<◌, length, map, Some};
 ghost use mathlib.Core.Option.{some};
 ghost use lib.ListN.{get_elem?};
 ghost use Rattle.dr_runs.specs.Gathering.{Gathers};
-ghost use Rattle.dr_plain.specs.Calls.Settling.{AreAllEnds, IsHalterOf, handler_counts};
+ghost use Rattle.dr_plain.specs.Calls.Settling.{AreAllEnds, handler_counts};
 ghost use Rattle.dr_plain.specs.Inside.Seats.{ring_ends};
-ghost use Rattle.dr_plain.specs.Inside.Gathering.{AreOfRing, receiver_known};
-ghost use Rattle.dr_plain.specs.Inside.Finishing.{AreHandsOf};
+ghost use Rattle.dr_plain.specs.Inside.Gathering.{AreReceiversAt, receiver_known};
+ghost use Rattle.dr_plain.specs.Inside.Bringing.{AreHandsOf};
 ghost use Rattle.dr_plain.specs.Inside.Leaving.{BelongsSender};
 
-use crate::finishing::{receive, reclaim_all};
+use crate::finishing::{bring_receiver, reclaim_all};
 use crate::laws::{RingSeat, Words, settling};
 use crate::left::{HalterLeft, ReceiverLeft, SenderLeft};
 use crate::plan::Plan;
@@ -19,7 +19,7 @@ use dr_places::Gathered;
 use dr_runs::HandlerCounts;
 
 // What a receiver left: its seat comes to the sender's, and its counts and tokens to their places.
-fn gather_left<T>(
+fn gather_receivers_left<T>(
     words: &Words<T>,
     seat: &mut RingSeat<T>,
     mut receivers: Gathered<ReceiverLeft<T>>,
@@ -27,7 +27,7 @@ fn gather_left<T>(
     hands: &mut Vec<Vec<Token<T>>>,
 )
     requires table { (seat.old.table_id ≡ words.now.table_id) × (0 < words.now.table_id.words) }
-    requires receivers { AreOfRing seat.old.table_id receivers }
+    requires receivers { AreReceiversAt seat.old.table_id receivers }
     requires places { length counts.old.items ≡ length receivers }
     requires rooms { length hands.old.items ≡ length receivers }
     ensures seat { (seat.new.table_id ≡ seat.old.table_id) × (seat.new.me.1 ≡ seat.old.me.1) }
@@ -37,7 +37,7 @@ fn gather_left<T>(
 {
     while let Some(receiver) = receivers.pop() {
         let place = receivers.len();
-        receive(words, seat, receiver, place, counts, hands);
+        bring_receiver(words, seat, receiver, place, counts, hands);
     }
 }
 
@@ -50,8 +50,7 @@ pub(crate) fn end<T>(
     halter: HalterLeft<T>,
 ) -> Values<T>
     requires sender { BelongsSender words.now.table_id plan.now sender }
-    requires receivers { AreAllEnds sender receivers }
-    requires halter { IsHalterOf sender halter }
+    requires ends { AreAllEnds sender receivers halter }
     ensures { map (λ event. Some event) result ≡ sender.cells }
 {
     let SenderLeft {
@@ -65,8 +64,8 @@ pub(crate) fn end<T>(
         mut hands,
         strip,
     } = sender;
-    settling::take_in(words, &mut seat, halter.seat);
-    gather_left(words, &mut seat, receivers, &mut counts, &mut hands);
+    settling::unite(words, &mut seat, halter.seat);
+    gather_receivers_left(words, &mut seat, receivers, &mut counts, &mut hands);
     let row = reclaim_all(
         words,
         plan,

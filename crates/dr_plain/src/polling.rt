@@ -1,11 +1,12 @@
 //! What a poll is made of: the looks, at the last of which it takes.
 
 ghost use Rattle.std.specs.Prelude.{◌<◌, ◌≤◌, [], ◌∷◌, length, Contains};
-ghost use Rattle.dr_runs.specs.Words.{cursor_word, count_word as count_word_of};
+ghost use Rattle.dr_runs.specs.OneSender.Words.{cursor_word, count_word as count_word_of};
 ghost use Rattle.dr_runs.specs.Looks.{look};
 ghost use Rattle.dr_plain.specs.Calls.Ends.{HasLoaded};
 ghost use Rattle.dr_plain.specs.Calls.Finds.{FindsEvents};
-ghost use Rattle.dr_plain.specs.Inside.Polling.{ups_of, receiver_saw, cursor_seen, IsNear, LooksAtFirst, LooksRound};
+ghost use Rattle.dr_plain.specs.Inside.Polling.{receiver_saw, cursor_seen, IsNear, LooksAtFirst, LooksRound};
+ghost use Rattle.dr_plain.specs.Calls.Receiving.{ups_of};
 
 use crate::laws::ReceiverStation;
 use dr_runs::lesser;

@@ -45,7 +45,7 @@ impl<T> Receiver<T> {
     /// it completes it.
     ///
     /// It is refused with `BadCount`, and changes nothing, where there is no room.
-    #[tactic(auto, using(crate::proofs::Stations::begins_same, crate::proofs::Stations::begins_on))]
+    #[tactic(auto, using(dr_runs::proofs::Beginnings::begins_same, dr_runs::proofs::Beginnings::begins_on))]
     pub fn poll(&mut self, room: u64) -> Result<Polled, Refusal>
         // By what its looks find it takes the next events, or says why there are none, and stores nothing.
         ensures call { PollCall self.old room self.new result }
@@ -76,7 +76,7 @@ impl<T> Receiver<T> {
     /// are gone.
     ///
     /// Refusals in their order: `Behind` (more are completed), `NotTaken`. They change nothing.
-    #[tactic(auto, using(crate::proofs::Stations::begins_same))]
+    #[tactic(auto, using(dr_runs::proofs::Beginnings::begins_same))]
     pub fn complete(&mut self, upto: u64) -> Result<(), Refusal>
         ensures { CompleteCall self.old upto self.new result }
     {
@@ -110,20 +110,6 @@ impl<T> Receiver<T> {
         Some(self.station.read(sequence, &self.parts))
     }
 
-    /// How many events it took.
-    pub fn taken(&self) -> u64
-        ensures { result ≡ length self.now.knows.received }
-    {
-        self.taken
-    }
-
-    /// How many events it completed.
-    pub fn completed(&self) -> u64
-        ensures { result ≡ self.now.knows.completed }
-    {
-        self.completed
-    }
-
     /// How many words the receiver has loaded that other ends store, up to the greatest `u64`.
     pub fn looks(&self) -> u64
         ensures { result ≡ looks_counted self.now.knows.looks }
@@ -133,7 +119,7 @@ impl<T> Receiver<T> {
 
     // All that it has, with its number and the ring.
     pub(crate) fn into_left(self) -> (Arc<RingBody<T>, Global>, usize, ReceiverLeft<T>)
-        ensures ring { BelongsReceiver (arc_value result.0).table.shared.table_id result.1 self }
+        ensures place { BelongsReceiver (arc_value result.0).table.shared.table_id result.1 self }
         ensures number { result.1 < handlers_of (arc_value result.0).plan }
         ensures left { result.2 ≡ self }
     {

@@ -56,7 +56,7 @@ impl<T> Sender<T> {
     /// The causes of a refusal in their order: `BadCount` (none, or more than the size), `Halted`,
     /// `Exhausted`, `NoRoom`, and `Halted` once more. A refused claim may have looked, and changes
     /// nothing else.
-    #[tactic(auto, using(crate::proofs::Stations::begins_same, crate::proofs::Stations::begins_on))]
+    #[tactic(auto, using(dr_runs::proofs::Beginnings::begins_same, dr_runs::proofs::Beginnings::begins_on))]
     pub fn try_claim(&mut self, n: u64) -> Result<Claimed, Refusal>
         ensures { ClaimCall self.old n self.new result }
     {
@@ -109,7 +109,7 @@ impl<T> Sender<T> {
     ///
     /// Refusals in their order: `BadCount` (`lo` above `hi`), `NotClaimed`, `AlreadyPublished`,
     /// `NotWritten`, `OutOfOrder`. They change nothing.
-    #[tactic(auto, using(crate::proofs::Stations::begins_same, crate::proofs::Stations::begins_on))]
+    #[tactic(auto, using(dr_runs::proofs::Beginnings::begins_same, dr_runs::proofs::Beginnings::begins_on))]
     pub fn publish(&mut self, lo: u64, hi: u64) -> Result<(), Refusal>
         ensures { PublishCall self.old lo hi self.new result }
     {
@@ -142,7 +142,7 @@ impl<T> Sender<T> {
     /// all of them is told `Drained`. It may be repeated.
     ///
     /// It is refused with `OpenClaim`, and changes nothing, while a claimed sequence is unpublished.
-    #[tactic(auto, using(crate::proofs::Stations::begins_same, crate::proofs::Stations::begins_on))]
+    #[tactic(auto, using(dr_runs::proofs::Beginnings::begins_same, dr_runs::proofs::Beginnings::begins_on))]
     pub fn close(&mut self) -> Result<(), Refusal>
         ensures { CloseCall self.old self.new result }
     {
@@ -216,7 +216,7 @@ impl<T: Drop> Sender<T> {
     /// written before, or of what an earlier sequence left in its cell, which is dropped.
     ///
     /// Refusals in their order: `NotClaimed`, `AlreadyPublished`. They change nothing.
-    #[tactic(auto, using(crate::proofs::Stations::begins_same, crate::proofs::Stations::begins_on))]
+    #[tactic(auto, using(dr_runs::proofs::Beginnings::begins_same, dr_runs::proofs::Beginnings::begins_on))]
     pub fn write(&mut self, sequence: u64, event: T) -> Result<(), Refusal>
         ensures { WriteCall self.old sequence event self.new result }
     {

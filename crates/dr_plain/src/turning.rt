@@ -4,7 +4,7 @@ ghost use Rattle.std.specs.Prelude.{◌≡◌, ◌+◌, ◌^◌, ◌<◌, ◌≤
 ghost use mathlib.Core.Option.{some};
 ghost use lib.ListN.{get_elem?};
 ghost use Rattle.dr_meaning.specs.Calls.Handling.{GoesThrough, showings};
-ghost use Rattle.dr_plain.specs.Meaning.Records.{events_of};
+ghost use Rattle.dr_lent.specs.Events.{events_of};
 ghost use Rattle.dr_plain.specs.Calls.Receiving.{CompleteCall};
 ghost use Rattle.dr_plain.specs.Calls.Turning.{TurnCall};
 

@@ -1,4 +1,4 @@
-//! An event is written where it lies.
+//! An event is changed where it lies.
 
 ghost use Rattle.std.specs.Fn.{FnOnceReturnsAtMut};
 ghost use Rattle.dr_plain.specs.Calls.Sending.{UpdateCall};
@@ -14,7 +14,7 @@ impl<T> Sender<T> {
     /// the cell. Nothing is moved.
     ///
     /// Refusals in their order: `NotClaimed`, `AlreadyPublished`. They change nothing.
-    #[tactic(auto, using(crate::proofs::Stations::begins_same, crate::proofs::Stations::begins_on))]
+    #[tactic(auto, using(dr_runs::proofs::Beginnings::begins_same, dr_runs::proofs::Beginnings::begins_on))]
     pub fn update<F: FnOnce(&mut T) + Drop>(
         &mut self,
         sequence: u64,

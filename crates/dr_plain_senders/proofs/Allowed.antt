@@ -17,8 +17,8 @@ use Rattle.atomic_table.proofs.Lists.{set_here, at_longer}
 use Rattle.dr_cells.specs.declared.token.Token.{Token}
 use Rattle.dr_graph.specs.Meaning.Graph.{finals}
 use Rattle.dr_runs.specs.Seats.{end_of, seat_at}
-use Rattle.dr_runs.specs.Looks.{last_look}
-use Rattle.dr_runs.proofs.Elements.{at_below}
+use Rattle.dr_runs.specs.Looks.{last_look, FindsMore}
+use Rattle.dr_runs.proofs.Elements.{at_below, word_at}
 use Rattle.dr_runs.proofs.Looks.{last_look_le}
 use Rattle.dr_runs.proofs.Offers.{final_inside}
 use Rattle.dr_runs.proofs.Seats.{adds_nothing, adds_one}
@@ -33,18 +33,19 @@ use Rattle.dr_plain_senders.specs.declared.record.Step.{Step}
 use Rattle.dr_plain_senders.specs.declared.record.Step.TheVariants.{SenderLooksAtClaims, SenderLooksAtCount, SenderClaims, SenderPublishes}
 use Rattle.dr_plain_senders.specs.declared.record.Step.TheVariants.{SenderLooksAtMark, SenderHalts}
 use Rattle.dr_plain_senders.specs.declared.record.Step.TheVariants.{HalterHalts, HalterLooks}
-use Rattle.dr_plain_senders.specs.Meaning.Records.{events_of, Owns, has_published, sender_looked, mark_found, claimed_from, halter_halted, halter_looked, SeesRoom}
+use Rattle.dr_plain_senders.specs.Meaning.Records.{Owns, has_published, sender_looked, mark_found, claimed_from, halter_halted, halter_looked, SeesRoom}
+use Rattle.dr_lent.specs.Events.{events_of}
 use Rattle.dr_plain_senders.specs.Meaning.Records.{fresh_stage}
 use Rattle.dr_plain_senders.specs.Meaning.Rule.{World, KeepsRule}
 use Rattle.dr_plain_senders.specs.Meaning.Lying.{Laid, Lies}
 use Rattle.dr_plain_senders.specs.Meaning.Steps.{Happens, sender_knows, sender_claims, halted_words}
-use Rattle.dr_plain_senders.specs.Calls.Finds.{FindsMore, FindsOwn, IsEarlier}
+use Rattle.dr_plain_senders.specs.Calls.Finds.{FindsOwn, IsEarlier}
 use Rattle.dr_plain_senders.specs.Inside.Seats.{End, Hand, Sitting, Tells, ring_ends, Loads, Stores, Ruled, as_sender, as_halter, sender_of}
 use Rattle.dr_plain_senders.specs.Inside.Seats.{halter_of, IsSender, IsHalter}
-use Rattle.dr_plain_senders.specs.Inside.Seats.{LayIn, LayAsLent, taken_by_claim, given_by_publication, SenderLooked, SenderLookedAtClaims}
+use Rattle.dr_plain_senders.specs.Inside.Seats.{LayIn, LayAsLent, taken_by_claim, given_by_publication, SenderLookedAtCount, SenderLookedAtClaims}
 use Rattle.dr_plain_senders.specs.Inside.Seats.{SenderClaimed, SenderPublished, SenderLookedAtMark, SenderHalted}
 use Rattle.dr_plain_senders.specs.Inside.Seats.{HalterHalted, HalterLooked}
-use Rattle.dr_plain_senders.proofs.Places.{word_at, claimed_low}
+use Rattle.dr_plain_senders.proofs.Places.{claimed_low}
 use Rattle.dr_plain_senders.proofs.Facts.{near_open, owned}
 use Rattle.dr_plain_senders.proofs.KeepsClaims.{keeps_claims}
 use Rattle.dr_plain_senders.proofs.Moves.{stays, gives_moves, claim_moves}
@@ -139,11 +140,11 @@ module _ {T : Type 0} where
       }))
 
   looks_at_count : (k : Shape T) (slots id : ℕ) (me : Sitting T) (f : ℕ) → IsSender (end_of me)
-      → Contains (finals k.upstreams) f → MayLoad k slots id me (count_word f) SenderLooked
+      → Contains (finals k.upstreams) f → MayLoad k slots id me (count_word f) SenderLookedAtCount
   looks_at_count k slots id me f is has =
       let r = sender_of me.0.ends in let i = count_word f in let kind = SenderLooksAtCount r.number f in
-      along_sender (λ m. MayLoad k slots id m i SenderLooked) me is
-      (by_end k slots id kind (λ xs. xs) me.0.pasts (Sends r) me.1 i (λ n. n) (SenderLooked (step slots i 0 0 none) (as_sender r me.1))
+      along_sender (λ m. MayLoad k slots id m i SenderLookedAtCount) me is
+      (by_end k slots id kind (λ xs. xs) me.0.pasts (Sends r) me.1 i (λ n. n) (SenderLookedAtCount (step slots i 0 0 none) (as_sender r me.1))
       (adds_nothing ring_ends _ kind (λ n. refl))
       (λ w at K small homes lies. let q = sender_looked r i (word_at w.words i) in let inside = final_inside k.upstreams f has in record {
         mine = Sends q;
@@ -156,9 +157,9 @@ module _ {T : Type 0} where
 
   pub sender_looks_at_count : (k sh : Shape T) {slots : ℕ} (id : ℕ) (me : Sitting T) (i f : ℕ)
       → k ≡ sh → i ≡ count_word f → IsSender (end_of me) → Contains (finals sh.upstreams) f
-      → MayLoad k slots id me i SenderLooked
+      → MayLoad k slots id me i SenderLookedAtCount
   sender_looks_at_count k sh {slots = slots} id me i f same here is has =
-      subst (λ (i : ℕ). MayLoad k slots id me i SenderLooked) (sym here)
+      subst (λ (i : ℕ). MayLoad k slots id me i SenderLookedAtCount) (sym here)
       (looks_at_count k slots id me f is (subst (λ (p : Shape T). Contains (finals p.upstreams) f) (sym same) has))
 
   -- an exchange, by whether it finds what it expects

@@ -8,7 +8,7 @@ use Rattle.atomic_table.specs.Table.{step}
 use Rattle.atomic_table.proofs.Lists.{set_here}
 use Rattle.dr_graph.specs.Meaning.Graph.{upstreams_of}
 use Rattle.dr_runs.specs.Seats.{end_of, seat_at}
-use Rattle.dr_runs.proofs.Elements.{at_below}
+use Rattle.dr_runs.proofs.Elements.{at_below, word_at}
 use Rattle.dr_runs.proofs.Looks.{last_look_le}
 use Rattle.dr_runs.proofs.Seats.{adds_nothing, adds_one}
 use Rattle.dr_plain_senders.specs.Meaning.Shape.{Shape}
@@ -24,7 +24,6 @@ use Rattle.dr_plain_senders.specs.Calls.Finds.{FindsClaims, FindsEvents, FindsNe
 use Rattle.dr_plain_senders.specs.Inside.Seats.{End, Hand, Sitting, ring_ends, as_receiver, receiver_of, IsReceiver}
 use Rattle.dr_plain_senders.specs.Inside.Seats.{taken_by_poll, given_by_completion}
 use Rattle.dr_plain_senders.specs.Inside.Seats.{ReceiverLookedAtClaims, ReceiverLookedAtMark, ReceiverLookedAtCount, ReceiverCompleted}
-use Rattle.dr_plain_senders.proofs.Places.{word_at}
 use Rattle.dr_plain_senders.proofs.Facts.{taken_claimed, handler_inside, upstream_inside, receiver_of_handler, above}
 use Rattle.dr_plain_senders.proofs.Barriers.{marked_claimed, offers_at_mark, offers_at_count, next_of}
 use Rattle.dr_plain_senders.proofs.Moves.{look_moves, poll_moves, completion_moves}

@@ -7,7 +7,7 @@ use lib.ListN.{get_elem?}
 use Rattle.dr_graph.specs.Meaning.Graph.{upstreams_of, least_of}
 use Rattle.dr_runs.specs.declared.look.Look.{Look}
 use Rattle.dr_runs.specs.Looks.{look, last_look, offered_by}
-use Rattle.dr_runs.proofs.Elements.{at_below, contains_none}
+use Rattle.dr_runs.proofs.Elements.{at_below, contains_none, word_at}
 use Rattle.dr_runs.proofs.Looks.{last_look_le, past_more}
 use Rattle.dr_lent.specs.declared.lent.Lent.{Lent}
 use Rattle.dr_plain_senders.specs.Meaning.Shape.{Shape, handlers_of}
@@ -16,7 +16,6 @@ use Rattle.dr_plain_senders.specs.declared.record.ReceiverRecord.{ReceiverRecord
 use Rattle.dr_plain_senders.specs.Meaning.Records.{barrier_seen, marked_next, taken_at_mark, taken_at_count}
 use Rattle.dr_plain_senders.specs.Meaning.Rule.{World, ArePast, IsOut, IsOutWith, has_mark, KeepsRule}
 use Rattle.dr_plain_senders.specs.Meaning.Steps.{AreNext}
-use Rattle.dr_plain_senders.proofs.Places.{word_at}
 use Rattle.dr_plain_senders.proofs.Facts.{receiver_of_handler, handler_inside, upstream_inside, above, taken_out, taken_claimed}
 use Rattle.dr_plain_senders.proofs.Bits.{same_word, few_in_word, run_few, run_there}
 

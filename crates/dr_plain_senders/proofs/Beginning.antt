@@ -5,7 +5,6 @@ use Rattle.std.proofs.lemmas.Bool.{cases_lt}
 use Rattle.std.proofs.lemmas.List.{length-replicate}
 use mathlib.Core.Option.{some, some-injective, some-ne-none}
 use lib.ListN.{get_elem?}
-use Rattle.dr_meaning.specs.Meaning.Machine.{State}
 use Rattle.dr_plain_senders.specs.Meaning.Shape.{Shape, IsShape, handlers_of, ring_setup}
 use Rattle.dr_plain_senders.specs.Meaning.Words.{claim_word, claimed_in, is_halted, count_word, mark_word, words_of}
 use Rattle.dr_plain_senders.specs.declared.record.SenderRecord.{SenderRecord}

@@ -19,11 +19,11 @@ use Rattle.dr_plain_senders.specs.declared.record.Step.TheVariants.{SenderClaims
 use Rattle.dr_meaning.specs.declared.claim_fault.ClaimFault.TheVariants.{Refused, Contended}
 use Rattle.dr_plain_senders.specs.Meaning.Records.{sender_looked, claimed_from, SeesRoom, Owns}
 use Rattle.dr_runs.specs.Runs.{IsBeginning}
-use Rattle.dr_plain_senders.proofs.Stations.{begins_on}
+use Rattle.dr_runs.proofs.Beginnings.{begins_on}
 use Rattle.dr_plain_senders.specs.Calls.Ends.{SenderStand, HasLoaded, HasStored, Stays, count_looks}
-use Rattle.dr_plain_senders.specs.Calls.Sending.{gate_looks, FoundRoom, ClaimCall, ClaimTakes, knows_after, IsCount}
+use Rattle.dr_plain_senders.specs.Calls.Sending.{gate_looks, FoundRoom, ClaimCall, knows_after, IsCount}
 use Rattle.dr_plain_senders.specs.Calls.Finds.{after_exchange, exchanged, IsEarlier}
-use Rattle.dr_plain_senders.specs.Inside.Scans.{sender_saw, IsEnough, Scans, ClaimsApart}
+use Rattle.dr_plain_senders.specs.Inside.Scans.{sender_saw, IsEnough, Scans, ClaimsApart, ClaimTakes}
 use Rattle.dr_plain_senders.proofs.Scanning.{seen_high}
 use Rattle.dr_plain_senders.specs.Inside.Seats.{Hand, LayIn, LayAsLent, taken_by_claim}
 use lib.ListN.{get_elem?}

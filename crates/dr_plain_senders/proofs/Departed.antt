@@ -14,10 +14,10 @@ use Rattle.dr_plain_senders.specs.Meaning.Shape.{Shape, handlers_of}
 use Rattle.dr_plain_senders.specs.Meaning.Words.{claimed_in}
 use Rattle.dr_plain_senders.specs.Inside.Owned.{Owned}
 use Rattle.dr_plain_senders.specs.Calls.Plans.{IsPlan}
-use Rattle.dr_plain_senders.specs.Calls.Ends.{SenderEnd, ReceiverEnd, HalterStand}
+use Rattle.dr_plain_senders.specs.Calls.Ends.{SenderEnd, ReceiverEnd, HalterEnd}
 use Rattle.dr_plain_senders.specs.Calls.Settling.{AreAllEnds, GivesBack, handler_counts}
 use Rattle.dr_plain_senders.specs.Inside.Seats.{Sitting, ring_ends, IsSender, IsReceiver, IsHalter}
-use Rattle.dr_plain_senders.specs.Inside.Stations.{sender_stand, receiver_stand, halter_stand}
+use Rattle.dr_plain_senders.specs.Inside.Stations.{sender_stand, receiver_stand, halter_end}
 use Rattle.dr_plain_senders.specs.Inside.Views.{sender_end, receiver_end}
 use Rattle.dr_plain_senders.specs.Inside.Gathering.{sender_known, receiver_known, halter_known}
 use Rattle.dr_plain_senders.specs.Inside.Bringing.{AreTogether}
@@ -34,15 +34,15 @@ last_one P all left x each popped =
 
 module _ {T : Type 0} where
   -- the last of what halters left, by what the places were told, belongs to the ring
-  pub last_halter : {ring at : TableId} {k plan : Shape T} {all : List (HalterStand T)} (left : List (HalterStand T)) (e : HalterStand T)
-      → ((i : ℕ) (x : HalterStand T) → get_elem? all i ≡ some x → BelongsHalter ring k x) → all ≡ left ++ e ∷ [] → ring ≡ at → k ≡ plan
+  pub last_halter : {ring at : TableId} {k plan : Shape T} {all : List (HalterEnd T)} (left : List (HalterEnd T)) (e : HalterEnd T)
+      → ((i : ℕ) (x : HalterEnd T) → get_elem? all i ≡ some x → BelongsHalter ring k x) → all ≡ left ++ e ∷ [] → ring ≡ at → k ≡ plan
       → BelongsHalter at plan e
   last_halter {ring = ring} {k = k} {all = all} left e each popped same made =
       subst (λ (x : TableId × Shape T). BelongsHalter x.0 x.1 e) (λ i. (same i, made i))
-      (last_one (λ _ (x : HalterStand T). BelongsHalter ring k x) all left e each popped)
+      (last_one (λ _ (x : HalterEnd T). BelongsHalter ring k x) all left e each popped)
 
   -- what was left in as many places as the ring has ends was left by all of its ends
-  pub all_left : {at here there : TableId} {k one other : Shape T} {ss : List (SenderEnd T)} {rs : List (ReceiverEnd T)} {t : HalterStand T}
+  pub all_left : {at here there : TableId} {k one other : Shape T} {ss : List (SenderEnd T)} {rs : List (ReceiverEnd T)} {t : HalterEnd T}
       → BelongsHalter at k t → length ss ≡ k.senders → ((p : ℕ) (e : SenderEnd T) → get_elem? ss p ≡ some e → BelongsSender here one p e) → here ≡ at → one ≡ k
       → length rs ≡ handlers_of k → ((h : ℕ) (e : ReceiverEnd T) → get_elem? rs h ≡ some e → BelongsReceiver there other h e) → there ≡ at → other ≡ k
       → AreAllEnds ss rs t
@@ -64,14 +64,14 @@ module _ {T : Type 0} where
   receiver_in ring k me r is same =
       own_receiver me r is (ap (λ (e : ReceiverEnd T). e.knows) same) (ap (λ (e : ReceiverEnd T). e.past) same) (ap (λ (e : ReceiverEnd T). e.stored) same)
 
-  pub halter_in : (ring : TableId) (k : Shape T) (me : Sitting T) (t : HalterStand T) → IsHalter (end_of me) → halter_stand ring k me ≡ t
+  pub halter_in : (ring : TableId) (k : Shape T) (me : Sitting T) (t : HalterEnd T) → IsHalter (end_of me) → halter_end ring k me ≡ t
       → IsInView ring_ends me.0 (halter_known t)
   halter_in ring k me t is same =
-      own_halter me t is (ap (λ (e : HalterStand T). e.knows) same) (ap (λ (e : HalterStand T). e.past) same) (ap (λ (e : HalterStand T). e.stored) same)
+      own_halter me t is (ap (λ (e : HalterEnd T). e.knows) same) (ap (λ (e : HalterEnd T). e.past) same) (ap (λ (e : HalterEnd T). e.stored) same)
 
   -- All ends are together, and their seat took what lies in the slots.
   module _ {k : Shape T} {me me' : Sitting T} {found : ℕ} {ss : List (SenderEnd T)}
-      {rs : List (ReceiverEnd T)} {t : HalterStand T} {counts : List HandlerCounts}
+      {rs : List (ReceiverEnd T)} {t : HalterEnd T} {counts : List HandlerCounts}
       {hands : List (List (Token T))} {tokens : List (Token T)} {brought : List Bool} (A : AreTogether k me.0 ss rs t counts hands tokens brought)
       (X : TookAll k me found me') where
     all_ended : Ended k X.ran.world ss rs t X.laid

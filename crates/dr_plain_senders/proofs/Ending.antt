@@ -2,7 +2,7 @@
 use Rattle.std.proofs.Common.{◌≡◌, ◌⊎◌, ℕ, zero, suc, ◌+◌, ◌-◌, ◌*◌, ◌<◌, ◌≤◌, inl, inr, Bool, true, false, if◌then◌else◌, List, [], ◌∷◌, map}
 use Rattle.std.proofs.Common.{length, get_or, set, drop, Option, Some, None, sym, refl, ap, ◌∙◌, subst, arith}
 use Rattle.std.proofs.lemmas.Bool.{cases_lt, cases_Bool}
-use mathlib.Core.Option.{some, none, some-injective, some-ne-none}
+use mathlib.Core.Option.{some, some-injective, some-ne-none}
 use mathlib.Core.Option as maybe
 use lib.ListN.{get_elem?}
 use Rattle.atomic_table.specs.Table.{Allows, State}
@@ -31,7 +31,7 @@ use Rattle.dr_plain_senders.specs.declared.record.ReceiverRecord.{ReceiverRecord
 use Rattle.dr_plain_senders.specs.declared.record.EndRecord.{EndRecord}
 use Rattle.dr_plain_senders.specs.declared.record.EndRecord.TheVariants.{Sends, Receives, Halts}
 use Rattle.dr_plain_senders.specs.declared.record.Step.{Step}
-use Rattle.dr_plain_senders.specs.Calls.Ends.{SenderEnd, ReceiverEnd, HalterStand}
+use Rattle.dr_plain_senders.specs.Calls.Ends.{SenderEnd, ReceiverEnd, HalterEnd}
 use Rattle.dr_plain_senders.specs.Calls.Settling.{handler_counts}
 use Rattle.dr_plain_senders.specs.Inside.Seats.{Hand, Sitting, ring_ends, Stands, exchange, Ruled, IsOver}
 use Rattle.dr_plain_senders.specs.Inside.Gathering.{sender_known, receiver_known, halter_known}
@@ -253,7 +253,7 @@ module _ {T : Type 0} (k : Shape T) where
 
   module _ (st : State (Token T) (View (EndRecord T) (Step T))) (R : seats.Ruled (exchange k) st)
       (id : ℕ) (v : View (EndRecord T) (Step T)) (at : get_elem? st.views id ≡ some v)
-      (ss : List (SenderEnd T)) (rs : List (ReceiverEnd T)) (t : HalterStand T) (H : HasAllEnds v ss rs t) (plan : k ≡ t.plan) where
+      (ss : List (SenderEnd T)) (rs : List (ReceiverEnd T)) (t : HalterEnd T) (H : HasAllEnds v ss rs t) (plan : k ≡ t.plan) where
     ran_of : ViewRan (exchange k) v
     ran_of = let seen = Saw (exchange k) R.reached.steps in record {
       world = R.world;
@@ -299,7 +299,7 @@ module _ {T : Type 0} (k : Shape T) where
       | inr x ↦ is_empty view.ends (λ e first. x.0 (none_but seat view x.1 e first))
     ]
 
-  pub takes_all : (slots id : ℕ) (me : Sitting T) (ss : List (SenderEnd T)) (rs : List (ReceiverEnd T)) (t : HalterStand T)
+  pub takes_all : (slots id : ℕ) (me : Sitting T) (ss : List (SenderEnd T)) (rs : List (ReceiverEnd T)) (t : HalterEnd T)
       → HasAllEnds me.0 ss rs t → k ≡ t.plan
       → Allows (Ruled k) slots id me claim_word (λ n. n) (TookAll k me)
   unfolding ran_of

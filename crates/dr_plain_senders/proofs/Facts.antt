@@ -6,14 +6,14 @@ use Rattle.std.proofs.lemmas.List.{get_or_past}
 use mathlib.Core.Option.{some}
 use lib.ListN.{get_elem?}
 use Rattle.dr_graph.specs.Meaning.Graph.{nobody, upstreams_of, IsOrderly, IsGated, IsGraph}
-use Rattle.dr_runs.proofs.Elements.{there, at_below, contains_none}
+use Rattle.dr_runs.proofs.Elements.{there, at_below, contains_none, word_at}
 use Rattle.dr_plain_senders.specs.Meaning.Shape.{Shape, handlers_of}
 use Rattle.dr_plain_senders.specs.Meaning.Words.{count_word}
 use Rattle.dr_plain_senders.specs.declared.record.Stage.{Stage}
 use Rattle.dr_plain_senders.specs.declared.record.SenderRecord.{SenderRecord}
 use Rattle.dr_plain_senders.specs.declared.record.ReceiverRecord.{ReceiverRecord}
 use Rattle.dr_plain_senders.specs.Meaning.Rule.{World, Room, IsOut, ReceiverKept, KeepsRule}
-use Rattle.dr_plain_senders.proofs.Places.{word_at, one_value}
+use Rattle.dr_plain_senders.proofs.Places.{one_value}
 
 -- something is there, or nothing
 pub cases_option : {A : Type 0} (o : Option A) → (o ≡ None) ⊎ ((a : A) × (o ≡ Some a))

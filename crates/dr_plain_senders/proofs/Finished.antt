@@ -30,7 +30,7 @@ use Rattle.dr_plain_senders.specs.declared.record.SenderRecord.{SenderRecord}
 use Rattle.dr_plain_senders.specs.declared.record.ReceiverRecord.{ReceiverRecord}
 use Rattle.dr_plain_senders.specs.declared.record.EndRecord.{EndRecord}
 use Rattle.dr_plain_senders.specs.declared.record.Step.{Step}
-use Rattle.dr_plain_senders.specs.Calls.Ends.{SenderEnd, ReceiverEnd, HalterStand, EndPlace}
+use Rattle.dr_plain_senders.specs.Calls.Ends.{SenderEnd, ReceiverEnd, HalterEnd, EndPlace}
 use Rattle.dr_plain_senders.specs.Calls.Settling.{AreAllEnds, GivesBack, handler_counts}
 use Rattle.dr_plain_senders.specs.Inside.Seats.{Hand, exchange, IsOfRound}
 use Rattle.dr_plain_senders.specs.Inside.Bringing.{AreBrought, AreHandsOf}
@@ -49,7 +49,7 @@ some_of a b e = cc
 module _ {T : Type 0} where
   -- the ends of a ring are together in a world
   pub record Ended (k : Shape T) (w : World T) (ss : List (SenderEnd T))
-      (rs : List (ReceiverEnd T)) (t : HalterStand T) (laid : List (Option (Laid T))) : Type 0 where
+      (rs : List (ReceiverEnd T)) (t : HalterEnd T) (laid : List (Option (Laid T))) : Type 0 where
     pub rule : KeepsRule k w
     pub owned_all : AllOwned w
     pub senders : w.senders ≡ map knows_of_sender ss
@@ -59,7 +59,7 @@ module _ {T : Type 0} where
     pub laid_is : AreLaid k w.stages laid
 
   pub ended : (k : Shape T) (v : View (EndRecord T) (Step T)) (ss : List (SenderEnd T))
-      (rs : List (ReceiverEnd T)) (t : HalterStand T) (laid : List (Option (Laid T)))
+      (rs : List (ReceiverEnd T)) (t : HalterEnd T) (laid : List (Option (Laid T)))
       → HasAllEnds v ss rs t → (V : ViewRan (exchange k) v) → k ≡ t.plan → AreLaid k V.world.stages laid → Ended k V.world ss rs t laid
   ended k v ss rs t laid H V plan L =
       let w = V.world in let R = V.reached in let K = kept_of k w R in let one = in_one_run k v ss rs t H V in record {
@@ -73,7 +73,7 @@ module _ {T : Type 0} where
       }
 
   -- the receivers' rows
-  pub wide : (k p : Shape T) (ss : List (SenderEnd T)) (rs : List (ReceiverEnd T)) (t : HalterStand T) (hands : List (List (Token T))) → k ≡ t.plan → p ≡ t.plan
+  pub wide : (k p : Shape T) (ss : List (SenderEnd T)) (rs : List (ReceiverEnd T)) (t : HalterEnd T) (hands : List (List (Token T))) → k ≡ t.plan → p ≡ t.plan
       → AreAllEnds ss rs t → AreHandsOf rs hands → AreWide p hands
   wide k p ss rs t hands plan same A H = record {
     count = H.count ∙ A.receivers ∙ ap handlers_of (sym same);
@@ -100,7 +100,7 @@ module _ {T : Type 0} where
   counts_of (e ∷ es) = ap (λ (cs : List HandlerCounts). handler_counts e.knows ∷ cs) (counts_of es)
 
   module _ (k : Shape T) (w : World T) (ss : List (SenderEnd T)) (rs : List (ReceiverEnd T))
-      (t : HalterStand T) (laid : List (Option (Laid T))) (E : Ended k w ss rs t laid) where
+      (t : HalterEnd T) (laid : List (Option (Laid T))) (E : Ended k w ss rs t laid) where
     abbrev count_now : ℕ
     count_now = length w.stages
 

@@ -26,8 +26,9 @@ use Rattle.dr_plain_senders.specs.Inside.Seats.{End, Sitting, ring_ends, stored_
 use Rattle.dr_plain_senders.specs.Inside.Seats.{halter_of, IsSender, IsReceiver, IsHalter}
 use Rattle.dr_plain_senders.specs.Inside.Finishing.{HasAllEnds}
 use Rattle.dr_plain_senders.specs.Inside.Gathering.{sender_known, receiver_known, halter_known}
-use Rattle.dr_plain_senders.specs.Calls.Ends.{SenderEnd, ReceiverEnd, HalterStand, EndPlace}
+use Rattle.dr_plain_senders.specs.Calls.Ends.{SenderEnd, ReceiverEnd, HalterEnd, EndPlace}
 use Rattle.dr_plain_senders.specs.Calls.Settling.{AreAllEnds, HasRun}
+use Rattle.dr_plain_senders.proofs.MarksFound.{marks_within}
 use Rattle.dr_plain_senders.proofs.Owners.{owned_since}
 use Rattle.dr_plain_senders.proofs.Settling.{settles}
 
@@ -53,20 +54,20 @@ module _ {T : Type 0} where
   own_receiver me e is knows past stored =
       in_own ring_ends (me.0, []) (receiver_known e) (ap (λ (m : End T). (m.0, [])) is ∙ ap (λ (r : ReceiverRecord T). as_receiver r []) knows) past stored
 
-  pub own_halter : (me : Sitting T) (t : HalterStand T) → IsHalter (end_of me) → halter_of me.0.ends ≡ t.knows → past_of me.0 ≡ t.past
+  pub own_halter : (me : Sitting T) (t : HalterEnd T) → IsHalter (end_of me) → halter_of me.0.ends ≡ t.knows → past_of me.0 ≡ t.past
       → stored_of me.0 ≡ t.stored → IsInView ring_ends me.0 (halter_known t)
   own_halter me t is knows past stored =
       in_own ring_ends (me.0, []) (halter_known t) (ap (λ (m : End T). (m.0, [])) is ∙ ap (λ (r : HalterRecord). as_halter r) knows) past stored
 
   -- the ends that came together in the halter's seat
-  pub record Together (v after now : View (EndRecord T) (Step T)) (ss : List (SenderEnd T)) (rs : List (ReceiverEnd T)) (t : HalterStand T) : Type 0 where
+  pub record Together (v after now : View (EndRecord T) (Step T)) (ss : List (SenderEnd T)) (rs : List (ReceiverEnd T)) (t : HalterEnd T) : Type 0 where
     pub first : IsInView ring_ends v (halter_known t)
     pub senders : Gathers ring_ends v (map sender_known ss) after
     pub receivers : Gathers ring_ends after (map receiver_known rs) now
     pub all : AreAllEnds ss rs t
 
   -- the halter's seat has them all
-  pub has_all : (v after now : View (EndRecord T) (Step T)) (ss : List (SenderEnd T)) (rs : List (ReceiverEnd T)) (t : HalterStand T)
+  pub has_all : (v after now : View (EndRecord T) (Step T)) (ss : List (SenderEnd T)) (rs : List (ReceiverEnd T)) (t : HalterEnd T)
       → Together v after now ss rs t → HasAllEnds now ss rs t
   has_all v after now ss rs t G = record {
     senders = λ p e at. G.receivers.stay (sender_known e) (G.senders.come p (sender_known e) (map_there sender_known ss p e at));
@@ -77,12 +78,12 @@ module _ {T : Type 0} where
 
   -- each of them is in the run that came to them
   pub record InOneRun (k : Shape T) (w : World T) (steps : List (Step T))
-      (ss : List (SenderEnd T)) (rs : List (ReceiverEnd T)) (t : HalterStand T) : Type 0 where
+      (ss : List (SenderEnd T)) (rs : List (ReceiverEnd T)) (t : HalterEnd T) : Type 0 where
     pub sends : (p : ℕ) (e : SenderEnd T) → get_elem? ss p ≡ some e → InRun (exchange k) w steps (sender_known e)
     pub receives : (h : ℕ) (e : ReceiverEnd T) → get_elem? rs h ≡ some e → InRun (exchange k) w steps (receiver_known e)
     pub halts : InRun (exchange k) w steps (halter_known t)
 
-  pub in_one_run : (k : Shape T) (v : View (EndRecord T) (Step T)) (ss : List (SenderEnd T)) (rs : List (ReceiverEnd T)) (t : HalterStand T)
+  pub in_one_run : (k : Shape T) (v : View (EndRecord T) (Step T)) (ss : List (SenderEnd T)) (rs : List (ReceiverEnd T)) (t : HalterEnd T)
       → HasAllEnds v ss rs t → (ran : ViewRan (exchange k) v) → InOneRun k ran.world ran.reached.steps ss rs t
   in_one_run k v ss rs t H ran =
       let here : (x : Known (EndRecord T) (Step T)) → IsInView ring_ends v x → InRun (exchange k) ran.world ran.reached.steps x = in_run (exchange k) v ran in
@@ -93,7 +94,7 @@ module _ {T : Type 0} where
       }
 
   -- the records of the world that the run came to
-  pub senders_are : (k : Shape T) (w : World T) (steps : List (Step T)) (ss : List (SenderEnd T)) (rs : List (ReceiverEnd T)) (t : HalterStand T)
+  pub senders_are : (k : Shape T) (w : World T) (steps : List (Step T)) (ss : List (SenderEnd T)) (rs : List (ReceiverEnd T)) (t : HalterEnd T)
       → KeepsRule k w
       → k ≡ t.plan → AreAllEnds ss rs t → InOneRun k w steps ss rs t → w.senders ≡ map knows_of_sender ss
   senders_are k w steps ss rs t K plan A R =
@@ -101,7 +102,7 @@ module _ {T : Type 0} where
       (λ p r at. (let m = at_map knows_of_sender ss p r at in let number : m.0.knows.number ≡ p = ap (λ (x : EndPlace T). x.2) (A.each_sender p m.0 m.1) in
       ap (λ (n : ℕ). get_elem? w.senders n) (sym number) ∙ (R.sends p m.0 m.1).stands ∙ ap (λ (x : SenderRecord T). some x) m.2))
 
-  pub receivers_are : (k : Shape T) (w : World T) (steps : List (Step T)) (ss : List (SenderEnd T)) (rs : List (ReceiverEnd T)) (t : HalterStand T)
+  pub receivers_are : (k : Shape T) (w : World T) (steps : List (Step T)) (ss : List (SenderEnd T)) (rs : List (ReceiverEnd T)) (t : HalterEnd T)
       → KeepsRule k w
       → k ≡ t.plan → AreAllEnds ss rs t → InOneRun k w steps ss rs t → w.receivers ≡ map knows_of rs
   receivers_are k w steps ss rs t K plan A R =
@@ -110,7 +111,7 @@ module _ {T : Type 0} where
       ap (λ (n : ℕ). get_elem? w.receivers n) (sym number) ∙ (R.receives h m.0 m.1).stands ∙ ap (λ (x : ReceiverRecord T). some x) m.2))
 
   -- the run of the ends that came together, and what it found at the claim word
-  pub has_run : (k : Shape T) (v : View (EndRecord T) (Step T)) (ss : List (SenderEnd T)) (rs : List (ReceiverEnd T)) (t : HalterStand T) (found : ℕ)
+  pub has_run : (k : Shape T) (v : View (EndRecord T) (Step T)) (ss : List (SenderEnd T)) (rs : List (ReceiverEnd T)) (t : HalterEnd T) (found : ℕ)
       → HasAllEnds v ss rs t → (ran : ViewRan (exchange k) v) → slice_index ran.world.words claim_word ≡ found → k ≡ t.plan
       → Moments (λ k steps entries w. KeepsRule k w) → Moments (λ k steps entries w. LeadsTo (ring_setup k) entries (picture_of k w))
       → Moments (λ k steps entries w. Laws (ring_setup k) entries)
@@ -123,7 +124,7 @@ module _ {T : Type 0} where
         ran.runs,
         leads k steps es w ran.made ran.runs,
         laws k steps es w ran.made ran.runs,
-        settles k w K (owned_since k steps es w ran.made ran.runs),
+        settles k w K (owned_since k steps es w ran.made ran.runs) (marks_within k steps es w ran.made ran.runs),
       ) in record {
         steps = steps;
         entries = es;

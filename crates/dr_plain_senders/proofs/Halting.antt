@@ -16,7 +16,8 @@ use Rattle.dr_plain_senders.specs.Meaning.Records.{published, sender_looked, See
 use Rattle.dr_plain_senders.specs.Meaning.Rule.{World, KeepsRule}
 use Rattle.dr_plain_senders.specs.Meaning.Steps.{Happens, PublishesOne, sender_knows, sender_claims}
 use Rattle.dr_plain_senders.specs.Meaning.Moments.{Runs}
-use Rattle.dr_plain_senders.proofs.Places.{word_at, is_halted_from}
+use Rattle.dr_plain_senders.proofs.Places.{is_halted_from}
+use Rattle.dr_runs.proofs.Elements.{word_at}
 use Rattle.dr_plain_senders.proofs.Keeps.{along_all, keeps_step}
 
 module _ {T : Type 0} where

@@ -1,11 +1,9 @@
 -- What a poll of a receiver takes and sees, of a ring with several senders.
 use Rattle.std.proofs.Common.{◌≡◌, ◌≤◌, ◌<◌, ◌+◌, ◌-◌, ◌^◌, ℕ, min, List, [], ◌∷◌, ◌++◌, length, Ok, inl, inr}
 use Rattle.std.proofs.Common.{refl, sym, ap, ◌∙◌, subst, arith, append_assoc, length-append}
-use Rattle.std.specs.Prelude.{◌↔◌, Contains, IsTrue, slice_index}
-use Rattle.std.proofs.Math.Seq.{get_or-append_seam}
+use Rattle.std.specs.Prelude.{◌↔◌, IsTrue}
 use Rattle.std.proofs.lemmas.List.{append-nil, length-map, map-append}
 use mathlib.Core.Option.{some}
-use lib.ListN.{get_elem?}
 use Rattle.dr_graph.specs.Meaning.Graph.{least_of, upstreams_of}
 use Rattle.dr_meaning.proofs.Leasts.{least_of-le}
 use Rattle.dr_meaning.specs.declared.command.Polled.{Polled}
@@ -13,27 +11,19 @@ use Rattle.dr_meaning.specs.declared.command.Polled.TheVariants.{Batch, Drained,
 use Rattle.dr_runs.specs.declared.look.Look.{Look}
 use Rattle.dr_runs.specs.LastLooks.{found_last}
 use Rattle.dr_runs.specs.Looks.{look, offered_by}
-use Rattle.dr_runs.proofs.Elements.{at_index}
 use Rattle.dr_runs.proofs.LastLooks.{found_counts}
 use Rattle.dr_lent.specs.declared.lent.Lent.{Lent}
 use Rattle.dr_plain_senders.specs.declared.record.MarkLook.{MarkLook}
-use Rattle.dr_plain_senders.specs.Meaning.Records.{events_of, mark_look}
+use Rattle.dr_plain_senders.specs.Meaning.Records.{mark_look}
+use Rattle.dr_lent.specs.Events.{events_of}
 use Rattle.dr_plain_senders.specs.declared.record.ReceiverRecord.{ReceiverRecord}
-use Rattle.dr_plain_senders.specs.Meaning.Rule.{KeepsRule, World}
-use Rattle.dr_plain_senders.specs.Meaning.Shape.{Shape, handlers_of}
+use Rattle.dr_plain_senders.specs.Meaning.Shape.{Shape}
 use Rattle.dr_plain_senders.specs.Meaning.Words.{claim_word, claimed_in, count_word, marked_from}
 use Rattle.dr_plain_senders.specs.Calls.Ends.{EndPlace, ReceiverEnd, count_looks, mark_looks, receiver_place, received_of}
 use Rattle.dr_plain_senders.specs.Calls.Receiving.{CompleteCall, LooksInOrder, PollCall, PollLooks, WalksTo, looked_round, offer, ups_of, walk_end}
-use Rattle.dr_plain_senders.proofs.Facts.{handler_inside, receiver_of_handler, taken_claimed, upstream_inside}
-use Rattle.dr_plain_senders.specs.Calls.InPlace.{SawAtMost, SawSome, marks_upto, offered_in, offered_of}
+use Rattle.dr_plain_senders.specs.Meaning.Settling.{SawAtMost}
+use Rattle.dr_plain_senders.specs.Calls.InPlace.{SawSome, marks_upto, offered_in, offered_of}
 use Rattle.dr_meaning.specs.Calls.InPlaceOutlets.{SawMore, TakesUpTo}
-use Rattle.dr_plain_senders.proofs.MarksFound.{MarksWithin}
-
--- what stands there
-seam : {A : Type 0} (before after : List A) (x : A) → get_elem? (before ++ x ∷ after) (length before) ≡ some x
-seam before after x =
-    let many : length (before ++ x ∷ after) ≡ length before + length (x ∷ after) = length-append before (x ∷ after) in
-    at_index (before ++ x ∷ after) (length before) x (omega arith) (sym (get_or-append_seam before x after x))
 
 -- without upstreams nothing but the marks is offered
 by_marks : (upto : ℕ) (ups counts : List ℕ) → length counts ≡ length ups → ups ≡ [] → offered_by upto counts ≡ upto
@@ -44,26 +34,7 @@ by_marks upto (u ∷ ups) counts many none = absurd (let all = ap length none in
 module _ {T : Type 0} where
   -- What a receiver saw.
 
-  pub saw_claimed : (k : Shape T) (w : World T) (h : ℕ) (r : ReceiverRecord T) → get_elem? w.receivers h ≡ some r → KeepsRule k w → MarksWithin k w
-      → SawAtMost (length w.stages) k (ups_of k r) r
-  saw_claimed k w h r at K all =
-      let was = K.received h r at in
-      let inside = handler_inside k w h r at K in
-      record {
-        marks = λ before after x is.
-            all h r at (length before) x (ap (λ (l : List MarkLook). get_elem? l (length before)) is ∙ seam before after x);
-        counts = λ u before after x has is word.
-            let past = was.looks (length before) x (ap (λ (l : List Look). get_elem? l (length before)) is ∙ seam before after x) in
-            let up : u < handlers_of k = upstream_inside k K.shape.graph h u inside (subst (λ (m : ℕ). Contains (upstreams_of k.upstreams m) u) was.number has) in
-            let other = receiver_of_handler k w K u up in
-            let took = taken_claimed k w u other.0 other.1 K in
-            let count = other.2.count in
-            let done = other.2.completed in
-            let low = subst (λ (m : ℕ). x.value ≤ slice_index w.words m) word past.before in
-            omega arith;
-      }
-
-  -- so did it before it looked on
+  -- it did so before it looked on
   before_it : (n : ℕ) (k : Shape T) (ups : List ℕ) (r r' : ReceiverRecord T) (marks : List MarkLook) (looks : List Look)
       → r'.marks ≡ r.marks ++ marks → r'.looks ≡ r.looks ++ looks
       → SawAtMost n k ups r' → SawAtMost n k ups r
@@ -177,10 +148,8 @@ module _ {T : Type 0} where
   sees_same upto e e' call = sees_on e e' (same_record e e' call.0 call.1.2)
 
   -- what is bounded from above, as by how many are claimed at last
-  pub saw_most : (k : Shape T) (w : World T) (h : ℕ) (e : ReceiverEnd T) → e.plan ≡ k → get_elem? w.receivers h ≡ some e.knows → KeepsRule k w → MarksWithin k w
-      → (n : ℕ) → SawSome e n → n ≤ length w.stages
-  saw_most k w h e plan at K all n saw =
-      saw (length w.stages) (subst (λ (q : Shape T). SawAtMost (length w.stages) q (ups_of q e.knows) e.knows) (sym plan) (saw_claimed k w h e.knows at K all))
+  pub saw_most : (n : ℕ) (k : Shape T) (e : ReceiverEnd T) → e.plan ≡ k → SawAtMost n k (ups_of k e.knows) e.knows → (m : ℕ) → SawSome e m → m ≤ n
+  saw_most n k e plan most m saw = saw n (subst (λ (q : Shape T). SawAtMost n q (ups_of q e.knows) e.knows) (sym plan) most)
 
   -- What it found offered at its last looks.
 

@@ -20,7 +20,8 @@ use Rattle.dr_meaning.specs.declared.claim_fault.ClaimFault.{ClaimFault}
 use Rattle.dr_plain_senders.specs.declared.record.Own.{Own}
 use Rattle.dr_plain_senders.specs.declared.record.SenderRecord.{SenderRecord}
 use Rattle.dr_plain_senders.specs.declared.record.Stage.{Stage}
-use Rattle.dr_plain_senders.specs.Meaning.Records.{Owns, events_of, fresh_own, is_published, own_published}
+use Rattle.dr_plain_senders.specs.Meaning.Records.{Owns, fresh_own, is_published, own_published}
+use Rattle.dr_lent.specs.Events.{events_of}
 use Rattle.dr_plain_senders.specs.Meaning.Shape.{Shape}
 use Rattle.dr_plain_senders.specs.Calls.Ends.{EndPlace, SenderEnd, sender_place}
 use Rattle.dr_plain_senders.specs.Calls.Publishing.{Inside, IsReach, LendsWritten, Looked, Outside, PublishCall, PublishLooks, PublishSees, Reach, is_between, reach_unclaimed, stretch_tests, tests_of_publication}
@@ -160,17 +161,8 @@ module _ {T : Type 0} where
       let below = has.3 in absurd (omega arith)
   refused_nowhere e s r Unasked sees asked answer within fits = absurd asked
 
-  -- an event of the ring
-  some_event : (events : List T) → 0 < length events → T
-  some_event [] there = absurd (omega arith)
-  some_event (x ∷ events) there = x
-
-  pub may_write : (e e' : SenderEnd T) (s : ℕ) (event : T) (r : Refusal) → WriteCall e s event e' (Err r) → IsOpen (sending_of e) s → s < 2 ^ 64 → ⊥
-  may_write e e' s event r write within fits = refused_nowhere e s r write.sight write.sees write.asked write.answer within fits
-
   pub may_change : (Change : T → T → Type 0) (e e' : SenderEnd T) (s : ℕ) (r : Refusal) → UpdateCall Change e s e' (Err r) → IsOpen (sending_of e) s → s < 2 ^ 64 → ⊥
-  may_change Change e e' s r call within fits =
-      let event = some_event e.plan.begun (opened e s within fits).there in may_write e e' s event r (call event) within fits
+  may_change Change e e' s r call within fits = refused_nowhere e s r call.sight call.sees call.asked call.answer within fits
 
   pub writes : (e e' : SenderEnd T) (s : ℕ) (event : T) → WriteCall e s event e' (Ok tt) → IsOpen (sending_of e) s → s < 2 ^ 64
       → sending_of e' ≡ with_filled (sending_of e) s event

@@ -17,7 +17,7 @@ use Rattle.dr_plain_senders.specs.Meaning.Records.{sender_looked, SeesRoom}
 use Rattle.dr_plain_senders.specs.Meaning.Rule.{World, KeepsRule}
 use Rattle.dr_plain_senders.specs.Meaning.Steps.{Happens, PublishesOne, PublishesAll, sender_knows, sender_claims}
 use Rattle.dr_plain_senders.specs.Meaning.Moments.{Runs}
-use Rattle.dr_plain_senders.proofs.Places.{word_at}
+use Rattle.dr_runs.proofs.Elements.{word_at}
 use Rattle.dr_plain_senders.proofs.Facts.{handler_inside, upstream_inside}
 use Rattle.dr_plain_senders.proofs.KeepsClaims.{keeps_sender_looks, keeps_mark_found, keeps_claims, keeps_sender_halts, keeps_halter_halts, keeps_halter_looks}
 use Rattle.dr_plain_senders.proofs.KeepsPublishes.{keeps_publishes}

@@ -6,7 +6,7 @@ use Rattle.std.proofs.lemmas.List.{length-append, length-replicate}
 use mathlib.Core.Option.{some, some-injective, some-ne-none}
 use lib.ListN.{get_elem?}
 use Rattle.dr_runs.specs.Looks.{look, last_look}
-use Rattle.dr_runs.proofs.Elements.{at_below, each_set}
+use Rattle.dr_runs.proofs.Elements.{at_below, each_set, word_at}
 use Rattle.dr_runs.proofs.Offers.{final_inside}
 use Rattle.dr_plain_senders.specs.Meaning.Shape.{Shape}
 use Rattle.dr_plain_senders.specs.Meaning.Words.{claim_word, claimed_in, is_halted, halted_from, halt_bit, count_word, mark_start, mark_word, is_there}
@@ -18,7 +18,7 @@ use Rattle.dr_plain_senders.specs.Meaning.Records.{fresh_stage, fresh_own, sende
 use Rattle.dr_plain_senders.specs.Meaning.Rule.{World, ArePast, SenderKept, KeepsRule, IsOut}
 use Rattle.dr_plain_senders.specs.Meaning.Steps.{sender_knows, sender_claims, halted_words}
 use Rattle.atomic_table.proofs.Lists.{at_longer}
-use Rattle.dr_plain_senders.proofs.Places.{word_at, more_right, more_cases, at_replicate, in_replicate, claimed_low, halted_low, claimed_halted}
+use Rattle.dr_plain_senders.proofs.Places.{more_right, more_cases, at_replicate, in_replicate, claimed_low, halted_low, claimed_halted}
 use Rattle.dr_plain_senders.proofs.Places.{halted_rises, is_halted_from, Rises, rises_set, past_rises}
 use Rattle.dr_runs.proofs.Looks.{past_more, last_look_more, last_look_else, last_look_le}
 use Rattle.dr_plain_senders.proofs.Facts.{handler_inside, none_or_some}

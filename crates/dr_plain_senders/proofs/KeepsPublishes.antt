@@ -5,7 +5,7 @@ use Rattle.std.proofs.lemmas.Bool.{cases_eq, eq-eqb, ne_eqb, cases_lt}
 use mathlib.Core.Option.{some}
 use lib.ListN.{get_elem?}
 use Rattle.atomic_table.proofs.Lists.{at_set, set_here}
-use Rattle.dr_runs.proofs.Elements.{at_below, each_set}
+use Rattle.dr_runs.proofs.Elements.{at_below, each_set, word_at}
 use Rattle.dr_runs.proofs.Lists.{at_map, map_there}
 use Rattle.dr_lent.specs.declared.lent.Lent.{Lent}
 use Rattle.dr_plain_senders.specs.Meaning.Shape.{Shape}
@@ -16,7 +16,7 @@ use Rattle.dr_plain_senders.specs.declared.record.SenderRecord.{SenderRecord}
 use Rattle.dr_plain_senders.specs.Meaning.Records.{published, own_after, brought}
 use Rattle.dr_plain_senders.specs.Meaning.Rule.{World, Room, IsOut, IsFree, SenderKept, KeepsRule}
 use Rattle.dr_plain_senders.specs.Meaning.Steps.{sender_publishes}
-use Rattle.dr_plain_senders.proofs.Places.{word_at, set_else, one_value, Rises, rises_set, past_rises, own_slot}
+use Rattle.dr_plain_senders.proofs.Places.{set_else, one_value, Rises, rises_set, past_rises, own_slot}
 use Rattle.dr_plain_senders.proofs.Facts.{none_or_some, handler_inside, near_open, owned}
 use Rattle.dr_plain_senders.proofs.Bits.{mark_inside, same_slot, later_slot, flipped_there, flipped_else, next_absent}
 use Rattle.dr_plain_senders.proofs.Marks.{hidden_absent}

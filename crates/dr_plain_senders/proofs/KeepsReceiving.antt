@@ -8,7 +8,7 @@ use lib.ListN.{get_elem?}
 use Rattle.dr_graph.specs.Meaning.Graph.{upstreams_of}
 use Rattle.dr_runs.specs.declared.look.Look.{Look}
 use Rattle.dr_runs.specs.Looks.{look, last_look}
-use Rattle.dr_runs.proofs.Elements.{each_set}
+use Rattle.dr_runs.proofs.Elements.{each_set, word_at}
 use Rattle.dr_runs.proofs.Looks.{last_look_more, last_look_else, past_more}
 use Rattle.dr_lent.specs.declared.lent.Lent.{Lent}
 use Rattle.dr_plain_senders.specs.Meaning.Shape.{Shape, handlers_of}
@@ -19,7 +19,7 @@ use Rattle.dr_plain_senders.specs.Meaning.Records.{mark_look, receiver_looked, t
 use Rattle.dr_plain_senders.specs.Meaning.Records.{taken_at_count, completed_to}
 use Rattle.dr_plain_senders.specs.Meaning.Rule.{World, ArePast, IsOutWith, ReceiverKept, KeepsRule}
 use Rattle.dr_plain_senders.specs.Meaning.Steps.{receiver_knows, AreNext}
-use Rattle.dr_plain_senders.proofs.Places.{word_at, more_cases, Rises, rises_set, past_rises}
+use Rattle.dr_plain_senders.proofs.Places.{more_cases, Rises, rises_set, past_rises}
 use Rattle.dr_plain_senders.proofs.Facts.{handler_inside, upstream_inside}
 use Rattle.dr_plain_senders.proofs.Stays.{room_stays, receiver_stays, sender_stays}
 use Rattle.dr_plain_senders.proofs.Barriers.{Offers, offers_at_count, offers_at_mark}

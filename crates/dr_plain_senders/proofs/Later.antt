@@ -16,7 +16,7 @@ use Rattle.dr_meaning.specs.Meaning.Transcript.{Transcript}
 use Rattle.dr_runs.specs.declared.look.Look.{Look}
 use Rattle.dr_runs.specs.Looks.{look, offered_by}
 use Rattle.dr_runs.specs.Polls.{handed}
-use Rattle.dr_runs.proofs.Elements.{there, at_below, value_at}
+use Rattle.dr_runs.proofs.Elements.{there, at_below, value_at, word_at}
 use Rattle.dr_lent.specs.declared.lent.Lent.{Lent}
 use Rattle.dr_plain_senders.specs.Meaning.Shape.{Shape, handlers_of, ring_setup}
 use Rattle.dr_plain_senders.specs.Meaning.Words.{claim_word, claimed_in, count_word, mark_word, in_word, is_there, marked_from}
@@ -37,7 +37,6 @@ use Rattle.dr_plain_senders.specs.Meaning.Moments.{Runs, stage_at, picture_of}
 use Rattle.dr_plain_senders.specs.Calls.Ends.{count_looks, mark_looks}
 use Rattle.dr_plain_senders.specs.Calls.Receiving.{ups_of, WalksTo, PollLooks, offer, AnswersAsSeen}
 use Rattle.dr_plain_senders.specs.Calls.Handing.{HandsWhatWasThere}
-use Rattle.dr_plain_senders.proofs.Places.{word_at}
 use Rattle.dr_plain_senders.proofs.Facts.{cases_option, above, handler_inside, upstream_inside}
 use Rattle.dr_plain_senders.proofs.Stays.{out_lasts}
 use Rattle.dr_plain_senders.proofs.Machine.{front_within, front_at_most}

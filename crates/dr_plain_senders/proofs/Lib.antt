@@ -56,6 +56,7 @@ pub mod EndReplies
 pub mod Sequel
 pub mod Dealing
 pub mod Owners
+pub mod MarksFound
 pub mod Settling
 pub mod Together
 pub mod Gathering
@@ -78,5 +79,4 @@ pub mod Moved
 pub mod OwnStretch
 pub mod OwnPublished
 pub mod InPlaceSending
-pub mod MarksFound
 pub mod InPlaceReceiving

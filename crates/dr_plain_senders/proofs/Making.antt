@@ -26,7 +26,7 @@ use Rattle.dr_plain_senders.specs.Inside.Views.{sender_end, receiver_end}
 use Rattle.dr_plain_senders.proofs.Granting.{first_of}
 use Rattle.dr_plain_senders.proofs.Owning.{none_fresh}
 use Rattle.dr_plain_senders.specs.Inside.Stations.{sender_stand, receiver_stand, IsKeyed, SenderSits, ReceiverSits}
-use Rattle.dr_plain_senders.specs.Calls.Making.{sender_at, receiver_at}
+use Rattle.dr_plain_senders.specs.Calls.Making.{sender_at_ring, receiver_at_ring}
 
 abbrev no_marks : ℕ → Owned
 no_marks n = record { claimed = replicate n 0; written = replicate n 0; published = replicate n 0 }
@@ -131,10 +131,10 @@ module _ {T : Type 0} where
 
   pub sender_view : (t own : TableId) (k k' : Shape T) (me : Sitting T) (p n : ℕ) (o : Owned) (tokens : List (Token T))
       → own ≡ t → k' ≡ k → me ≡ own_seat (Sends (fresh_sender p))
-      → tokens ≡ replicate n no_token → n ≡ k.size → sender_end (sender_stand own k' me) o tokens ≡ sender_at t k (fresh_sender p)
+      → tokens ≡ replicate n no_token → n ≡ k.size → sender_end (sender_stand own k' me) o tokens ≡ sender_at_ring t k (fresh_sender p)
   sender_view t own k k' me p n o tokens same plan is blank size =
       (λ i. sender_end (sender_stand (same i) (plan i) (is i)) o ((blank ∙ ap (λ (m : ℕ). replicate m no_token) size) i))
-      ∙ ap (λ (cs : List (Option T)). record (sender_at {T = T} t k (fresh_sender p)) { cells = cs }) (blank_cells k.size)
+      ∙ ap (λ (cs : List (Option T)). record (sender_at_ring {T = T} t k (fresh_sender p)) { cells = cs }) (blank_cells k.size)
 
   -- a receiver that has not stepped took nothing
   pub receiver_fits : (own : TableId) (k : Shape T) (h : ℕ) (m : Sitting T) (parts : List (Token T))
@@ -150,21 +150,21 @@ module _ {T : Type 0} where
   })
 
   pub receiver_view : (t own : TableId) (k k' : Shape T) (me : Sitting T) (h : ℕ) → own ≡ t → k' ≡ k → me ≡ own_seat (Receives (fresh_receiver h))
-      → receiver_end (receiver_stand own k' me) ≡ receiver_at t k (fresh_receiver h)
+      → receiver_end (receiver_stand own k' me) ≡ receiver_at_ring t k (fresh_receiver h)
   receiver_view t own k k' me h same plan is = λ i. receiver_end (receiver_stand (same i) (plan i) (is i))
 
   pub sender_listed : (t : TableId) (k : Shape T) (p n : ℕ) (items new : List (SenderEnd T)) (e : SenderEnd T) (whole : List (SenderEnd T)) → p < n
-      → items ++ map (sender_at t k) (fresh_senders p (n - p)) ≡ whole → new ≡ items ++ e ∷ [] → e ≡ sender_at t k (fresh_sender p)
-      → new ++ map (sender_at t k) (fresh_senders (p + 1) (n - (p + 1))) ≡ whole
+      → items ++ map (sender_at_ring t k) (fresh_senders p (n - p)) ≡ whole → new ≡ items ++ e ∷ [] → e ≡ sender_at_ring t k (fresh_sender p)
+      → new ++ map (sender_at_ring t k) (fresh_senders (p + 1) (n - (p + 1))) ≡ whole
   sender_listed t k p n items new e whole lt was is own =
-      listed_more (sender_at t k) items new e (fresh_sender p) (fresh_senders (p + 1) (n - (p + 1)))
+      listed_more (sender_at_ring t k) items new e (fresh_sender p) (fresh_senders (p + 1) (n - (p + 1)))
       (fresh_senders p (n - p)) whole was (fresh_senders_next p n lt) is own
 
   pub receiver_listed : (t : TableId) (k : Shape T) (h n : ℕ) (items new : List (ReceiverEnd T)) (e : ReceiverEnd T) (whole : List (ReceiverEnd T)) → h < n
-      → items ++ map (receiver_at t k) (fresh_receivers h (n - h)) ≡ whole → new ≡ items ++ e ∷ [] → e ≡ receiver_at t k (fresh_receiver h)
-      → new ++ map (receiver_at t k) (fresh_receivers (h + 1) (n - (h + 1))) ≡ whole
+      → items ++ map (receiver_at_ring t k) (fresh_receivers h (n - h)) ≡ whole → new ≡ items ++ e ∷ [] → e ≡ receiver_at_ring t k (fresh_receiver h)
+      → new ++ map (receiver_at_ring t k) (fresh_receivers (h + 1) (n - (h + 1))) ≡ whole
   receiver_listed t k h n items new e whole lt was is own =
-      listed_more (receiver_at t k) items new e (fresh_receiver h) (fresh_receivers (h + 1) (n - (h + 1))) (fresh_receivers h (n - h)) whole was
+      listed_more (receiver_at_ring t k) items new e (fresh_receiver h) (fresh_receivers (h + 1) (n - (h + 1))) (fresh_receivers h (n - h)) whole was
       (fresh_receivers_next h n lt) is own
 
 pub some_words : {T : Type 0} (k : Shape T) (n : ℕ) (ws : List ℕ) → n ≡ length ws → ws ≡ replicate (words_of k) 0 → 0 < n

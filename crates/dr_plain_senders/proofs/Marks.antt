@@ -3,11 +3,10 @@ use Rattle.std.proofs.Common.{◌≡◌, ◌⊎◌, ℕ, ◌+◌, ◌<◌, ◌�
 use Rattle.std.specs.Prelude.{◌||◌, nat_lt}
 use Rattle.std.proofs.lemmas.Bool.{cases_lt, and_parts, and_from, and_cases, or_cases, or_parts, or_left, or_right, lt-ltb, ltb-true, ltb-false}
 use Rattle.std.proofs.lemmas.Bool.{false_from_ne_true}
-use Rattle.dr_runs.proofs.Elements.{at_below}
+use Rattle.dr_runs.proofs.Elements.{at_below, word_at}
 use Rattle.dr_plain_senders.specs.Meaning.Shape.{Shape}
 use Rattle.dr_plain_senders.specs.Meaning.Words.{claim_word, claimed_in, mark_word, is_there, is_out_by}
 use Rattle.dr_plain_senders.specs.Meaning.Rule.{World, IsOut, IsFree, has_mark, is_out_now, KeepsRule}
-use Rattle.dr_plain_senders.proofs.Places.{word_at}
 use Rattle.dr_plain_senders.proofs.Facts.{out_behind}
 
 -- What three looks say, by parts.

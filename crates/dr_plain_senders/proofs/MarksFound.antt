@@ -5,7 +5,7 @@ use Rattle.std.proofs.lemmas.List.{length-append}
 use mathlib.Core.Option.{some, some-injective, some-ne-none}
 use lib.ListN.{get_elem?}
 use Rattle.dr_meaning.specs.Meaning.Transcript.{Transcript}
-use Rattle.dr_runs.proofs.Elements.{each_set}
+use Rattle.dr_runs.proofs.Elements.{each_set, word_at}
 use Rattle.dr_plain_senders.specs.Meaning.Shape.{Shape, IsShape, handlers_of}
 use Rattle.dr_plain_senders.specs.Meaning.Words.{claim_word, count_word, mark_word}
 use Rattle.dr_plain_senders.specs.declared.record.MarkLook.{MarkLook}
@@ -19,8 +19,8 @@ use Rattle.dr_plain_senders.specs.Meaning.Records.{fresh_stage, published, sende
 use Rattle.dr_plain_senders.specs.Meaning.Rule.{World, KeepsRule}
 use Rattle.dr_plain_senders.specs.Meaning.Steps.{Happens, PublishesOne, sender_knows, sender_claims}
 use Rattle.dr_plain_senders.specs.Meaning.Moments.{Runs, new_world}
-use Rattle.dr_plain_senders.specs.Calls.InPlace.{IsWithin}
-use Rattle.dr_plain_senders.proofs.Places.{word_at, more_cases}
+use Rattle.dr_plain_senders.specs.Meaning.Settling.{IsWithin}
+use Rattle.dr_plain_senders.proofs.Places.{more_cases}
 use Rattle.dr_plain_senders.proofs.Barriers.{marked_claimed}
 use Rattle.dr_plain_senders.proofs.Keeps.{along_all, keeps_step}
 use Rattle.dr_plain_senders.proofs.Beginning.{kept_new_world, receiver_fresh}

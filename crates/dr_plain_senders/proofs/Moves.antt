@@ -8,7 +8,7 @@ use lib.ListN.{get_elem?}
 use Rattle.atomic_table.specs.Table.{keeps, carried_after}
 use Rattle.dr_cells.specs.declared.token.Token.{Token}
 use Rattle.dr_runs.specs.Stretches.{stretch, rows}
-use Rattle.dr_runs.proofs.Elements.{at_below}
+use Rattle.dr_runs.proofs.Elements.{at_below, word_at}
 use Rattle.dr_runs.proofs.Looks.{last_look_le}
 use Rattle.dr_runs.proofs.Offers.{final_inside}
 use Rattle.dr_runs.proofs.Seats.{Moves}
@@ -26,7 +26,7 @@ use Rattle.dr_plain_senders.specs.Meaning.Rule.{World, Room, KeepsRule}
 use Rattle.dr_plain_senders.specs.Meaning.Lying.{Laid, unlent, lent, placed, IsLaid, Lies}
 use Rattle.dr_plain_senders.specs.Meaning.Steps.{sender_claims, receiver_knows, AreNext}
 use Rattle.dr_plain_senders.specs.Inside.Seats.{Hand, exchange, IsOfRound, LayIn, LayAsLent, taken_by_claim, taken_by_poll, given_by_completion, lent_all}
-use Rattle.dr_plain_senders.proofs.Places.{word_at, claimed_low}
+use Rattle.dr_plain_senders.proofs.Places.{claimed_low}
 use Rattle.dr_plain_senders.proofs.Facts.{handler_inside, ahead_of_all, above, completed_out, taken_claimed, owned}
 use Rattle.dr_plain_senders.proofs.Moving.{Counts, laid_lent, all_laid, claims_take, same_lies, receiver_takes, receiver_gives}
 

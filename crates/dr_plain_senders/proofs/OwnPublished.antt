@@ -8,7 +8,8 @@ use Rattle.dr_lent.specs.declared.lent.Lent.{Lent}
 use Rattle.dr_plain_senders.specs.declared.record.Own.{Own}
 use Rattle.dr_plain_senders.specs.declared.record.Stage.{Stage}
 use Rattle.dr_plain_senders.specs.Meaning.Moments.{event_in, event_of}
-use Rattle.dr_plain_senders.specs.Meaning.Records.{events_of, own_after, own_published, published}
+use Rattle.dr_plain_senders.specs.Meaning.Records.{own_after, own_published, published}
+use Rattle.dr_lent.specs.Events.{events_of}
 use Rattle.dr_plain_senders.specs.Calls.InPlace.{events_in, first_open, is_neat, is_stretch, writes_open}
 use Rattle.dr_plain_senders.proofs.OwnStretch.{above_open, heads, is_out, still_open, whole_stretch}
 

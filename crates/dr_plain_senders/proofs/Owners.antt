@@ -5,7 +5,7 @@ use mathlib.Core.Option.{some, some-ne-none}
 use lib.ListN.{get_elem?}
 use Rattle.atomic_table.proofs.Lists.{at_set}
 use Rattle.dr_meaning.specs.Meaning.Transcript.{Transcript}
-use Rattle.dr_runs.proofs.Elements.{there, at_below}
+use Rattle.dr_runs.proofs.Elements.{there, at_below, word_at}
 use Rattle.dr_plain_senders.specs.Meaning.Shape.{Shape, IsShape}
 use Rattle.dr_plain_senders.specs.Meaning.Words.{claim_word}
 use Rattle.dr_plain_senders.specs.declared.record.Stage.{Stage}
@@ -19,7 +19,7 @@ use Rattle.dr_plain_senders.specs.Meaning.Records.{Owns, fresh_stage, sender_loo
 use Rattle.dr_plain_senders.specs.Meaning.Rule.{World, KeepsRule}
 use Rattle.dr_plain_senders.specs.Meaning.Steps.{Happens, PublishesOne, sender_knows, sender_claims}
 use Rattle.dr_plain_senders.specs.Meaning.Moments.{new_world, Runs}
-use Rattle.dr_plain_senders.proofs.Places.{word_at, more_cases, at_replicate}
+use Rattle.dr_plain_senders.proofs.Places.{more_cases, at_replicate}
 use Rattle.dr_plain_senders.proofs.Keeps.{along_all, keeps_step, keeps_runs}
 use Rattle.dr_plain_senders.proofs.Beginning.{kept_new_world}
 

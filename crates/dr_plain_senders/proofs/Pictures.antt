@@ -17,8 +17,9 @@ use Rattle.dr_meaning.specs.declared.command.Reply.TheVariants.{Claimed, Written
 use Rattle.dr_graph.specs.Meaning.Graph.{nobody, upstreams_of, finals, IsGated, least_of}
 use Rattle.dr_meaning.specs.Meaning.Machine.{Setup, State, Outcome, available, least_completed}
 use Rattle.dr_meaning.specs.Meaning.Transcript.{Transcript, LeadsFrom}
-use Rattle.dr_runs.specs.Entries.{entry, told_drained}
-use Rattle.dr_runs.proofs.Elements.{at_below, value_at, there}
+use Rattle.dr_runs.specs.Entries.{entry, told_drained, poll_of}
+use Rattle.dr_runs.proofs.Entries.{poll_some}
+use Rattle.dr_runs.proofs.Elements.{at_below, value_at, there, word_at}
 use Rattle.dr_runs.proofs.Offers.{final_inside, counts_below, offered_at_most, offered_at_least}
 use Rattle.dr_runs.proofs.Lists.{map_same, map_but}
 use Rattle.dr_lent.specs.declared.lent.Lent.{Lent}
@@ -38,8 +39,8 @@ use Rattle.dr_plain_senders.specs.Meaning.Rule.{World, IsOut, has_mark, KeepsRul
 use Rattle.dr_plain_senders.specs.Meaning.Steps.{Happens, PublishesOne, PublishesAll, sender_knows, sender_claims, sender_publishes, receiver_knows}
 use Rattle.dr_plain_senders.specs.Meaning.Steps.{halted_words}
 use Rattle.dr_plain_senders.specs.Meaning.Moments.{fresh_receiver, taken_of, stage_at, event_in, event_of, picture_of, receiver_at, events_from}
-use Rattle.dr_plain_senders.specs.Meaning.Moments.{poll_of, batch_of, published_by, entries_of, Runs}
-use Rattle.dr_plain_senders.proofs.Places.{word_at, claimed_low, halted_low, is_halted_from}
+use Rattle.dr_plain_senders.specs.Meaning.Moments.{batch_of, published_by, entries_of, Runs}
+use Rattle.dr_plain_senders.proofs.Places.{claimed_low, halted_low, is_halted_from}
 use Rattle.dr_runs.proofs.Looks.{last_look_le}
 use Rattle.dr_plain_senders.proofs.Facts.{cases_option, none_or_some, receiver_of_handler, handler_inside, orderly, upstream_inside, taken_out}
 use Rattle.dr_plain_senders.proofs.Facts.{taken_claimed, owned, above}
@@ -304,11 +305,6 @@ module _ {T : Type 0} where
         ap length whole ∙ ap suc rest.0,
         (λ i. cons_option (ap event_of d.1 i) (rest.1 i)) ∙ sym after,
       )
-
-  -- some events are handed out, or none
-  poll_some : (h taken : ℕ) (es : List T) (to n : ℕ) → length es ≡ n → 0 < n → poll_of h taken es to ≡ entry (Poll h n) (Batch taken n (taken + n == to)) es
-  poll_some h taken [] to n is some_one = absurd (omega arith)
-  poll_some h taken (e ∷ es) to n is some_one = λ i. entry (Poll h (is i)) (Batch taken (is i) (taken + is i == to)) (e ∷ es)
 
   lead_batch : (k : Shape T) (w : World T) (h n : ℕ) (r q : ReceiverRecord T) → get_elem? w.receivers h ≡ some r → Offers k w h r n
       → taken_of q ≡ taken_of r + n → KeepsRule k w

@@ -1,18 +1,16 @@
 -- Places of lists, words and looks.
 use Rattle.std.proofs.Common.{◌≡◌, ◌≢◌, ℕ, zero, suc, ◌+◌, ◌%◌, ◌<◌, ◌≤◌, ◌⊎◌, inl, inr, true, false, List, [], ◌∷◌, ◌++◌}
-use Rattle.std.proofs.Common.{length, get_or, set, replicate, sym, refl, ap, ◌∙◌, arith, get_or-set_same, get_or-set_other}
+use Rattle.std.proofs.Common.{length, set, replicate, sym, refl, ap, ◌∙◌, arith, get_or-set_same, get_or-set_other}
 use Rattle.std.proofs.lemmas.Bool.{cases_eq, cases_lt, lt-ltb, le-ltb, le-leb, lt-leb}
 use mathlib.Core.Option.{some, some-injective, some-ne-none}
 use lib.ListN.{get_elem?}
 use Rattle.atomic_table.proofs.Lists as lists
-use Rattle.atomic_table.proofs.Lists.{at_longer, at_snoc, one_turn}
+use Rattle.atomic_table.proofs.Lists.{one_turn}
 use Rattle.dr_runs.specs.declared.look.Look.{Look}
 use Rattle.dr_plain_senders.specs.Meaning.Shape.{Shape}
 use Rattle.dr_plain_senders.specs.Meaning.Words.{claimed_in, is_halted, halted_from, halt_bit, mark_start}
 use Rattle.dr_plain_senders.specs.Meaning.Rule.{ArePast}
-
-abbrev pub word_at : List ℕ → ℕ → ℕ
-word_at words i = get_or words i 0
+use Rattle.dr_runs.proofs.Elements.{word_at}
 
 pub more_right : {A : Type 0} (l m : List A) (i : ℕ) (t : A) → get_elem? m i ≡ some t → get_elem? (l ++ m) (length l + i) ≡ some t
 more_right [] m i t at = (let z : 0 + i ≡ i = omega arith in ap (λ (j : ℕ). get_elem? m j) z) ∙ at

@@ -36,7 +36,7 @@ use Rattle.dr_plain_senders.specs.Inside.Views.{sender_end}
 use Rattle.dr_plain_senders.proofs.Fitting.{owns_same}
 use Rattle.dr_plain_senders.proofs.Granting.{first_of, second_of, unhidden, unready}
 use Rattle.dr_plain_senders.proofs.Publications.{all_left}
-use Rattle.dr_plain_senders.proofs.Stations.{begins_same, begins_on}
+use Rattle.dr_runs.proofs.Beginnings.{begins_same, begins_on}
 use Rattle.dr_plain_senders.proofs.Written.{holds}
 use Rattle.dr_plain_senders.proofs.Marks.{said_out}
 

@@ -11,7 +11,7 @@ use Rattle.dr_plain_senders.specs.Calls.Ends.{SenderStand, HasLoaded}
 use Rattle.dr_plain_senders.specs.Calls.Finds.{FindsOwn}
 use Rattle.dr_plain_senders.specs.Inside.Refusing.{refused_by, RefusesBy}
 use Rattle.dr_plain_senders.proofs.Fitting.{owns_same}
-use Rattle.dr_plain_senders.proofs.Stations.{begins_on}
+use Rattle.dr_runs.proofs.Beginnings.{begins_on}
 
 pub refuses : {T : Type 0} (e e1 e2 e3 : SenderStand T) (s before mark after : ℕ) (refusal : Refusal)
     → HasLoaded e (sender_looked e.knows claim_word before) e.hand e1

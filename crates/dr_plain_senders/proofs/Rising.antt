@@ -7,7 +7,7 @@ use mathlib.Core.Option.{some}
 use lib.ListN.{get_elem?}
 use Rattle.atomic_table.proofs.Lists.{at_longer}
 use Rattle.dr_meaning.specs.Meaning.Transcript.{Transcript}
-use Rattle.dr_runs.proofs.Elements.{at_below}
+use Rattle.dr_runs.proofs.Elements.{at_below, word_at}
 use Rattle.dr_plain_senders.specs.Meaning.Shape.{Shape}
 use Rattle.dr_plain_senders.specs.Meaning.Words.{claim_word, halted_from, count_word, mark_start, mark_word, mark_bit, flipped}
 use Rattle.dr_plain_senders.specs.declared.record.Stage.{Stage}
@@ -21,7 +21,7 @@ use Rattle.dr_plain_senders.specs.Meaning.Records.{fresh_stage, published, sende
 use Rattle.dr_plain_senders.specs.Meaning.Rule.{World, IsOutWith, KeepsRule}
 use Rattle.dr_plain_senders.specs.Meaning.Steps.{Happens, PublishesOne, sender_knows, sender_claims}
 use Rattle.dr_plain_senders.specs.Meaning.Moments.{Runs}
-use Rattle.dr_plain_senders.proofs.Places.{word_at, Rises, rises_set, halted_rises, set_else, one_value}
+use Rattle.dr_plain_senders.proofs.Places.{Rises, rises_set, halted_rises, set_else, one_value}
 use Rattle.dr_plain_senders.proofs.Facts.{none_or_some}
 use Rattle.dr_plain_senders.proofs.Stays.{Lasts}
 use Rattle.dr_plain_senders.proofs.Keeps.{along_all, keeps_step}

@@ -8,7 +8,7 @@ use mathlib.Core.Option as maybe
 use lib.ListN.{get_elem?}
 use Rattle.atomic_table.proofs.Lists.{set_here}
 use Rattle.dr_cells.specs.declared.token.Token.{Token}
-use Rattle.dr_runs.proofs.Elements.{at_below}
+use Rattle.dr_runs.proofs.Elements.{at_below, word_at}
 use Rattle.dr_runs.proofs.Lists.{map_there}
 use Rattle.dr_runs.proofs.Stretches.{filled}
 use Rattle.dr_lent.proofs.Lists.{set_twice}
@@ -18,13 +18,13 @@ use Rattle.dr_plain_senders.specs.Meaning.Words.{mark_word, mark_bit, in_word, f
 use Rattle.dr_plain_senders.specs.declared.record.Stage.{Stage}
 use Rattle.dr_plain_senders.specs.declared.record.Own.{Own}
 use Rattle.dr_plain_senders.specs.declared.record.SenderRecord.{SenderRecord}
-use Rattle.dr_plain_senders.specs.Meaning.Records.{Owns, events_of, published, own_after, brought, has_published}
+use Rattle.dr_plain_senders.specs.Meaning.Records.{Owns, published, own_after, brought, has_published}
+use Rattle.dr_lent.specs.Events.{events_of}
 use Rattle.dr_plain_senders.specs.Meaning.Rule.{World, KeepsRule}
 use Rattle.dr_plain_senders.specs.Meaning.Lying.{lent, Lies}
 use Rattle.dr_plain_senders.specs.Meaning.Steps.{PublishesAll, sender_publishes}
 use Rattle.dr_plain_senders.specs.Inside.Rows.{row}
 use Rattle.dr_plain_senders.specs.Inside.Seats.{Hand, given_by_publication}
-use Rattle.dr_plain_senders.proofs.Places.{word_at}
 use Rattle.dr_plain_senders.proofs.Facts.{near_open, owned}
 use Rattle.dr_plain_senders.proofs.Bits.{mark_inside, same_word, next_bit, left_in_word, flip_more}
 use Rattle.dr_plain_senders.proofs.KeepsPublishes.{keeps_publishes}

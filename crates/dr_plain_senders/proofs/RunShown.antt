@@ -19,7 +19,8 @@ use Rattle.dr_lent.proofs.Lists.{drop_seam, take_seam}
 use Rattle.dr_lent.specs.declared.lent.Lent.{Lent}
 use Rattle.dr_plain_senders.specs.Meaning.Shape.{Shape}
 use Rattle.dr_plain_senders.specs.Meaning.Words.{cell_of, lanes_of, in_word}
-use Rattle.dr_plain_senders.specs.Meaning.Records.{Owns, events_of, has_published}
+use Rattle.dr_plain_senders.specs.Meaning.Records.{Owns, has_published}
+use Rattle.dr_lent.specs.Events.{events_of}
 use Rattle.dr_plain_senders.specs.declared.record.Stage.{Stage}
 use Rattle.dr_plain_senders.specs.declared.record.SenderRecord.{SenderRecord}
 use Rattle.dr_plain_senders.specs.declared.record.Step.TheVariants.{SenderPublishes}

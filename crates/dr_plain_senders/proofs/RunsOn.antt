@@ -6,7 +6,7 @@ use Rattle.dr_runs.proofs.Lists.{take_whole, past_end}
 use Rattle.dr_lent.specs.declared.lent.Lent.{Lent}
 use Rattle.dr_plain_senders.specs.Meaning.Shape.{Shape}
 use Rattle.dr_plain_senders.specs.Meaning.Words.{in_word}
-use Rattle.dr_plain_senders.specs.Meaning.Records.{events_of}
+use Rattle.dr_lent.specs.Events.{events_of}
 use Rattle.dr_plain_senders.specs.Inside.Owned.{Owned}
 use Rattle.dr_plain_senders.specs.declared.record.SenderRecord.{SenderRecord}
 use Rattle.dr_plain_senders.specs.declared.record.Step.{Step}
@@ -15,7 +15,7 @@ use Rattle.dr_plain_senders.specs.Calls.Ends.{SenderStand}
 use Rattle.dr_plain_senders.specs.Calls.Publishing.{ArePublished}
 use Rattle.dr_plain_senders.specs.Inside.Publishing.{ArePublic, HasPublishedRun, HasPublishedAll}
 use Rattle.dr_plain_senders.proofs.Publications.{public_first, public_both}
-use Rattle.dr_plain_senders.proofs.Stations.{begins_same, begins_on}
+use Rattle.dr_runs.proofs.Beginnings.{begins_same, begins_on}
 
 take_front : {A : Type 0} (n : ℕ) (xs ys : List A) → n ≤ length xs → take n (xs ++ ys) ≡ take n xs
 take_front zero xs ys le = refl

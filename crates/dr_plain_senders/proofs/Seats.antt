@@ -1,6 +1,5 @@
 -- A step of one end keeps the rule of the table.
 use Rattle.std.proofs.Common.{◌≡◌, ◌≢◌, ℕ, ◌+◌, ◌*◌, ◌<◌, List, [], set, sym, refl, ap, ◌∙◌, subst, arith, get_or}
-use mathlib.Core.Option.{some}
 use mathlib.Core.Option as maybe
 use lib.ListN.{get_elem?}
 use Rattle.atomic_table.specs.Table.{Allows}
@@ -20,7 +19,8 @@ use Rattle.dr_plain_senders.specs.Meaning.Rule.{World, KeepsRule}
 use Rattle.dr_plain_senders.specs.Meaning.Lying.{Lies}
 use Rattle.dr_plain_senders.specs.Meaning.Moments.{new_world}
 use Rattle.dr_plain_senders.specs.Inside.Seats.{End, Hand, end_number, ring_ends, Stands, exchange, Ruled, stored_of}
-use Rattle.dr_plain_senders.proofs.Places.{word_at, set_else}
+use Rattle.dr_plain_senders.proofs.Places.{set_else}
+use Rattle.dr_runs.proofs.Elements.{word_at}
 use Rattle.dr_plain_senders.proofs.Keeps.{keeps_runs}
 use Rattle.dr_plain_senders.proofs.Beginning.{kept_new_world}
 use Rattle.dr_plain_senders.proofs.Moves.{MovesTo}

@@ -1,21 +1,32 @@
 -- What a run of a ring says of its ends, once they come together.
-use Rattle.std.proofs.Common.{◌≡◌, ℕ, suc, ◌+◌, ◌≤◌, Bool, List, [], ◌∷◌, cond, length, take, Option, Some, sym, refl, ap, ◌∙◌, subst, arith}
+use Rattle.std.proofs.Common.{◌≡◌, ℕ, suc, ◌+◌, ◌<◌, ◌≤◌, Bool, List, [], ◌∷◌, ◌++◌, cond, length, take, Option, Some, sym, refl, ap, ◌∙◌, subst, arith, length-append}
 use Rattle.std.specs.List.{take_while, filter_map, cons_option}
-use Rattle.std.specs.Prelude.{Contains, is_some}
+use Rattle.std.specs.Prelude.{Contains, is_some, slice_index}
+use Rattle.std.proofs.Math.Seq.{get_or-append_seam}
 use Rattle.std.proofs.lemmas.List.Sums.{take_while-cons}
 use mathlib.Core.Option.{some, some-injective, some-ne-none}
 use lib.ListN.{get_elem?}
 use Rattle.dr_graph.specs.Meaning.Graph.{upstreams_of}
 use Rattle.dr_lent.specs.declared.lent.Lent.{Lent}
-use Rattle.dr_plain_senders.specs.Meaning.Shape.{Shape}
+use Rattle.dr_runs.specs.declared.look.Look.{Look}
+use Rattle.dr_plain_senders.specs.Meaning.Shape.{Shape, handlers_of}
 use Rattle.dr_plain_senders.specs.Meaning.Words.{count_word}
+use Rattle.dr_plain_senders.specs.declared.record.MarkLook.{MarkLook}
 use Rattle.dr_plain_senders.specs.declared.record.Stage.{Stage}
 use Rattle.dr_plain_senders.specs.declared.record.ReceiverRecord.{ReceiverRecord}
 use Rattle.dr_plain_senders.specs.Meaning.Records.{is_published}
 use Rattle.dr_plain_senders.specs.Meaning.Rule.{World, IsOutWith, KeepsRule}
-use Rattle.dr_plain_senders.specs.Meaning.Settling.{HasBeginning, FollowsUpstream, IsSent, Settles}
-use Rattle.dr_plain_senders.proofs.Places.{word_at}
+use Rattle.dr_plain_senders.specs.Meaning.Settling.{HasBeginning, FollowsUpstream, IsSent, SawAtMost, Settles}
+use Rattle.dr_runs.proofs.Elements.{at_index, word_at}
+use Rattle.dr_plain_senders.proofs.Facts.{handler_inside, receiver_of_handler, taken_claimed, upstream_inside}
+use Rattle.dr_plain_senders.proofs.MarksFound.{MarksWithin}
 use Rattle.dr_plain_senders.proofs.Owners.{AllOwned}
+
+-- what stands there
+seam : {A : Type 0} (before after : List A) (x : A) → get_elem? (before ++ x ∷ after) (length before) ≡ some x
+seam before after x =
+    let many : length (before ++ x ∷ after) ≡ length before + length (x ∷ after) = length-append before (x ∷ after) in
+    at_index (before ++ x ∷ after) (length before) x (omega arith) (sym (get_or-append_seam before x after x))
 
 module _ {T : Type 0} where
   abbrev out_of : List (Stage T) → List (Lent T)
@@ -55,13 +66,35 @@ module _ {T : Type 0} where
       let next = out_next l ls t ts all in let rest = all_events ls ts next.1 (omega arith) in
       (ap (λ (xs : List (Lent T)). l ∷ xs) rest.0 ∙ sym next.0, ap suc rest.1)
 
-  has_beginning : (k : Shape T) (w : World T) (h : ℕ) (r : ReceiverRecord T) → get_elem? w.receivers h ≡ some r → KeepsRule k w → HasBeginning k w r
-  has_beginning k w h r at K =
+  -- what a receiver found is claimed
+  saw_claimed : (k : Shape T) (w : World T) (h : ℕ) (r : ReceiverRecord T) → get_elem? w.receivers h ≡ some r → KeepsRule k w → MarksWithin k w
+      → SawAtMost (length w.stages) k (upstreams_of k.upstreams r.number) r
+  saw_claimed k w h r at K within =
+      let was = K.received h r at in
+      let inside = handler_inside k w h r at K in
+      record {
+        marks = λ before after x is.
+            within h r at (length before) x (ap (λ (l : List MarkLook). get_elem? l (length before)) is ∙ seam before after x);
+        counts = λ u before after x has is word.
+            let past = was.looks (length before) x (ap (λ (l : List Look). get_elem? l (length before)) is ∙ seam before after x) in
+            let up : u < handlers_of k = upstream_inside k K.shape.graph h u inside (subst (λ (m : ℕ). Contains (upstreams_of k.upstreams m) u) was.number has) in
+            let other = receiver_of_handler k w K u up in
+            let took = taken_claimed k w u other.0 other.1 K in
+            let count = other.2.count in
+            let done = other.2.completed in
+            let low = subst (λ (m : ℕ). x.value ≤ slice_index w.words m) word past.before in
+            omega arith;
+      }
+
+  has_beginning : (k : Shape T) (w : World T) (h : ℕ) (r : ReceiverRecord T) → get_elem? w.receivers h ≡ some r → KeepsRule k w → MarksWithin k w
+      → HasBeginning k w r
+  has_beginning k w h r at K within =
       let was = K.received h r at in let first = first_events r.received w.stages was.beginning in record {
         beginning = first.0;
         taken = first.1;
         drained = λ told. all_events r.received w.stages was.beginning (was.told told).1;
         completed = was.completed;
+        seen = saw_claimed k w h r at K within;
         room = λ has. (let e : length w.stages ≤ k.size + word_at w.words (count_word r.number) = K.room r.number has in
             let count : word_at w.words (count_word r.number) ≡ r.completed = ap (λ (n : ℕ). word_at w.words (count_word n)) was.number ∙ was.count in
             omega arith);
@@ -81,11 +114,11 @@ module _ {T : Type 0} where
   is_sent k w h s r l at there K all = let x = (K.received h r at).beginning s l there in let own = all s x.0 x.1 in (own.0, x.0, own.1, own.2, x.2)
 
   -- the ends of a run agree
-  pub settles : (k : Shape T) (w : World T) → KeepsRule k w → AllOwned w → Settles k w
-  settles k w K all = record {
+  pub settles : (k : Shape T) (w : World T) → KeepsRule k w → AllOwned w → MarksWithin k w → Settles k w
+  settles k w K all within = record {
     claimed = all;
     owned = λ p i r o at own. (let S = K.sent p r at in let is = S.own i o own in (is.0 ∙ sym S.number, is.1));
-    each = λ h r at. has_beginning k w h r at K;
+    each = λ h r at. has_beginning k w h r at K within;
     sent = λ h s r l at there. is_sent k w h s r l at there K all;
     follow = λ h j r u at there. follows k w h j r u at there K;
   }

@@ -8,14 +8,14 @@ use Rattle.dr_meaning.specs.declared.command.Command.TheVariants.{Write}
 use Rattle.dr_meaning.specs.declared.command.Reply.TheVariants.{Refused}
 use Rattle.dr_meaning.specs.declared.refusal.Refusal.TheVariants.{NoProducer, NotClaimed, AlreadyPublished}
 use Rattle.dr_meaning.specs.Meaning.Machine.{State, Outcome, unless, unchanged, accepted}
-use Rattle.dr_runs.proofs.Elements.{there, at_below}
+use Rattle.dr_runs.proofs.Elements.{there, at_below, word_at}
 use Rattle.dr_plain_senders.specs.Meaning.Shape.{Shape, ring_setup}
 use Rattle.dr_plain_senders.specs.Meaning.Words.{claim_word, mark_word, is_out_by}
 use Rattle.dr_plain_senders.specs.declared.record.Stage.{Stage}
 use Rattle.dr_plain_senders.specs.Meaning.Records.{is_published}
 use Rattle.dr_plain_senders.specs.Meaning.Rule.{World, IsOut, has_mark, is_out_now, KeepsRule}
 use Rattle.dr_plain_senders.specs.Meaning.Moments.{stage_at, picture_of, IsShut, RefusesByWords, ToldByLooks}
-use Rattle.dr_plain_senders.proofs.Places.{word_at, one_value}
+use Rattle.dr_plain_senders.proofs.Places.{one_value}
 use Rattle.dr_plain_senders.proofs.Facts.{cases_option, none_or_some, out_behind}
 use Rattle.dr_plain_senders.proofs.Marks.{out_said, in_said, marked_out, out_now, hidden_now}
 use Rattle.dr_plain_senders.proofs.Machine.{at_stage, owner_at}

@@ -11,7 +11,8 @@ use Rattle.dr_plain_senders.specs.declared.record.Stage.{Stage}
 use Rattle.dr_plain_senders.specs.declared.record.SenderRecord.{SenderRecord}
 use Rattle.dr_plain_senders.specs.declared.record.ReceiverRecord.{ReceiverRecord}
 use Rattle.dr_plain_senders.specs.Meaning.Rule.{Room, IsOut, IsOutWith, SenderKept, ReceiverKept}
-use Rattle.dr_plain_senders.proofs.Places.{word_at, Rises, past_rises}
+use Rattle.dr_plain_senders.proofs.Places.{Rises, past_rises}
+use Rattle.dr_runs.proofs.Elements.{word_at}
 use Rattle.dr_plain_senders.proofs.Facts.{upstream_inside}
 
 -- where the words that a part speaks of stay or rise, and what is published stays, the part stays

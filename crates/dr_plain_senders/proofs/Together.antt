@@ -11,8 +11,8 @@ use Rattle.dr_plain_senders.specs.Meaning.Shape.{Shape, handlers_of}
 use Rattle.dr_plain_senders.specs.declared.record.SenderRecord.{SenderRecord}
 use Rattle.dr_plain_senders.specs.declared.record.ReceiverRecord.{ReceiverRecord}
 use Rattle.dr_plain_senders.specs.Meaning.Moments.{fresh_senders, fresh_receivers}
-use Rattle.dr_plain_senders.specs.Calls.Ends.{SenderEnd, ReceiverEnd, HalterStand, EndPlace, sender_place, receiver_place}
-use Rattle.dr_plain_senders.specs.Calls.Making.{sender_at, receiver_at, AreFreshEnds}
+use Rattle.dr_plain_senders.specs.Calls.Ends.{SenderEnd, ReceiverEnd, HalterEnd, EndPlace, sender_place, receiver_place}
+use Rattle.dr_plain_senders.specs.Calls.Making.{sender_at_ring, receiver_at_ring, AreFreshEnds}
 use Rattle.dr_plain_senders.specs.Calls.Settling.{AreAllEnds}
 use Rattle.dr_plain_senders.proofs.Beginning.{sender_fresh, receiver_fresh, senders_count, receivers_count}
 
@@ -43,20 +43,20 @@ place_stays place_of ring k es i e e' all at same =
 
 module _ {T : Type 0} where
   -- the ends of a new ring are all of its ends
-  pub all_fresh : (k : Shape T) (ss : List (SenderEnd T)) (rs : List (ReceiverEnd T)) (t : HalterStand T) → AreFreshEnds k ss rs t → AreAllEnds ss rs t
+  pub all_fresh : (k : Shape T) (ss : List (SenderEnd T)) (rs : List (ReceiverEnd T)) (t : HalterEnd T) → AreFreshEnds k ss rs t → AreAllEnds ss rs t
   all_fresh k ss rs t F =
-      let plan : t.plan ≡ k = ap (λ (e : HalterStand T). e.plan) F.halter in
+      let plan : t.plan ≡ k = ap (λ (e : HalterEnd T). e.plan) F.halter in
       let place : ℕ → EndPlace T = λ i. (t.ring, k, i) in record {
-        senders = ap length F.senders ∙ length-map (fresh_senders 0 k.senders) (sender_at t.ring k) ∙ senders_count T 0 k.senders
+        senders = ap length F.senders ∙ length-map (fresh_senders 0 k.senders) (sender_at_ring t.ring k) ∙ senders_count T 0 k.senders
             ∙ ap (λ (p : Shape T). p.senders) (sym plan);
-        receivers = ap length F.receivers ∙ length-map (fresh_receivers 0 (handlers_of k)) (receiver_at t.ring k) ∙ receivers_count T 0 (handlers_of k)
+        receivers = ap length F.receivers ∙ length-map (fresh_receivers 0 (handlers_of k)) (receiver_at_ring t.ring k) ∙ receivers_count T 0 (handlers_of k)
             ∙ ap handlers_of (sym plan);
         each_sender = subst (λ (p : Shape T). AreInPlace sender_place t.ring p ss) (sym plan)
-            (fresh_in_place sender_place t.ring k (sender_at t.ring k) (fresh_senders 0 k.senders) ss
+            (fresh_in_place sender_place t.ring k (sender_at_ring t.ring k) (fresh_senders 0 k.senders) ss
             (λ p r at. (let number : r.number ≡ p = ap (λ (q : SenderRecord T). q.number) (sender_fresh 0 k.senders p r at) ∙ omega arith in ap place number))
             F.senders);
         each_receiver = subst (λ (p : Shape T). AreInPlace receiver_place t.ring p rs) (sym plan)
-            (fresh_in_place receiver_place t.ring k (receiver_at t.ring k) (fresh_receivers 0 (handlers_of k)) rs
+            (fresh_in_place receiver_place t.ring k (receiver_at_ring t.ring k) (fresh_receivers 0 (handlers_of k)) rs
             (λ h r at.
             (let number : r.number ≡ h =
             ap (λ (q : ReceiverRecord T). q.number) (receiver_fresh 0 (handlers_of k) h r at) ∙ omega arith in ap place number))
@@ -64,7 +64,7 @@ module _ {T : Type 0} where
       }
 
   -- a sender makes a call
-  pub all_sender : (ss : List (SenderEnd T)) (rs : List (ReceiverEnd T)) (t : HalterStand T) (p : ℕ) (e e' : SenderEnd T) → AreAllEnds ss rs t
+  pub all_sender : (ss : List (SenderEnd T)) (rs : List (ReceiverEnd T)) (t : HalterEnd T) (p : ℕ) (e e' : SenderEnd T) → AreAllEnds ss rs t
       → e ≡ get_or ss p e → sender_place e' ≡ sender_place e → AreAllEnds (set ss p e') rs t
   all_sender ss rs t p e e' A at place = record {
     senders = length-set ss p e' ∙ A.senders;
@@ -74,7 +74,7 @@ module _ {T : Type 0} where
   }
 
   -- a receiver does
-  pub all_receiver : (ss : List (SenderEnd T)) (rs : List (ReceiverEnd T)) (t : HalterStand T) (h : ℕ) (e e' : ReceiverEnd T) → AreAllEnds ss rs t
+  pub all_receiver : (ss : List (SenderEnd T)) (rs : List (ReceiverEnd T)) (t : HalterEnd T) (h : ℕ) (e e' : ReceiverEnd T) → AreAllEnds ss rs t
       → e ≡ get_or rs h e → receiver_place e' ≡ receiver_place e → AreAllEnds ss (set rs h e') t
   all_receiver ss rs t h e e' A at place = record {
     senders = A.senders;
@@ -84,7 +84,7 @@ module _ {T : Type 0} where
   }
 
   -- the halter halts
-  pub all_halter : (ss : List (SenderEnd T)) (rs : List (ReceiverEnd T)) (t t' : HalterStand T) → AreAllEnds ss rs t → t'.ring ≡ t.ring → t'.plan ≡ t.plan
+  pub all_halter : (ss : List (SenderEnd T)) (rs : List (ReceiverEnd T)) (t t' : HalterEnd T) → AreAllEnds ss rs t → t'.ring ≡ t.ring → t'.plan ≡ t.plan
       → AreAllEnds ss rs t'
   all_halter ss rs t t' A ring plan = record {
     senders = A.senders ∙ ap (λ (k : Shape T). k.senders) (sym plan);

@@ -19,7 +19,7 @@ use Rattle.dr_plain_senders.specs.Meaning.Records.{sender_looked, receiver_looke
 use Rattle.dr_plain_senders.specs.Meaning.Rule.{World}
 use Rattle.dr_plain_senders.specs.Meaning.Steps.{Happens, PublishesAll, sender_knows, sender_claims}
 use Rattle.dr_plain_senders.specs.Meaning.Moments.{new_world, receiver_at, entries_of, Runs, WereTold}
-use Rattle.dr_plain_senders.proofs.Places.{word_at}
+use Rattle.dr_runs.proofs.Elements.{word_at}
 use Rattle.dr_plain_senders.proofs.Beginning.{receiver_fresh}
 use Rattle.dr_plain_senders.proofs.Pictures.{is_receiver}
 

@@ -12,7 +12,7 @@ use Rattle.dr_plain_senders.specs.Calls.Ends.{ReceiverEnd, mark_looks}
 use Rattle.dr_plain_senders.specs.Calls.Receiving.{ups_of, WalksTo, walk_end}
 use Rattle.dr_plain_senders.specs.Inside.Polling.{AllCarry, walked, OnlyLoads, TakesNext, TakesEach, Walking, TakesMarked}
 use Rattle.dr_plain_senders.proofs.Bits.{run_few}
-use Rattle.dr_plain_senders.proofs.Stations.{begins_on}
+use Rattle.dr_runs.proofs.Beginnings.{begins_on}
 
 carry_more : {T : Type 0} (k : Shape T) (end s : ℕ) (ms : List ℕ) (m front : ℕ)
     → AllCarry k end s ms front → front < end → marked_from k front m ≡ in_word k front

@@ -25,14 +25,14 @@ use Rattle.dr_plain_senders.specs.Meaning.Records.{Owns}
 use Rattle.dr_plain_senders.specs.declared.record.Own.{Own}
 use Rattle.dr_plain_senders.specs.declared.record.SenderRecord.{SenderRecord}
 use Rattle.dr_plain_senders.specs.Calls.Ends.{SenderStand, SenderEnd}
-use Rattle.dr_plain_senders.specs.Calls.Writing.{Has, Found, Never, Holds, WriteCall, written_where}
+use Rattle.dr_plain_senders.specs.Calls.Writing.{Has, Found, Never, Holds, RefusedWrite, WriteCall, written_where}
 use Rattle.dr_plain_senders.specs.declared.record.Stage.{Stage}
 use Rattle.dr_plain_senders.specs.Inside.Fits.{MarksFit, SenderFits, written_in, writes_of}
 use Rattle.dr_plain_senders.specs.Inside.Owned.{Owned, is_open}
 use Rattle.dr_plain_senders.specs.Inside.Refusing.{RefusesBy}
 use Rattle.dr_plain_senders.specs.Inside.Views.{sender_end}
 use Rattle.dr_plain_senders.proofs.Marks.{said_out}
-use Rattle.dr_plain_senders.proofs.Stations.{begins_same}
+use Rattle.dr_runs.proofs.Beginnings.{begins_same}
 use Rattle.dr_plain_senders.proofs.Owning.{mark_was, mark_here, mark_beside, marked_apart}
 use Rattle.dr_plain_senders.proofs.Granting.{first_of, unready}
 
@@ -172,8 +172,23 @@ module _ {T : Type 0} (e : SenderStand T) (o : Owned) (end s c : ℕ)
 found_nothing : {T : Type 0} (r : SenderRecord T) → r ≡ record r { marks = r.marks ++ []; looks = r.looks ++ [] }
 found_nothing r = λ i. record r { marks = sym (append-nil r.marks) i; looks = sym (append-nil r.looks) i }
 
-pub write_never : {T : Type 0} (e : SenderEnd T) (s : ℕ) (event : T) → e.plan.limit ≤ s → WriteCall e s event e (Err NotClaimed)
-write_never e s event past = record {
+-- what is refused, whatever was to be written
+pub refused_write : {T : Type 0} (e e' : SenderEnd T) (s : ℕ) (event : T) (refusal : Refusal) → RefusedWrite e s e' refusal → WriteCall e s event e' (Err refusal)
+refused_write e e' s event refusal R = record {
+  place = R.place;
+  sight = R.sight;
+  sees = R.sees;
+  asked = R.asked;
+  answer = R.answer;
+  knows = R.knows;
+  writes = R.writes;
+  cells = R.cells;
+  stored = R.stored;
+  past = R.past;
+}
+
+pub write_never : {T : Type 0} (e : SenderEnd T) (s : ℕ) → e.plan.limit ≤ s → RefusedWrite e s e NotClaimed
+write_never e s past = record {
   place = refl;
   sight = Never;
   sees = past;
@@ -198,9 +213,9 @@ by_mark : (b : Bool) (refusal : Refusal) → refusal ≡ (if b then AlreadyPubli
 by_mark true refusal is = inr (refl, inr (refl, inl (refl, sym is)))
 by_mark false refusal is = inr (refl, inl (tt, sym is))
 
-module _ {T : Type 0} (e : SenderStand T) (o : Owned) (end s : ℕ) (tokens : List (Token T)) (event : T) (F : SenderFits e o end tokens) where
+module _ {T : Type 0} (e : SenderStand T) (o : Owned) (end s : ℕ) (tokens : List (Token T)) (F : SenderFits e o end tokens) where
   pub write_refused : (e' : SenderStand T) (refusal : Refusal) → s < e.plan.limit → is_marked o.claimed s ≡ false → RefusesBy e s e' refusal
-      → WriteCall (sender_end e o tokens) s event (sender_end e' o tokens) (Err refusal)
+      → RefusedWrite (sender_end e o tokens) s (sender_end e' o tokens) refusal
   write_refused e' refusal below unmarked R = record {
     place = (λ i. (R.loaded.0.0 i, R.loaded.0.1 i, (R.loaded.1 i).number));
     sight = Found R.before R.mark R.after;
@@ -219,7 +234,7 @@ module _ {T : Type 0} (e : SenderStand T) (o : Owned) (end s : ℕ) (tokens : Li
   }
 
   pub write_late : is_marked o.claimed s ≡ true → is_marked o.published s ≡ true
-      → WriteCall (sender_end e o tokens) s event (sender_end e o tokens) (Err AlreadyPublished)
+      → RefusedWrite (sender_end e o tokens) s (sender_end e o tokens) AlreadyPublished
   write_late mine shown = let x = F.marks.own s mine in record {
     place = refl;
     sight = Has x.0 (written_in e.plan o tokens s);

@@ -1,15 +1,16 @@
 -- What public contracts cite: what an end is, and what its calls answer and leave.
 pub mod Plans
-pub mod Ends
 pub mod Finds
+pub mod Ends
 pub mod Making
-pub mod Receiving
-pub mod Outlets
-pub mod Handing
+pub mod Settling
 pub mod Sending
 pub mod Writing
 pub mod Publishing
-pub mod Inlets
-pub mod Settling
+pub mod Receiving
+pub mod Turning
 pub mod Replies
+pub mod Handing
+pub mod Inlets
+pub mod Outlets
 pub mod InPlace

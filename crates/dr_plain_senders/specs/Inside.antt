@@ -1,21 +1,21 @@
--- How it is kept: seats at a table, and what the ends' stations have.
+-- How it is kept: seats at a table, fields, and what private functions promise.
 pub mod Plans
 pub mod Seats
 pub mod Stations
-pub mod Making
-pub mod Hands
-pub mod Rows
-pub mod Trades
 pub mod Owned
 pub mod Fits
 pub mod Views
-pub mod Refusing
+pub mod Making
+pub mod BroughtTogether
+pub mod Rooms
+pub mod Hands
+pub mod Rows
+pub mod Trades
 pub mod Scans
+pub mod Refusing
 pub mod Polling
 pub mod Publishing
 pub mod Gathering
-pub mod BroughtTogether
-pub mod Rooms
-pub mod Bringing
 pub mod Finishing
+pub mod Bringing
 pub mod Leaving

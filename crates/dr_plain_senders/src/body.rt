@@ -74,7 +74,7 @@ impl<T: Drop> RingBody<T> {
     }
 }
 
-// Where a place is empty its end never was, or is brought together with the others by `finish`.
+// Where a place is empty its end never was, or is brought together with the others by `settle_all`.
 impl<T: Drop> Drop for RingBody<T> {
     fn drop(self) {
         let RingBody {

@@ -2,8 +2,8 @@
 
 ghost use Rattle.std.specs.Prelude.{◌≡◌, ◌+◌, ◌^◌, ◌≤◌, IfOk};
 ghost use Rattle.dr_plain_senders.specs.Calls.Ends.{HasLoaded};
-ghost use Rattle.dr_plain_senders.specs.Calls.Sending.{ClaimCall, ClaimTakes, IsCount};
-ghost use Rattle.dr_plain_senders.specs.Inside.Scans.{Scans, ClaimsApart};
+ghost use Rattle.dr_plain_senders.specs.Calls.Sending.{ClaimCall, IsCount};
+ghost use Rattle.dr_plain_senders.specs.Inside.Scans.{Scans, ClaimsApart, ClaimTakes};
 
 use crate::laws::SenderStation;
 use crate::plan::HALT_BIT;
@@ -19,7 +19,7 @@ impl<T> SenderStation<T> {
     /// `Exhausted`, `NoRoom`, and at the exchange `Halted` once more, or `Contended`: another
     /// sender claimed meanwhile. A refused claim may have looked, and at the exchange have
     /// stored what was there; it changes nothing else.
-    #[tactic(auto, using(crate::proofs::Stations::begins_same, crate::proofs::Stations::begins_on))]
+    #[tactic(auto, using(dr_runs::proofs::Beginnings::begins_same, dr_runs::proofs::Beginnings::begins_on))]
     pub fn try_claim(&mut self, n: u64) -> Result<Claimed, ClaimFault>
         // By its looks and its exchange of the claim word it claims the next sequences, or says why not.
         ensures call { ClaimCall self.old n self.new result }

@@ -13,12 +13,12 @@ ghost use Rattle.dr_plain_senders.specs.declared.record.EndRecord.{EndRecord};
 ghost use Rattle.dr_plain_senders.specs.declared.record.Step.{Step};
 ghost use Rattle.dr_plain_senders.specs.Meaning.Words.{claim_word, claimed_in as claimed_in_word};
 ghost use Rattle.dr_plain_senders.specs.Calls.Plans.{IsPlan};
-ghost use Rattle.dr_plain_senders.specs.Calls.Ends.{SenderEnd, ReceiverEnd, HalterStand};
+ghost use Rattle.dr_plain_senders.specs.Calls.Ends.{SenderEnd, ReceiverEnd, HalterEnd};
 ghost use Rattle.dr_plain_senders.specs.Calls.Settling.{AreAllEnds, HasRun, GivesBack, handler_counts};
 ghost use Rattle.dr_plain_senders.specs.Inside.Fits.{PartsFit};
 ghost use Rattle.dr_plain_senders.specs.Inside.Owned.{is_open};
 ghost use Rattle.dr_plain_senders.specs.Inside.Seats.{exchange, ring_ends};
-ghost use Rattle.dr_plain_senders.specs.Inside.Gathering.{AreSendersOf, AreReceiversOf, sender_known, receiver_known};
+ghost use Rattle.dr_plain_senders.specs.Inside.Gathering.{AreSendersAt, AreReceiversAt, sender_known, receiver_known};
 ghost use Rattle.dr_plain_senders.specs.Inside.Bringing.{AreTaken, AreBrought, AreHandsOf, AreTogether};
 
 use crate::answers::claimed_in;
@@ -94,7 +94,7 @@ pub(crate) fn bring_sender<T>(
 {
     let own = sender.tokens;
     bring_open(plan, &sender.owned, sender.end, own, tokens, brought);
-    settling::take_in(words, seat, sender.seat);
+    settling::unite(words, seat, sender.seat);
 }
 
 /// A receiver's seat comes to the halter's, and its counts and parts to their places.
@@ -118,7 +118,7 @@ pub(crate) fn bring_receiver<T>(
         completed: receiver.completed,
     };
     put_at(hands, place, receiver.parts);
-    settling::take_in(words, seat, receiver.seat);
+    settling::unite(words, seat, receiver.seat);
 }
 
 // All senders come so.
@@ -131,7 +131,7 @@ fn gather_senders<T: Drop>(
     brought: &mut Vec<bool>,
 )
     requires table { (seat.old.table_id ≡ words.now.table_id) × (0 < words.now.table_id.words) }
-    requires senders { AreSendersOf seat.old.table_id senders.items }
+    requires senders { AreSendersAt seat.old.table_id senders.items }
     requires plans { (p : ℕ) (e : SenderEnd T) → get_elem? senders.items p ≡ some e → e.plan ≡ plan.now }
     requires size { 0 < plan.now.size }
     requires places { (length tokens.old.items ≡ plan.now.size) × (brought.old.items ≡ replicate plan.now.size false) }
@@ -154,7 +154,7 @@ fn gather_receivers<T: Drop>(
     hands: &mut Vec<Vec<Token<T>>>,
 )
     requires table { (seat.old.table_id ≡ words.now.table_id) × (0 < words.now.table_id.words) }
-    requires receivers { AreReceiversOf seat.old.table_id receivers.items }
+    requires receivers { AreReceiversAt seat.old.table_id receivers.items }
     requires places { length counts.old.items ≡ length receivers.items }
     requires rooms { length hands.old.items ≡ length receivers.items }
     ensures seat { (seat.new.table_id ≡ seat.old.table_id) × (seat.new.me.1 ≡ seat.old.me.1) }
@@ -184,10 +184,10 @@ pub(crate) fn reclaim_all<T>(
     requires table { (seat.table_id ≡ words.now.table_id) × (0 < words.now.table_id.words) }
     requires made { (words.now.key ≡ plan.now) × IsPlan plan.now }
     requires cells { plan.now.strip ≡ cells.ptr }
-    requires together { (ss : List (SenderEnd T)) × (rs : List (ReceiverEnd T)) × (t : HalterStand T) × AreTogether plan.now seat.me.0 ss rs t counts.now.items (map (λ hand. hand.items) hands.items) tokens.items brought.now.items }
+    requires together { (ss : List (SenderEnd T)) × (rs : List (ReceiverEnd T)) × (t : HalterEnd T) × AreTogether plan.now seat.me.0 ss rs t counts.now.items (map (λ hand. hand.items) hands.items) tokens.items brought.now.items }
     ensures ran { (ran : ViewRan (exchange plan.now) seat.me.0) × (slice_index ran.world.words claim_word ≡ result.0) }
     ensures all { IsAll cells.ptr plan.now.size result.1 }
-    ensures events { (ss : List (SenderEnd T)) (rs : List (ReceiverEnd T)) (t : HalterStand T) → AreTogether plan.now seat.me.0 ss rs t counts.now.items (map (λ hand. hand.items) hands.items) tokens.items brought.now.items → GivesBack plan.now (claimed_in_word result.0) ss result.1.items }
+    ensures events { (ss : List (SenderEnd T)) (rs : List (ReceiverEnd T)) (t : HalterEnd T) → AreTogether plan.now seat.me.0 ss rs t counts.now.items (map (λ hand. hand.items) hands.items) tokens.items brought.now.items → GivesBack plan.now (claimed_in_word result.0) ss result.1.items }
 {
     let found = settling::take_all::<T, Brand>(words, &mut seat);
     let claimed = claimed_in(found);
@@ -206,9 +206,9 @@ pub(crate) fn reclaim_all<T>(
 /// exactly what it did, and its transcript is lawful (clause `run`). Each claimed sequence is in its
 /// sender's record. Each receiver has the first of the published events in the order of their
 /// sequences, each from the sender of its sequence, and all that is claimed where it was told that the
-/// ring drained. No handler took more than its upstreams completed, and no more is claimed than a round
-/// beyond what each final handler completed.
-pub fn finish<T: Drop>(
+/// ring drained; none found anything beyond what is claimed. No handler took more than its upstreams
+/// completed, and no more is claimed than a round beyond what each final handler completed.
+pub fn settle_all<T: Drop>(
     senders: Vec<Sender<T>>,
     receivers: Vec<Receiver<T>>,
     halter: Halter<T>,

@@ -73,20 +73,6 @@ impl<T> Names<T> for Brand {
     ghost number = { 0 };
 }
 
-/// What a publication names besides, for its proof alone: what it lent.
-pub trait Lends<T> {
-    ghost lents: { List (Lent T) };
-
-    ghost use Rattle.std.specs.Prelude.{List};
-    ghost use Rattle.dr_lent.specs.declared.lent.Lent.{Lent};
-}
-
-impl<T> Lends<T> for Brand {
-    ghost use Rattle.std.specs.Prelude.{[]};
-
-    ghost lents = { [] };
-}
-
 /// Whatever steps fall in whatever order: between any two of them the rule holds, the entries of
 /// their events lead the machine to the ring's picture, in which nobody is stuck, and the
 /// transcript has the five laws. Whatever senders wrote besides and did not publish, those writes
@@ -111,6 +97,8 @@ pub fn moments<T>()
     ensures laws { (k : Shape T) (steps : List (Step T)) (entries : Transcript T) (w : World T) → IsShape k → Runs k steps entries (new_world k) w → Laws (ring_setup k) entries }
     // Nobody is stuck in the picture.
     ensures progress { (k : Shape T) (steps : List (Step T)) (entries : Transcript T) (w : World T) → IsShape k → Runs k steps entries (new_world k) w → NobodyIsStuck (ring_setup k) (picture_of k w) }
+    // An end that was told `Drained` was told so by a poll of the transcript.
+    ensures told { (k : Shape T) (steps : List (Step T)) (entries : Transcript T) (w : World T) → IsShape k → Runs k steps entries (new_world k) w → WereTold w entries }
     // The claim word and the mark of a sequence tell exactly whether it is published.
     ensures marks { (k : Shape T) (steps : List (Step T)) (entries : Transcript T) (w : World T) → IsShape k → Runs k steps entries (new_world k) w → (s : ℕ) → (picture_of k w).published s ≡ is_out_now k w s }
     // So they tell why the machine refuses a write to a sequence published or not the sender's own.
@@ -123,8 +111,6 @@ pub fn moments<T>()
     ensures hands { (k : Shape T) (steps more : List (Step T)) (entries rest : Transcript T) (w u : World T) → IsShape k → Runs k steps entries (new_world k) w → Runs k more rest w u → HandsWhatWasThere k w u }
     // No handler's count falls, and no claim is taken back.
     ensures rises { (k : Shape T) (steps more : List (Step T)) (entries rest : Transcript T) (w u : World T) → IsShape k → Runs k steps entries (new_world k) w → Runs k more rest w u → NothingFalls k w u }
-    // An end that was told `Drained` was told so by a poll of the transcript.
-    ensures told { (k : Shape T) (steps : List (Step T)) (entries : Transcript T) (w : World T) → IsShape k → Runs k steps entries (new_world k) w → WereTold w entries }
     // Once the ring is halted, nothing more is claimed.
     ensures halted { (k : Shape T) (steps more : List (Step T)) (entries rest : Transcript T) (w u : World T) → IsShape k → Runs k steps entries (new_world k) w → Runs k more rest w u → is_halted (slice_index w.words claim_word) ≡ true → length u.stages ≡ length w.stages }
 {

@@ -82,13 +82,13 @@ pub struct HalterLeft<T> {
 
 impl<T> Model for HalterLeft<T> {
     ghost use Rattle.dr_runs.specs.Seats.{end_of};
-    ghost use Rattle.dr_plain_senders.specs.Calls.Ends.{HalterStand};
+    ghost use Rattle.dr_plain_senders.specs.Calls.Ends.{HalterEnd};
     ghost use Rattle.dr_plain_senders.specs.Inside.Leaving.{HalterKeeps};
-    ghost use Rattle.dr_plain_senders.specs.Inside.Stations.{halter_stand};
+    ghost use Rattle.dr_plain_senders.specs.Inside.Stations.{halter_end};
 
-    ghost Value = { HalterStand T };
+    ghost Value = { HalterEnd T };
 
-    ghost view = { λ s. halter_stand s.seat.table_id s.plan.value s.seat.me };
+    ghost view = { λ s. halter_end s.seat.table_id s.plan.value s.seat.me };
 
     ghost invariant = { λ s. HalterKeeps s.plan.value (end_of s.seat.me) s.strip.cells.ptr s.strip.len s.gathered };
 }

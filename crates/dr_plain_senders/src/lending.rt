@@ -72,6 +72,14 @@ impl<T> SenderStation<T> {
         self.ring.plan.handlers()
     }
 
+    /// The place of the cell of a sequence.
+    pub(crate) fn place(&self, sequence: u64) -> usize
+        ensures place { result ≡ cell_of self.now.plan sequence }
+        ensures inside { result < self.now.plan.size }
+    {
+        self.ring.plan.size().slot(sequence)
+    }
+
     // Takes every handler's part of what is lent in a cell out of its slot, and so has the cell whole.
     fn join_parts(&mut self, sequence: u64, kept: &mut Token<T>)
         requires { (l : Lent T) × (others : Hand T) × (kept.old ≡ kept_of self.old.plan sequence (lent l)) × (self.old.hand ≡ parts_row self.old.plan sequence (lent l) ++ others) }
@@ -103,14 +111,6 @@ impl<T> SenderStation<T> {
         }
         self.join_parts(sequence, &mut kept);
         kept
-    }
-
-    /// The place of the cell of a sequence.
-    pub(crate) fn place(&self, sequence: u64) -> usize
-        ensures place { result ≡ cell_of self.now.plan sequence }
-        ensures inside { result < self.now.plan.size }
-    {
-        self.ring.plan.size().slot(sequence)
     }
 
     /// Takes what lies in the slots of some claimed sequences, which are first in hand, and so has

@@ -15,7 +15,7 @@ ghost use Rattle.dr_plain_senders.specs.Inside.Seats.{IsAtTable, known_senders, 
 ghost use Rattle.dr_plain_senders.specs.Inside.Stations.{IsKeyed};
 ghost use Rattle.dr_plain_senders.specs.Inside.Making.{AreFirst};
 ghost use Rattle.dr_plain_senders.specs.Inside.Rooms.{unmarked, AreBlankRows, AreRooms};
-ghost use Rattle.dr_plain_senders.specs.Calls.Making.{sender_at, receiver_at, AreFreshEnds, fault_of};
+ghost use Rattle.dr_plain_senders.specs.Calls.Making.{sender_at_ring, receiver_at_ring, AreFreshEnds, fault_of};
 ghost use Rattle.dr_plain_senders.specs.Calls.Settling.{AreAllEnds};
 
 use crate::body::RingBody;
@@ -24,29 +24,17 @@ use crate::laws::{Halter, ReceiverStation, RingSeat, RingTable, SenderStation};
 use crate::owned::Owned;
 use crate::plan::Plan;
 use crate::receiver::Receiver;
-use crate::record::View;
 use crate::rooms::Rooms;
 use crate::sender::Sender;
-use atomic_table::Split;
 use dr_cells::{Cells, Strip, Token};
 use dr_graph::Graph;
 use dr_lent::rows::{blanks, deal, take_last};
 use dr_meaning::{Mode, OpenFault, is_valid_limit};
+use dr_runs::Cut;
 use dr_seq::Size;
 use std::alloc::{AllocError, Global};
 use std::snapshot::Snapshot;
 use std::sync::Arc;
-
-// The first record of a view stays with its seat, and the others go to another.
-struct Cut;
-
-impl<T> Split<View<T>> for Cut {
-    ghost use Rattle.dr_runs.specs.Seats.{first_view, rest_view};
-
-    ghost left = { first_view };
-
-    ghost right = { rest_view };
-}
 
 // The senders, each with its seat, its marks and its row of tokens, and the seat of the receivers.
 // `rest` stands for them all.
@@ -63,7 +51,7 @@ fn senders<T: Drop>(
     requires marks { marks.items ≡ replicate (arc_value ring.now).plan.senders (unmarked (arc_value ring.now).plan.size) }
     requires rows { AreBlankRows (arc_value ring.now).plan.senders (arc_value ring.now).plan.size rows.items }
     requires none { senders.items ≡ [] }
-    ensures senders { IfOk result (λ made. made.0.items ≡ map (sender_at rest.table_id (arc_value ring.now).plan) (fresh_senders 0 (arc_value ring.now).plan.senders)) }
+    ensures senders { IfOk result (λ made. made.0.items ≡ map (sender_at_ring rest.table_id (arc_value ring.now).plan) (fresh_senders 0 (arc_value ring.now).plan.senders)) }
     ensures table { IfOk result (λ made. made.1.table_id ≡ rest.table_id) }
     ensures rest { IfOk result (λ made. made.1.me ≡ fresh_seat (known_receivers 0 (handlers_of (arc_value ring.now).plan))) }
 {
@@ -98,7 +86,7 @@ fn receivers<T: Drop>(
     requires all { rest.me ≡ fresh_seat (known_receivers 0 (handlers_of (arc_value ring.now).plan)) }
     requires rows { AreBlankRows (handlers_of (arc_value ring.now).plan) (arc_value ring.now).plan.size rows.items }
     requires none { receivers.items ≡ [] }
-    ensures { IfOk result (λ v. v.items ≡ map (receiver_at rest.table_id (arc_value ring.now).plan) (fresh_receivers 0 (handlers_of (arc_value ring.now).plan))) }
+    ensures { IfOk result (λ v. v.items ≡ map (receiver_at_ring rest.table_id (arc_value ring.now).plan) (fresh_receivers 0 (handlers_of (arc_value ring.now).plan))) }
 {
     let handlers = ring.plan.handlers();
     for number in 0..handlers {
@@ -226,7 +214,7 @@ fn prepare<T: Drop>(
 /// [`dr_meaning::MAX_PRODUCERS`], with `BadLimit` where the limit is 0 or above
 /// [`dr_meaning::MAX_LIMIT`], and with `NoMemory` where an allocation failed. The events are then
 /// dropped.
-pub fn senders_ring<T: Drop>(
+pub fn ring<T: Drop>(
     alloc: Global,
     graph: &Graph,
     size: Size,

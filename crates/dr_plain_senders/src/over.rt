@@ -7,7 +7,7 @@ ghost use Rattle.dr_runs.specs.Gathering.{Gathers};
 ghost use Rattle.dr_plain_senders.specs.Calls.Ends.{SenderEnd};
 ghost use Rattle.dr_plain_senders.specs.Calls.Settling.{AreAllEnds, HasRun, GivesBack, handler_counts};
 ghost use Rattle.dr_plain_senders.specs.Inside.Seats.{ring_ends};
-ghost use Rattle.dr_plain_senders.specs.Inside.Gathering.{AreSendersOf, AreReceiversOf, sender_known, receiver_known};
+ghost use Rattle.dr_plain_senders.specs.Inside.Gathering.{AreSendersAt, AreReceiversAt, sender_known, receiver_known};
 ghost use Rattle.dr_plain_senders.specs.Inside.Bringing.{AreBrought, AreHandsOf};
 ghost use Rattle.dr_plain_senders.specs.Inside.Leaving.{BelongsHalter};
 
@@ -29,7 +29,7 @@ fn gather_senders_left<T>(
     brought: &mut Vec<bool>,
 )
     requires table { (seat.old.table_id ≡ words.now.table_id) × (0 < words.now.table_id.words) }
-    requires senders { AreSendersOf seat.old.table_id senders }
+    requires senders { AreSendersAt seat.old.table_id senders }
     requires plans { (p : ℕ) (e : SenderEnd T) → get_elem? senders p ≡ some e → e.plan ≡ plan.now }
     requires size { 0 < plan.now.size }
     requires places { (length tokens.old.items ≡ plan.now.size) × (brought.old.items ≡ replicate plan.now.size false) }
@@ -51,7 +51,7 @@ fn gather_receivers_left<T>(
     hands: &mut Vec<Vec<Token<T>>>,
 )
     requires table { (seat.old.table_id ≡ words.now.table_id) × (0 < words.now.table_id.words) }
-    requires receivers { AreReceiversOf seat.old.table_id receivers }
+    requires receivers { AreReceiversAt seat.old.table_id receivers }
     requires places { length counts.old.items ≡ length receivers }
     requires rooms { length hands.old.items ≡ length receivers }
     ensures seat { (seat.new.table_id ≡ seat.old.table_id) × (seat.new.me.1 ≡ seat.old.me.1) }

@@ -76,7 +76,7 @@ impl<T> Receiver<T> {
     /// count of each upstream. It may read what it took until it completes it.
     ///
     /// It is refused with `BadCount`, and changes nothing, where there is no room.
-    #[tactic(auto, using(crate::proofs::Stations::begins_same, crate::proofs::Stations::begins_on))]
+    #[tactic(auto, using(dr_runs::proofs::Beginnings::begins_same, dr_runs::proofs::Beginnings::begins_on))]
     pub fn poll(&mut self, room: u64) -> Result<Polled, Refusal>
         // By what its looks find it takes the next events, or says why there are none, and stores nothing.
         ensures call { PollCall self.old room self.new result }
@@ -106,7 +106,7 @@ impl<T> Receiver<T> {
     /// are gone.
     ///
     /// Refusals in their order: `Behind` (more are completed), `NotTaken`. They change nothing.
-    #[tactic(auto, using(crate::proofs::Stations::begins_same))]
+    #[tactic(auto, using(dr_runs::proofs::Beginnings::begins_same))]
     pub fn complete(&mut self, upto: u64) -> Result<(), Refusal>
         ensures { CompleteCall self.old upto self.new result }
     {

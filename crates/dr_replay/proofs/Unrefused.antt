@@ -13,7 +13,7 @@ use Rattle.dr_ring.specs.Meaning.Moments.{fresh_sender}
 use Rattle.dr_ring.specs.Meaning.Settling.{FoundUnhalted}
 use Rattle.dr_ring.specs.Meaning.Shape.{Shape}
 use Rattle.dr_ring.specs.Calls.Ends.{SenderEnd}
-use Rattle.dr_ring.specs.Calls.Telling.{sender_does}
+use Rattle.dr_ring.specs.Calls.Inlets.{sender_does}
 use Rattle.dr_ring.proofs.Unrefused as ring
 use Rattle.dr_replay.specs.Calls.Workers.{IsSending}
 

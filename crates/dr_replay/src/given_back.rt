@@ -1,17 +1,18 @@
 //! What the workers of a replay behind a lock give back, and what they promise of it.
 
-ghost use Rattle.std.specs.Prelude.{◌≡◌, ◌+◌};
+ghost use Rattle.std.specs.Prelude.{◌≡◌, ◌+◌, length};
 ghost use Rattle.dr_reports.specs.Keeping.{error_of};
+ghost use Rattle.dr_reports.specs.Passing.{replay_graph};
 ghost use Rattle.dr_replay.specs.Calls.LockWorkers.{HasHandled, HasSent, list_of};
 
 use crate::part::Part;
-use dr_accounts::Reporter;
+use dr_accounts::{Business, Journal, Replica, Reporter};
 use dr_lock::{End, Exchange};
 use dr_seq::Event;
 use dr_workers::{Gate, WorkFault};
 use std::snapshot::Snapshot;
 use std::sync::ledger::Ledger;
-use std::thread::Promise;
+use std::thread::{Promise, PromisedHandle};
 
 /// What a handler's worker gives back: its end, and its part of the report with the list that its
 /// handler was shown.
@@ -55,6 +56,27 @@ impl<G> Drop for HandledBy<G> {
 
 impl<G: Gate, L: Exchange<Event>, P: Reporter> Promise<Handled<L, P>> for HandledBy<G> {
     ghost kept_by = { λ p back. HasHandled L.begun p.who (G.may_stop p.gate.value p.who) (G.must_stop p.gate.value p.who) back.end (error_of back.part) (list_of back.part (λ part. part.list.items)) };
+}
+
+/// That a handler has its thread, which nobody can say without it.
+#[derive(Drop)]
+pub struct HasThread(());
+
+/// Says so of all handlers, by their threads.
+pub fn have_threads<
+    L: Ledger,
+    J: Promise<Handled<L, Journal>>,
+    K: Promise<Handled<L, Replica>>,
+    B: Promise<Handled<L, Business>>,
+>(
+    _journal: &PromisedHandle<Handled<L, Journal>, J>,
+    _replica: &PromisedHandle<Handled<L, Replica>, K>,
+    _business: &PromisedHandle<Handled<L, Business>, B>,
+) -> [HasThread; 3]
+    // There is one for each handler of a replay.
+    ensures { length result ≡ length replay_graph }
+{
+    [HasThread(()), HasThread(()), HasThread(())]
 }
 
 /// The promise of the worker of the producer `p`, which passes a gate as number 16 + `p` and sends a script in

@@ -5,10 +5,10 @@ ghost use denote.Param.Send.{IsSync};
 ghost use Rattle.dr_reports.specs.Keeping.{error_of};
 ghost use Rattle.dr_lock.specs.Calls.Lock.{HasHalted, no_calls};
 ghost use Rattle.dr_replay.specs.Calls.LockWorkers.{HasHandled, HasSent, list_of};
-ghost use Rattle.dr_replay.specs.Inside.LockWorkers.{AreSent, AreUnused, ComesBack, halter_of};
+ghost use Rattle.dr_replay.specs.Inside.LockWorkers.{AreSent, AreUnused, CanBegin, ComesBack, halter_of};
 ghost use Rattle.dr_replay.specs.Meaning.Exchange.{IsHalters};
 
-use crate::given_back::{Delivered, Handled, HandledBy, SentBy};
+use crate::given_back::{Delivered, Handled, HandledBy, HasThread, SentBy, have_threads};
 use crate::part::Listing;
 use dr_accounts::{Business, Journal, Replica, Reporter};
 use dr_lock::{End, Exchange, LockedInlet, LockedOutlet, Shared, halt};
@@ -186,17 +186,19 @@ fn send<L: Exchange<Event>, R: Wait, G: Gate>(
     }
 }
 
-// Starts a thread for each producer, and joins them, before the halter has halted. An error is that
-// memory ran out or that a thread could not be started: those before it send their scripts all the same.
+// Starts a thread for each producer, and joins them. An error is that memory ran out or that a thread
+// could not be started: those before it send their scripts all the same.
 fn send_all<L: Exchange<Event> + Send + Sync, R: Threads + Wait + Sync, G: Gate + Sync>(
     around: &Around<'_, L, R, G>,
     scripts: &[Vec<Event>],
     ends: Vec<End<Event, L>>,
     _halter: &End<Event, L>,
+    _threads: &[HasThread],
 ) -> Result<Vec<Delivered<L>>, AllocError>
     requires many { length ends.items ≡ length scripts.now }
     requires unused { All (λ end. end ≡ no_calls) ends.items }
-    requires before { _halter.now ≡ no_calls }
+    // Nothing is sent before each handler has its thread, nor once the core is halted.
+    requires begins { CanBegin _halter.now _threads.now }
     ensures { IfOk result (λ sent. AreSent L.begun (G.may_stop around.now.gate.now) (G.must_stop around.now.gate.now) around.now.size scripts.now sent.items) }
 {
     thread::scope(
@@ -251,13 +253,13 @@ fn served<
     business: PromisedHandle<Handled<L, Business>, B>,
 ) -> Result<Joined<L>, End<Event, L>>
     requires many { length producers.items ≡ length scripts.now }
-    requires unused { All (λ end. end ≡ no_calls) producers.items }
-    requires before { halter ≡ no_calls }
+    requires unused { (halter ≡ no_calls) × All (λ end. end ≡ no_calls) producers.items }
     ensures sent { IfOk result (λ joined. AreSent L.begun (G.may_stop around.now.gate.now) (G.must_stop around.now.gate.now) around.now.size scripts.now joined.producers.items) }
     ensures halted { IsHalters (halter_of result) }
     ensures handled { IfOk result (λ joined. (J.kept_by journal.promise joined.journal) × (K.kept_by replica.promise joined.replica) × (B.kept_by business.promise joined.business)) }
 {
-    let sent = send_all(around, scripts, producers, &halter);
+    let threads = have_threads(&journal, &replica, &business);
+    let sent = send_all(around, scripts, producers, &halter, threads.as_slice());
     halted(around, &mut halter);
     let journal = journal.join(around.rt);
     let replica = replica.join(around.rt);

@@ -6,7 +6,7 @@ ghost use Rattle.dr_ring.specs.Calls.Ends.{sender_place};
 ghost use Rattle.dr_ring.specs.Calls.Sending.{ClosesOnceDone};
 ghost use Rattle.dr_ring.specs.Calls.Settling.{AreAllEnds};
 ghost use Rattle.dr_ring.specs.Meaning.Settling.{FoundUnhalted};
-ghost use Rattle.dr_ring.specs.Calls.Telling.{sender_does};
+ghost use Rattle.dr_ring.specs.Calls.Inlets.{sender_does};
 ghost use Rattle.dr_meaning.specs.Calls.Calling.{SomeCalls};
 ghost use Rattle.dr_files.specs.Counting.{faults_of, inner_of};
 ghost use Rattle.dr_replay.specs.Calls.Replayed.{ReplayCounts, ReplayFaultKeeps, ReplayWrites};

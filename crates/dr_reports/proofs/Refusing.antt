@@ -10,7 +10,7 @@ use Rattle.dr_workers.specs.declared.fault.WorkFault.{WorkFault}
 use Rattle.dr_workers.specs.declared.fault.WorkFault.TheVariants.{Memory, Refused}
 use Rattle.dr_workers.proofs.Untroubled.{AnswersWork, untroubled}
 use Rattle.dr_ring.specs.Calls.Ends.{ReceiverEnd, received_of}
-use Rattle.dr_ring.specs.Calls.Telling.{receiver_does}
+use Rattle.dr_ring.specs.Calls.Outlets.{receiver_does}
 use Rattle.dr_ring.proofs.Untroubled as ring
 use Rattle.dr_reports.specs.Keeping.{AnswersFor, error_of}
 use Rattle.dr_reports.proofs.Answering.{one_of_both}

@@ -5,7 +5,7 @@ use Rattle.dr_meaning.specs.declared.refusal.Refusal.{Refusal}
 use Rattle.dr_meaning.specs.Calls.Calling.{SomeCalls}
 use Rattle.dr_meaning.specs.Calls.Handling.{Relation}
 use Rattle.dr_ring.specs.Calls.Ends.{ReceiverEnd, receiver_place, received_of}
-use Rattle.dr_ring.specs.Calls.Telling.{receiver_does}
+use Rattle.dr_ring.specs.Calls.Outlets.{receiver_does}
 use Rattle.dr_workers.specs.Calls.Serving.{Serves}
 use Rattle.dr_workers.specs.declared.fault.WorkFault.{WorkFault}
 use Rattle.dr_workers.specs.declared.fault.WorkFault.TheVariants.{Memory, Refused, Stopped}

@@ -11,7 +11,7 @@ use Rattle.dr_runs.specs.Seats.{end_of, seat_at}
 use Rattle.dr_runs.proofs.Seats.{adds_nothing, adds_one}
 use Rattle.dr_ring.specs.Meaning.Shape.{Shape, handlers_of}
 use Rattle.dr_ring.specs.Meaning.Words.{payload_word, payload_start}
-use Rattle.dr_runs.specs.Words.{cursor_word, closed_word, halt_word, count_word}
+use Rattle.dr_runs.specs.OneSender.Words.{cursor_word, closed_word, halt_word, count_word}
 use Rattle.dr_seq.specs.declared.event.Event.{Event}
 use Rattle.dr_ring.specs.declared.record.HalfWrite.{HalfWrite}
 use Rattle.dr_ring.specs.declared.record.SenderRecord.{SenderRecord}

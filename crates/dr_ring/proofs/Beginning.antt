@@ -1,16 +1,15 @@
 -- A ring at its opening.
-use Rattle.std.proofs.Common.{◌≡◌, ℕ, zero, suc, ◌+◌, ◌<◌, ◌==◌, List, [], ◌∷◌, length, get_or, map, replicate, sym, refl, ap, ◌∙◌, subst, arith}
+use Rattle.std.proofs.Common.{◌≡◌, ℕ, zero, suc, ◌+◌, ◌==◌, List, [], ◌∷◌, length, get_or, map, replicate, sym, refl, ap, ◌∙◌, subst, arith}
 use Rattle.std.specs.Prelude.{nat_lt}
 use Rattle.std.specs.List.{range_with_len}
 use Rattle.std.proofs.lemmas.Bool.{le-ltb}
 use Rattle.std.proofs.lemmas.List.{length-replicate}
 use mathlib.Core.Option.{some, some-injective, some-ne-none}
 use lib.ListN.{get_elem?}
-use Rattle.dr_graph.specs.Meaning.Graph.{IsGraph}
 use Rattle.dr_meaning.specs.Meaning.Machine as machine
-use Rattle.dr_ring.specs.Meaning.Shape.{Shape, handlers_of, ring_setup}
+use Rattle.dr_ring.specs.Meaning.Shape.{Shape, IsShape, handlers_of, ring_setup}
 use Rattle.dr_ring.specs.Meaning.Words.{words_of}
-use Rattle.dr_runs.specs.Words.{cursor_word, closed_word, halt_word, count_word}
+use Rattle.dr_runs.specs.OneSender.Words.{cursor_word, closed_word, halt_word, count_word}
 use Rattle.dr_ring.specs.declared.record.ReceiverRecord.{ReceiverRecord}
 use Rattle.dr_ring.specs.Meaning.Rule.{KeepsRule, ReceiverKept}
 use Rattle.dr_ring.specs.Meaning.Moments.{fresh_receiver, fresh_receivers, new_world, taken_of, picture_of}
@@ -25,10 +24,10 @@ pub fresh_count : (k : Shape) (h n : ℕ) → length (fresh_receivers k h n) ≡
 fresh_count k h zero = refl
 fresh_count k h (suc n) = ap suc (fresh_count k (suc h) n)
 
-pub kept_opening : (k : Shape) → IsGraph k.upstreams → 0 < k.size → KeepsRule k (new_world k)
-kept_opening k graph some_slot = let n = words_of k in let ws = zeros n in let halt = all_zero n halt_word in let close = all_zero n closed_word in record {
-  graph = graph;
-  some_slot = some_slot;
+pub kept_opening : (k : Shape) → IsShape k → KeepsRule k (new_world k)
+kept_opening k shape = let n = words_of k in let ws = zeros n in let halt = all_zero n halt_word in let close = all_zero n closed_word in record {
+  graph = shape.graph;
+  some_slot = shape.some_slot;
   wide = (let z : ℕ = 0 in length-replicate n z);
   ends = fresh_count k 0 (handlers_of k);
   sender_plan = refl;

@@ -11,13 +11,14 @@ use Rattle.dr_meaning.specs.declared.command.Claimed.{Claimed}
 use Rattle.dr_meaning.specs.Calls.Ends.{Sent, with_claimed}
 use Rattle.dr_graph.specs.Meaning.Graph.{finals}
 use Rattle.dr_ring.specs.Meaning.Shape.{Shape}
-use Rattle.dr_runs.specs.Words.{halt_word, count_word}
+use Rattle.dr_runs.specs.OneSender.Words.{halt_word, count_word}
 use Rattle.dr_runs.specs.declared.look.Look.{Look}
 use Rattle.dr_ring.specs.declared.record.SenderRecord.{SenderRecord}
 use Rattle.dr_ring.specs.Meaning.Records.{claimed, halt_looked}
-use Rattle.dr_runs.specs.Looks.{look, last_look, count_looks}
+use Rattle.dr_runs.specs.Looks.{look, last_look}
+use Rattle.dr_runs.specs.OneSender.Looks.{count_looks}
 use Rattle.dr_ring.specs.Calls.Sending.{gate_looks, FoundRoom, TriesToClaim}
-use Rattle.dr_ring.specs.Inside.Parts.{sender_saw, more_claimed, LooksAtFinals, IsEnough, IsShort}
+use Rattle.dr_ring.specs.Inside.Scans.{sender_saw, more_claimed, LooksAtFinals, IsEnough, IsShort}
 use Rattle.dr_ring.specs.Inside.Fits.{IsSeenLeast, SenderFields, SenderFits}
 use Rattle.dr_runs.proofs.Answering.{bad_count_fails}
 use Rattle.dr_runs.proofs.Scans.{Rises, rises_then, rises_at_halt}

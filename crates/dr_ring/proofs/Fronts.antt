@@ -10,7 +10,7 @@ use Rattle.dr_runs.specs.declared.written.Written.{Written}
 use Rattle.dr_ring.specs.declared.record.SenderRecord.{SenderRecord}
 use Rattle.dr_ring.specs.Meaning.Records.{claimed, published_to, AreWritten}
 use Rattle.dr_ring.specs.Inside.Noted.{Noted}
-use Rattle.dr_runs.specs.Noted.{is_noted}
+use Rattle.dr_runs.specs.OneSender.Noted.{is_noted}
 use Rattle.dr_ring.specs.Inside.Fits.{SenderFields, SenderFits}
 use Rattle.dr_ring.proofs.Events.{open_events, written_count}
 use Rattle.dr_ring.proofs.Halting.{still_claimed}

@@ -1,12 +1,11 @@
 -- The run of a ring's ends, once the seats of its receivers, and of its halter if it is there, have come to the sender's.
 use Rattle.dr_seq.specs.declared.event.Event.{Event}
-use Rattle.std.proofs.Common.{◌≡◌, ℕ, ◌<◌, false, List, [], ◌∷◌, map, Option, None, Some, IfSome, refl, sym, ap, ◌∙◌, subst}
+use Rattle.std.proofs.Common.{◌≡◌, ℕ, false, List, [], ◌∷◌, map, Option, None, Some, IfSome, refl, sym, ap, ◌∙◌, subst}
 use Rattle.std.specs.Option.{ForSome}
 use Rattle.std.proofs.lemmas.List.{length-map}
 use mathlib.Core.Option.{some}
 use lib.ListN.{get_elem?}
 use Rattle.atomic_table.specs.Seated.{TableId}
-use Rattle.dr_graph.specs.Meaning.Graph.{IsGraph}
 use Rattle.dr_meaning.specs.Meaning.Transcript.{Transcript, LeadsTo}
 use Rattle.dr_meaning.specs.Meaning.Laws.{Laws}
 use Rattle.dr_runs.specs.declared.view.View.{View}
@@ -19,13 +18,14 @@ use Rattle.dr_ring.specs.declared.record.ReceiverRecord.{ReceiverRecord}
 use Rattle.dr_ring.specs.declared.record.HalterRecord.{HalterRecord}
 use Rattle.dr_ring.specs.declared.record.EndRecord.{EndRecord}
 use Rattle.dr_ring.specs.declared.record.Step.{Step}
-use Rattle.dr_ring.specs.Meaning.Shape.{Shape, handlers_of, ring_setup}
+use Rattle.dr_ring.specs.Meaning.Shape.{Shape, IsShape, handlers_of, ring_setup}
 use Rattle.dr_ring.specs.Meaning.Rule.{World, KeepsRule}
 use Rattle.dr_ring.specs.Meaning.Moments.{new_world, picture_of, Runs}
 use Rattle.dr_ring.specs.Meaning.Stores.{stores_of_sender, stores_of_receiver}
 use Rattle.dr_ring.specs.Meaning.Settling.{FoundUnhalted, Settles}
 use Rattle.dr_ring.specs.Inside.Seats.{Sitting, ring_ends, exchange, as_sender, as_halter, IsSender, IsHalter}
-use Rattle.dr_ring.specs.Inside.Stations.{sender_end, halter_end, sender_known, receiver_known, halter_known, halters_known}
+use Rattle.dr_ring.specs.Inside.Stations.{sender_end, halter_end}
+use Rattle.dr_ring.specs.Inside.Gathering.{sender_known, receiver_known, halter_known, halters_known}
 use Rattle.dr_ring.specs.Calls.Ends.{SenderEnd, ReceiverEnd, HalterEnd}
 use Rattle.dr_ring.specs.Calls.Settling.{AreReceiversOf, AreOfOneRun, HasRun}
 use Rattle.dr_ring.proofs.Seats.{kept_of}
@@ -120,11 +120,11 @@ all_unhalted k v now s es None T = tt
 all_unhalted k v now s es (Some t) T = λ off.
     let A = all_stand k v now s es (Some t) T in let R = T.ran.reached in
     subst FoundUnhalted A.sender
-    (unhalted_since k R.steps R.entries T.ran.world R.made.0 R.made.1 R.runs
+    (unhalted_since k R.steps R.entries T.ran.world R.made R.runs
     (ap (λ (q : HalterRecord). q.halted) (halter_in k v now s es t T).stands ∙ off))
 
 abbrev Moments : (Shape → List Step → Transcript Event → World → Type 0) → Type 0
-Moments P = (k : Shape) (steps : List Step) (entries : Transcript Event) (w : World) → IsGraph k.upstreams → 0 < k.size
+Moments P = (k : Shape) (steps : List Step) (entries : Transcript Event) (w : World) → IsShape k
     → Runs k steps entries (new_world k) w → P k steps entries w
 
 -- the run of the ends that came together
@@ -137,7 +137,7 @@ of_one_run k v now s es t T leads laws =
     let P : Shape → Type 0 =
     λ p. Runs p R.steps R.entries (new_world p) w × LeadsTo (ring_setup p) R.entries (picture_of p w) × Laws (ring_setup p) R.entries in
     let all : P s.knows.plan = subst P plan
-    (R.runs, leads k R.steps R.entries w R.made.0 R.made.1 R.runs, laws k R.steps R.entries w R.made.0 R.made.1 R.runs) in record {
+    (R.runs, leads k R.steps R.entries w R.made R.runs, laws k R.steps R.entries w R.made R.runs) in record {
       steps = R.steps;
       entries = R.entries;
       world = w;

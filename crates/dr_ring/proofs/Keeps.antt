@@ -10,7 +10,7 @@ use Rattle.dr_graph.specs.Meaning.Graph.{IsOrderly, IsGraph}
 use Rattle.dr_meaning.specs.Calls.Ends.{with_claimed}
 use Rattle.dr_ring.specs.Meaning.Shape.{Shape, handlers_of}
 use Rattle.dr_ring.specs.Meaning.Words.{payload_start, payload_word, words_of}
-use Rattle.dr_runs.specs.Words.{cursor_word, closed_word, halt_word, count_word, HaltAndClose}
+use Rattle.dr_runs.specs.OneSender.Words.{cursor_word, closed_word, halt_word, count_word, HaltAndClose}
 use Rattle.dr_ring.specs.declared.record.HalfWrite.{HalfWrite}
 use Rattle.dr_runs.specs.declared.look.Look.{Look}
 use Rattle.dr_ring.specs.declared.record.SenderRecord.{SenderRecord}
@@ -20,7 +20,7 @@ use Rattle.dr_runs.specs.Looks.{look}
 use Rattle.dr_ring.specs.Meaning.Rule.{World, Room, first_stored, Payload, ArePast, ReceiverKept, KeepsRule}
 use Rattle.dr_ring.specs.Meaning.Steps.{sender_knows, sender_stores}
 use Rattle.dr_seq.proofs.Apart.{slots_differ}
-use Rattle.dr_runs.proofs.Elements.{there, at_below}
+use Rattle.dr_runs.proofs.Elements.{word_at, there, at_below}
 use Rattle.dr_runs.proofs.Completions.{upstream_inside, falls, room_stays, room_seen, ahead_of_all}
 use Rattle.dr_runs.proofs.Looks.{past_set, past_more}
 use Rattle.dr_runs.proofs.Flags.{flags_stay, flags_open}
@@ -28,9 +28,6 @@ use Rattle.dr_runs.proofs.Flags.{flags_stay, flags_open}
 -- two sequences less than a round apart have payload words of their own
 pub apart : (k : Shape) (a b i j : ℕ) → a ≢ b → b < a + k.size → a < b + k.size → i < 2 → j < 2 → payload_word k a i ≢ payload_word k b j
 apart k a b i j ne up down low high e = let same : a % k.size ≡ b % k.size = omega arith in slots_differ k.size a b ne down up same
-
-abbrev pub word_at : List ℕ → ℕ → ℕ
-word_at words i = get_or words i 0
 
 -- what a handler completed, by its word
 pub receiver_of_handler : (k : Shape) (w : World) → KeepsRule k w → (h : ℕ) → h < handlers_of k

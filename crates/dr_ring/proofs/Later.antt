@@ -16,7 +16,7 @@ use Rattle.dr_meaning.specs.Meaning.Machine.{front, offered, available, least_co
 use Rattle.dr_meaning.specs.Meaning.Transcript.{Transcript}
 use Rattle.dr_ring.specs.Meaning.Shape.{Shape, handlers_of, ring_setup}
 use Rattle.dr_ring.specs.Meaning.Words.{payload_start, payload_word}
-use Rattle.dr_runs.specs.Words.{cursor_word, closed_word, count_word}
+use Rattle.dr_runs.specs.OneSender.Words.{cursor_word, closed_word, count_word}
 use Rattle.dr_runs.specs.declared.look.Look.{Look}
 use Rattle.dr_ring.specs.declared.record.ReceiverRecord.{ReceiverRecord}
 use Rattle.dr_ring.specs.declared.record.Step.{Step}
@@ -24,15 +24,17 @@ use Rattle.dr_ring.specs.declared.record.Step.TheVariants.{SenderLooksAtCount, S
 use Rattle.dr_ring.specs.declared.record.Step.TheVariants.{SenderHalts, SenderCloses, ReceiverLooksAtClosed, ReceiverLooksAtCursor, ReceiverLooksAtCount}
 use Rattle.dr_ring.specs.declared.record.Step.TheVariants.{ReceiverLoadsFirst, ReceiverLoadsSecond, ReceiverCompletes, HalterHalts}
 use Rattle.dr_ring.specs.Meaning.Records.{receiver_looked, cursor_looked, half_taken, took, completed_to}
-use Rattle.dr_runs.specs.Looks.{look, offered_by, count_looks}
+use Rattle.dr_runs.specs.Looks.{look, offered_by}
+use Rattle.dr_runs.specs.OneSender.Looks.{count_looks}
 use Rattle.dr_ring.specs.Meaning.Rule.{World, KeepsRule}
 use Rattle.dr_ring.specs.Meaning.Steps.{Happens}
 use Rattle.dr_ring.specs.Meaning.Moments.{Runs, picture_of}
 use Rattle.dr_ring.specs.Calls.Receiving.{AnswersAsSeen}
-use Rattle.dr_runs.specs.Polls.{PollLooks, offer, handed}
-use Rattle.dr_ring.specs.Calls.Replies.{HandsWhatWasThere}
-use Rattle.dr_runs.proofs.Elements.{at_below}
-use Rattle.dr_ring.proofs.Keeps.{word_at, inside_of}
+use Rattle.dr_runs.specs.Polls.{handed}
+use Rattle.dr_runs.specs.OneSender.Polls.{PollLooks, offer}
+use Rattle.dr_ring.specs.Calls.Handing.{HandsWhatWasThere}
+use Rattle.dr_runs.proofs.Elements.{at_below, word_at}
+use Rattle.dr_ring.proofs.Keeps.{inside_of}
 use Rattle.dr_runs.proofs.Completions.{count_at, upstream_inside}
 use Rattle.dr_ring.proofs.Pictures.{keeps_step}
 use Rattle.dr_ring.proofs.Replies.{at_front}

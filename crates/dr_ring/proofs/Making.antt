@@ -4,11 +4,10 @@ use Rattle.std.proofs.Common.{get_or, replicate, sym, refl, ap, ◌∙◌, subst
 use Rattle.std.proofs.lemmas.List.{length-map, length-replicate}
 use Rattle.atomic_table.specs.Table.{opening as table_opening}
 use Rattle.atomic_table.specs.Seated.{TableId}
-use Rattle.dr_graph.specs.Meaning.Graph.{IsGraph}
 use Rattle.dr_runs.specs.Seats.{seat_at, fresh_seat, first_view, rest_view}
 use Rattle.dr_runs.proofs.Lists.{at_map}
 use Rattle.dr_runs.proofs.Cuts.{ruled_fresh}
-use Rattle.dr_ring.specs.Meaning.Shape.{Shape, handlers_of}
+use Rattle.dr_ring.specs.Meaning.Shape.{Shape, IsShape, handlers_of}
 use Rattle.dr_ring.specs.Meaning.Words.{words_of}
 use Rattle.dr_ring.specs.Calls.Plans.{IsPlan}
 use Rattle.dr_ring.specs.declared.record.SenderRecord.{SenderRecord}
@@ -25,7 +24,7 @@ use Rattle.std.proofs.lemmas.Bool.{cases_lt}
 use Rattle.dr_ring.proofs.Beginning.{fresh_at, fresh_count}
 use mathlib.Core.Option.{some, some-injective}
 use lib.ListN.{get_elem?}
-use Rattle.dr_ring.specs.Calls.Making.{at_ring, AreFreshEnds}
+use Rattle.dr_ring.specs.Calls.Making.{receiver_at_ring, AreFreshEnds}
 
 -- where each end stands in the first view
 stands_fresh : (k : Shape) (j : ℕ) (e : EndRecord) → get_elem? (fresh_ends k) j ≡ some e → (end_number e ≡ j) × Stands (new_world k) e
@@ -39,8 +38,8 @@ stands_fresh k (suc (suc j)) e at =
     ((let g = number in omega arith), ap (λ (m : ℕ). get_elem? rs m) number ∙ t.1)
 
 -- a new ring keeps the rule
-pub ruled_new : (k : Shape) (ws : List ℕ) → ws ≡ replicate (words_of k) 0 → IsGraph k.upstreams → 0 < k.size → Ruled k (table_opening ws [] (all_ends k))
-ruled_new k ws is graph some_slot = ruled_fresh (exchange k) (fresh_ends k) (λ n. n) ws [] (sym is) tt (graph, some_slot) (stands_fresh k)
+pub ruled_new : (k : Shape) (ws : List ℕ) → ws ≡ replicate (words_of k) 0 → IsShape k → Ruled k (table_opening ws [] (all_ends k))
+ruled_new k ws is shape = ruled_fresh (exchange k) (fresh_ends k) (λ n. n) ws [] (sym is) tt shape (stands_fresh k)
 
 -- the next of the receivers
 fresh_next : (k : Shape) (h n : ℕ) → h < n → fresh_receivers k h (n - h) ≡ fresh_receiver k h ∷ fresh_receivers k (h + 1) (n - (h + 1))
@@ -83,32 +82,32 @@ abbrev zeros : ℕ → List ℕ
 zeros n = replicate n 0
 
 pub listed_next : (t : TableId) (k : Shape) (h n : ℕ) (items new : List ReceiverEnd) (e : ReceiverEnd) (all : List ReceiverEnd) → h < n
-    → items ++ map (at_ring t) (fresh_receivers k h (n - h)) ≡ all → new ≡ items ++ e ∷ [] → e ≡ at_ring t (fresh_receiver k h)
-    → new ++ map (at_ring t) (fresh_receivers k (h + 1) (n - (h + 1))) ≡ all
+    → items ++ map (receiver_at_ring t) (fresh_receivers k h (n - h)) ≡ all → new ≡ items ++ e ∷ [] → e ≡ receiver_at_ring t (fresh_receiver k h)
+    → new ++ map (receiver_at_ring t) (fresh_receivers k (h + 1) (n - (h + 1))) ≡ all
 listed_next t k h n items new e all lt was is own =
-    let rest = map (at_ring t) (fresh_receivers k (h + 1) (n - (h + 1))) in
+    let rest = map (receiver_at_ring t) (fresh_receivers k (h + 1) (n - (h + 1))) in
     ap (λ (xs : List ReceiverEnd). xs ++ rest) (is ∙ ap (λ (x : ReceiverEnd). items ++ x ∷ []) own)
-    ∙ append_assoc items (at_ring t (fresh_receiver k h) ∷ []) rest
-    ∙ ap (λ (rs : List ReceiverRecord). items ++ map (at_ring t) rs) (sym (fresh_next k h n lt)) ∙ was
+    ∙ append_assoc items (receiver_at_ring t (fresh_receiver k h) ∷ []) rest
+    ∙ ap (λ (rs : List ReceiverRecord). items ++ map (receiver_at_ring t) rs) (sym (fresh_next k h n lt)) ∙ was
 
-pub view_fresh : (t own : TableId) (me : Sitting) (k : Shape) (h : ℕ) → own ≡ t → me ≡ own_seat k h → receiver_end own me ≡ at_ring t (fresh_receiver k h)
+pub view_fresh : (t own : TableId) (me : Sitting) (k : Shape) (h : ℕ) → own ≡ t → me ≡ own_seat k h → receiver_end own me ≡ receiver_at_ring t (fresh_receiver k h)
 view_fresh t own me k h same is = λ i. receiver_end (same i) (is i)
 
 pub some_words : (k : Shape) (n : ℕ) (ws : List ℕ) → n ≡ length ws → ws ≡ replicate (words_of k) 0 → 0 < n
 some_words k n ws count is = let z : ℕ = 0 in let same = ap length is in let len = length-replicate (words_of k) z in omega arith
 
-fresh_end : (k : Shape) (t : TableId) (h n i : ℕ) (e : ReceiverEnd) → get_elem? (map (at_ring t) (fresh_receivers k h n)) i ≡ some e
+fresh_end : (k : Shape) (t : TableId) (h n i : ℕ) (e : ReceiverEnd) → get_elem? (map (receiver_at_ring t) (fresh_receivers k h n)) i ≡ some e
     → (e.ring ≡ t) × (e.knows.number ≡ h + i)
 fresh_end k t h zero i e at = absurd (cc)
 fresh_end k t h (suc n) zero e at =
-    subst (λ (x : ReceiverEnd). (x.ring ≡ t) × (x.knows.number ≡ h + 0)) (some-injective (at_ring t (fresh_receiver k h)) e at) (refl, omega arith)
+    subst (λ (x : ReceiverEnd). (x.ring ≡ t) × (x.knows.number ≡ h + 0)) (some-injective (receiver_at_ring t (fresh_receiver k h)) e at) (refl, omega arith)
 fresh_end k t h (suc n) (suc i) e at = let r = fresh_end k t (suc h) n i e at in let m = r.1 in (r.0, omega arith)
 
 -- the ends of a new ring are all of its ends
 pub all_fresh : (k : Shape) (s : SenderEnd) (rs : List ReceiverEnd) (t : HalterEnd) → AreFreshEnds k s rs t → AreAllEnds s rs t
 all_fresh k s rs t F = record {
   receivers = record {
-    all = ap length F.receivers ∙ length-map (fresh_receivers k 0 (handlers_of k)) (at_ring s.ring) ∙ fresh_count k 0 (handlers_of k)
+    all = ap length F.receivers ∙ length-map (fresh_receivers k 0 (handlers_of k)) (receiver_at_ring s.ring) ∙ fresh_count k 0 (handlers_of k)
         ∙ sym (ap (λ (q : SenderRecord). handlers_of q.plan) F.sender);
     each = λ h e at. (
         let x : (e.ring ≡ s.ring) × (e.knows.number ≡ 0 + h) =

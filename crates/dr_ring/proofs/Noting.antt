@@ -8,9 +8,9 @@ use Rattle.dr_runs.specs.declared.written.Written.{Written}
 use Rattle.dr_runs.specs.declared.look.Look.{Look}
 use Rattle.dr_ring.specs.declared.record.SenderRecord.{SenderRecord}
 use Rattle.dr_ring.specs.Meaning.Records.{claimed, written}
-use Rattle.dr_ring.specs.Inside.Parts.{sender_saw, more_claimed}
+use Rattle.dr_ring.specs.Inside.Scans.{sender_saw, more_claimed}
 use Rattle.dr_ring.specs.Inside.Noted.{Noted}
-use Rattle.dr_runs.specs.Noted.{Notes, is_noted, AreNoted}
+use Rattle.dr_runs.specs.OneSender.Noted.{Notes, is_noted, AreNoted}
 use Rattle.dr_runs.proofs.Noting.{notes_one}
 
 some_of : (o : Option Event) → is_some o ≡ true → (v : Event) × (o ≡ Some v)

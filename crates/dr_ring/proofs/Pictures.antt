@@ -21,7 +21,7 @@ use Rattle.dr_meaning.specs.Meaning.Transcript.{Transcript, LeadsFrom}
 use Rattle.dr_meaning.specs.Calls.Ends.{written_of}
 use Rattle.dr_ring.specs.Meaning.Shape.{Shape, ring_setup}
 use Rattle.dr_ring.specs.Meaning.Words.{payload_start, payload_word}
-use Rattle.dr_runs.specs.Words.{cursor_word, closed_word, halt_word, count_word}
+use Rattle.dr_runs.specs.OneSender.Words.{cursor_word, closed_word, halt_word, count_word}
 use Rattle.dr_ring.specs.declared.record.HalfWrite.{HalfWrite}
 use Rattle.dr_ring.specs.declared.record.ReceiverRecord.{ReceiverRecord}
 use Rattle.dr_ring.specs.Meaning.Records.{claimed, halt_looked, half_written, written, published_to, receiver_looked, tells_drained}
@@ -32,15 +32,15 @@ use Rattle.dr_ring.specs.declared.record.Step.TheVariants.{SenderLooksAtCount, S
 use Rattle.dr_ring.specs.declared.record.Step.TheVariants.{SenderHalts, SenderCloses, ReceiverLooksAtClosed, ReceiverLooksAtCursor, ReceiverLooksAtCount}
 use Rattle.dr_ring.specs.declared.record.Step.TheVariants.{ReceiverLoadsFirst, ReceiverLoadsSecond, ReceiverCompletes, HalterHalts}
 use Rattle.dr_ring.specs.Meaning.Steps.{Happens, sender_knows, sender_stores, receiver_knows, receiver_stores}
-use Rattle.dr_ring.specs.Meaning.Moments.{fresh_receiver, taken_of, picture_of, write_of, receiver_at, entries_of, Runs}
-use Rattle.dr_runs.specs.Entries.{entry, told_drained, poll_of}
-use Rattle.dr_runs.proofs.Elements.{at_below, value_at}
+use Rattle.dr_ring.specs.Meaning.Moments.{fresh_receiver, taken_of, picture_of, write_of, poll_of_event, receiver_at, entries_of, Runs}
+use Rattle.dr_runs.specs.Entries.{entry, told_drained}
+use Rattle.dr_runs.proofs.Elements.{at_below, value_at, word_at}
 use Rattle.dr_runs.proofs.Completions as completions
 use Rattle.dr_runs.proofs.Completions.{machine_room, ahead_of_all, count_at, counts_stay, count_set, upstream_inside}
 use Rattle.dr_runs.proofs.Offers.{final_inside, offered_at_most, offered_more}
 use Rattle.dr_runs.proofs.Looks.{last_look_le}
 use Rattle.dr_ring.proofs.Events.{open_events, written_count, published_same}
-use Rattle.dr_ring.proofs.Keeps.{word_at, receiver_of_handler, inside_of, orderly, seen_room, halt_seen, opens, opens_none}
+use Rattle.dr_ring.proofs.Keeps.{receiver_of_handler, inside_of, orderly, seen_room, halt_seen, opens, opens_none}
 use Rattle.dr_ring.proofs.Keeps.{keeps_sender_looks, keeps_halt_look, keeps_first, keeps_second}
 use Rattle.dr_ring.proofs.Stores.{keeps_publishes, keeps_sender_halts, keeps_halter_halts, keeps_closes, keeps_receiver_looks, tells_truth}
 use Rattle.dr_ring.proofs.Stores.{keeps_cursor_look, early, keeps_half_taken, taken_event, keeps_takes, keeps_completes}
@@ -258,7 +258,7 @@ lead_cursor_look k w h r rest end at K leads =
 -- what the load of an event's second word tells the handler h
 abbrev taken_by : Shape → World → ℕ → ReceiverRecord → Transcript Event
 taken_by k w h r =
-    poll_of h r.half (word_at w.words (payload_word k (length r.received) 1)) (length r.received) (available (ring_setup k) (picture_of k w) h)
+    poll_of_event h r.half (word_at w.words (payload_word k (length r.received) 1)) (length r.received) (available (ring_setup k) (picture_of k w) h)
 
 lead_take : (k : Shape) (w : World) (h first : ℕ) (r : ReceiverRecord) (rest : Transcript Event) (end : State Event) → get_elem? w.receivers h ≡ some r
     → r.half ≡ Some first → IsBelowBarrier k h r → KeepsRule k w
@@ -293,7 +293,7 @@ lead_take k w h first r rest end at half low K leads =
       state = record m { taken = set ts h (j + 1) };
     } in
     let exact : machine.step (ring_setup k) m (Poll h 1) ≡ outcome n = step ∙ ap outcome is in
-    subst (λ (o : Option ℕ). Leads k (poll_of h o (word_at w.words (payload_word k n 1)) n (available (ring_setup k) m h) ++ rest) m end) (sym half)
+    subst (λ (o : Option ℕ). Leads k (poll_of_event h o (word_at w.words (payload_word k n 1)) n (available (ring_setup k) m h) ++ rest) m end) (sym half)
     (leads_one (ring_setup k) (Poll h 1) (Batch n 1 (n + 1 == available (ring_setup k) m h)) (found ∷ []) rest m _ end exact going_on)
 
 lead_complete : (k : Shape) (w : World) (h n : ℕ) (r : ReceiverRecord) (rest : Transcript Event) (end : State Event) → get_elem? w.receivers h ≡ some r

@@ -7,14 +7,15 @@ use Rattle.std.proofs.lemmas.List.{length-append, append-nil}
 use Rattle.dr_seq.specs.declared.event.Event.{Event}
 use Rattle.dr_meaning.specs.declared.command.Polled.{Polled}
 use Rattle.dr_meaning.specs.declared.command.Polled.TheVariants.{Batch}
-use Rattle.dr_runs.specs.Words.{cursor_word, closed_word}
+use Rattle.dr_runs.specs.OneSender.Words.{cursor_word, closed_word}
 use Rattle.dr_runs.specs.declared.look.Look.{Look}
 use Rattle.dr_ring.specs.declared.record.ReceiverRecord.{ReceiverRecord}
 use Rattle.dr_ring.specs.Meaning.Records.{receiver_looked, cursor_looked}
-use Rattle.dr_runs.specs.Looks.{look, last_look, offered_by, count_looks}
-use Rattle.dr_ring.specs.Calls.Receiving.{looked_round, received_all, AnswersAsSeen}
-use Rattle.dr_runs.specs.Polls.{PollLooks, nothing_offered}
-use Rattle.dr_ring.specs.Inside.Parts.{receiver_saw, ups_of, IsOfferedUpTo, LooksAtUpstreams}
+use Rattle.dr_runs.specs.Looks.{look, last_look, offered_by}
+use Rattle.dr_runs.specs.OneSender.Looks.{count_looks}
+use Rattle.dr_ring.specs.Calls.Receiving.{looked_round, received_all, AnswersAsSeen, ups_of}
+use Rattle.dr_runs.specs.OneSender.Polls.{PollLooks, nothing_offered}
+use Rattle.dr_ring.specs.Inside.Polling.{receiver_saw, IsOfferedUpTo, LooksAtUpstreams}
 use Rattle.dr_ring.specs.Inside.Fits.{ReceiverFits}
 use Rattle.dr_runs.proofs.Looks.{last_look_more}
 use Rattle.dr_runs.proofs.Lists.{no_elements}

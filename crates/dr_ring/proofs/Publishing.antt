@@ -8,7 +8,7 @@ use Rattle.dr_meaning.specs.Calls.Ends.{Sent, published_below}
 use Rattle.dr_ring.specs.declared.record.SenderRecord.{SenderRecord}
 use Rattle.dr_ring.specs.Meaning.Records.{published_to, AreWritten}
 use Rattle.dr_ring.specs.Calls.Sending.{TriesToPublish}
-use Rattle.dr_runs.specs.Noted.{AreNoted, HasUnnoted}
+use Rattle.dr_runs.specs.OneSender.Noted.{AreNoted, HasUnnoted}
 use Rattle.dr_ring.specs.Inside.Fits.{SenderFields, SenderFits}
 use Rattle.dr_runs.proofs.Answering.{accepted, unwritten, out_of_order}
 use Rattle.dr_ring.proofs.Noting.{noted_written, unnoted_open}

@@ -14,10 +14,10 @@ use Rattle.dr_meaning.specs.Meaning.Machine.{front}
 use Rattle.dr_meaning.specs.Calls.Replies.{claim_reply, poll_reply}
 use Rattle.dr_meaning.specs.Calls.Ends.{IsAnswerOf, as_end}
 use Rattle.dr_graph.specs.Meaning.Graph.{finals}
-use Rattle.dr_runs.specs.Words.{halt_word, count_word}
+use Rattle.dr_runs.specs.OneSender.Words.{halt_word, count_word}
 use Rattle.dr_runs.specs.declared.look.Look.{Look}
 use Rattle.dr_runs.specs.Looks.{look, looks_at}
-use Rattle.dr_runs.specs.Replies.{claim_tests_of, DecidesClaimOf, DecidesPollOf}
+use Rattle.dr_runs.specs.OneSender.Replies.{claim_tests_of, DecidesClaimOf, DecidesPollOf}
 use Rattle.dr_ring.specs.Meaning.Shape.{Shape}
 use Rattle.dr_ring.specs.declared.record.SenderRecord.{SenderRecord}
 use Rattle.dr_ring.specs.declared.record.ReceiverRecord.{ReceiverRecord}

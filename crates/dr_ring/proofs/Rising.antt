@@ -5,7 +5,7 @@ use Rattle.dr_seq.specs.declared.event.Event.{Event}
 use Rattle.dr_meaning.specs.Meaning.Transcript.{Transcript}
 use Rattle.dr_ring.specs.Meaning.Shape.{Shape}
 use Rattle.dr_ring.specs.Meaning.Words.{payload_start, payload_word}
-use Rattle.dr_runs.specs.Words.{cursor_word, closed_word, halt_word, count_word}
+use Rattle.dr_runs.specs.OneSender.Words.{cursor_word, closed_word, halt_word, count_word}
 use Rattle.dr_ring.specs.declared.record.Step.{Step}
 use Rattle.dr_ring.specs.declared.record.Step.TheVariants.{SenderLooksAtCount, SenderLooksAtHalt, SenderStoresFirst, SenderStoresSecond, SenderPublishes}
 use Rattle.dr_ring.specs.declared.record.Step.TheVariants.{SenderHalts, SenderCloses, ReceiverLooksAtClosed, ReceiverLooksAtCursor, ReceiverLooksAtCount}
@@ -13,8 +13,7 @@ use Rattle.dr_ring.specs.declared.record.Step.TheVariants.{ReceiverLoadsFirst, R
 use Rattle.dr_ring.specs.Meaning.Rule.{World, KeepsRule}
 use Rattle.dr_ring.specs.Meaning.Steps.{Happens}
 use Rattle.dr_ring.specs.Meaning.Moments.{Runs}
-use Rattle.dr_runs.proofs.Elements.{at_below}
-use Rattle.dr_ring.proofs.Keeps.{word_at}
+use Rattle.dr_runs.proofs.Elements.{at_below, word_at}
 use Rattle.dr_ring.proofs.Pictures.{keeps_step}
 
 -- the word is no less there

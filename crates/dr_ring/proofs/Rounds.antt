@@ -6,14 +6,17 @@ use Rattle.std.proofs.lemmas.Bool.{cases_lt}
 use Rattle.std.proofs.lemmas.List.{length-append, append-nil}
 use Rattle.dr_graph.specs.Meaning.Graph.{finals}
 use Rattle.dr_ring.specs.Calls.Plans.{IsPlan}
-use Rattle.dr_runs.specs.Words.{count_word}
+use Rattle.dr_runs.specs.OneSender.Words.{count_word}
 use Rattle.dr_runs.specs.declared.look.Look.{Look}
 use Rattle.dr_ring.specs.declared.record.SenderRecord.{SenderRecord}
 use Rattle.dr_ring.specs.declared.record.ReceiverRecord.{ReceiverRecord}
 use Rattle.dr_ring.specs.Meaning.Records.{sender_looked, receiver_looked}
-use Rattle.dr_runs.specs.Looks.{look, last_look, offered_by, lesser_of, count_looks}
+use Rattle.dr_runs.specs.Looks.{look, last_look, offered_by, lesser_of}
+use Rattle.dr_runs.specs.OneSender.Looks.{count_looks}
 use Rattle.dr_ring.specs.Inside.Fits.{IsSeenLeast}
-use Rattle.dr_ring.specs.Inside.Parts.{LooksAtFinals, IsEnough, IsShort, receiver_saw, ups_of, LooksAtUpstreams}
+use Rattle.dr_ring.specs.Calls.Receiving.{ups_of}
+use Rattle.dr_ring.specs.Inside.Polling.{receiver_saw, LooksAtUpstreams}
+use Rattle.dr_ring.specs.Inside.Scans.{LooksAtFinals, IsEnough, IsShort}
 use Rattle.dr_runs.proofs.Lists.{no_elements, take_whole}
 use Rattle.dr_runs.proofs.Looks.{last_look_more, last_least, looks_more}
 use Rattle.dr_runs.proofs.Scans as scans

@@ -23,7 +23,7 @@ use Rattle.dr_ring.proofs.Beginning.{kept_opening}
 
 -- what the rule comes to
 pub kept_of : (k : Shape) (w : World) → IsReached (exchange k) w → KeepsRule k w
-kept_of k w R = keeps_runs k R.steps R.entries (new_world k) w R.runs (kept_opening k R.made.0 R.made.1)
+kept_of k w R = keeps_runs k R.steps R.entries (new_world k) w R.runs (kept_opening k R.made)
 
 -- the other ends stand where the record of one changes
 not_sender : (k : Shape) (w : World) (us : List ℕ) (q : SenderRecord) → OthersStand (exchange k) w (world_of us q w.receivers w.halter) 0

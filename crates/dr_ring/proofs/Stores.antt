@@ -13,7 +13,7 @@ use Rattle.dr_graph.specs.Meaning.Graph.{upstreams_of}
 use Rattle.dr_meaning.specs.Calls.Ends.{written_of}
 use Rattle.dr_ring.specs.Meaning.Shape.{Shape, handlers_of}
 use Rattle.dr_ring.specs.Meaning.Words.{payload_start, payload_word}
-use Rattle.dr_runs.specs.Words.{cursor_word, closed_word, halt_word, count_word, HaltAndClose}
+use Rattle.dr_runs.specs.OneSender.Words.{cursor_word, closed_word, halt_word, count_word, HaltAndClose}
 use Rattle.dr_runs.specs.declared.look.Look.{Look}
 use Rattle.dr_ring.specs.declared.record.SenderRecord.{SenderRecord}
 use Rattle.dr_ring.specs.declared.record.ReceiverRecord.{ReceiverRecord}
@@ -22,11 +22,11 @@ use Rattle.dr_runs.specs.Looks.{last_look}
 use Rattle.dr_ring.specs.Meaning.Records.{cursor_looked, half_taken, took, completed_to, halter_halted, AreWritten, IsBelowBarrier}
 use Rattle.dr_ring.specs.Meaning.Rule.{World, Room, Payload, ArePast, ReceiverKept, KeepsRule}
 use Rattle.dr_ring.specs.Meaning.Steps.{sender_stores, receiver_knows, receiver_stores}
-use Rattle.dr_runs.proofs.Elements.{each_set}
+use Rattle.dr_runs.proofs.Elements.{each_set, word_at}
 use Rattle.dr_runs.proofs.Looks.{past_set, past_more, last_look_le}
 use Rattle.dr_ring.proofs.Events.{open_events, written_count, written_at}
 use Rattle.dr_runs.proofs.Completions.{counts_rise, upstream_inside, room_stays}
-use Rattle.dr_ring.proofs.Keeps.{word_at, receiver_of_handler, inside_of, above, payload_stays, receiver_stays}
+use Rattle.dr_ring.proofs.Keeps.{receiver_of_handler, inside_of, above, payload_stays, receiver_stays}
 use Rattle.dr_runs.proofs.Flags.{flags_stay, flags_open, drained_truth, halts_flags, closes_flags}
 
 payload_publishes : (k : Shape) (words : List ℕ) (r : SenderRecord) (n : ℕ) → length r.sent.published < n → n ≤ claimed r → AreWritten r n

@@ -6,7 +6,7 @@ use mathlib.Core.Option.{some}
 use lib.ListN.{get_elem?}
 use Rattle.dr_seq.specs.declared.event.Event.{Event}
 use Rattle.dr_meaning.specs.Meaning.Transcript.{Transcript}
-use Rattle.dr_runs.specs.Words.{cursor_word, closed_word, count_word}
+use Rattle.dr_runs.specs.OneSender.Words.{cursor_word, closed_word, count_word}
 use Rattle.dr_runs.specs.Entries.{told_drained}
 use Rattle.dr_runs.proofs.Told.{WasTold, all_stay, one_hears, none_hears, told_runs}
 use Rattle.dr_ring.specs.Meaning.Shape.{Shape, handlers_of}
@@ -21,7 +21,7 @@ use Rattle.dr_ring.specs.Meaning.Rule.{World}
 use Rattle.dr_ring.specs.Meaning.Steps.{Happens}
 use Rattle.dr_ring.specs.Meaning.Moments.{Runs, entries_of, new_world, receiver_at, WereTold}
 use Rattle.dr_ring.proofs.Beginning.{fresh_at}
-use Rattle.dr_ring.proofs.Keeps.{word_at}
+use Rattle.dr_runs.proofs.Elements.{word_at}
 use Rattle.dr_ring.proofs.Pictures.{is_receiver}
 
 -- the receiver h was told so

@@ -1,14 +1,13 @@
 -- Before it halts a ring itself, a sender finds no halt that the halter has not stored.
-use Rattle.std.proofs.Common.{◌≡◌, ◌≢◌, ℕ, ◌<◌, if◌then◌else◌, Bool, true, false, List, [], ◌∷◌, ◌++◌, sym, refl, ◌∙◌, subst, ⊎_elim, arith}
+use Rattle.std.proofs.Common.{◌≡◌, ◌≢◌, ℕ, if◌then◌else◌, Bool, true, false, List, [], ◌∷◌, ◌++◌, sym, refl, ◌∙◌, subst, ⊎_elim, arith}
 use Rattle.std.proofs.lemmas.Bool.{false≢true}
-use Rattle.dr_graph.specs.Meaning.Graph.{IsGraph}
 use Rattle.dr_meaning.specs.Meaning.Transcript.{Transcript}
 use Rattle.dr_seq.specs.declared.event.Event.{Event}
 use Rattle.dr_runs.specs.declared.look.Look.{Look}
 use Rattle.dr_runs.specs.Looks.{look, last_look}
-use Rattle.dr_runs.specs.Words.{halt_word, count_word}
+use Rattle.dr_runs.specs.OneSender.Words.{halt_word, count_word}
 use Rattle.dr_runs.proofs.Looks.{last_look_more, last_look_else}
-use Rattle.dr_ring.specs.Meaning.Shape.{Shape}
+use Rattle.dr_ring.specs.Meaning.Shape.{Shape, IsShape}
 use Rattle.dr_ring.specs.declared.record.Step.{Step}
 use Rattle.dr_ring.specs.declared.record.Step.TheVariants.{SenderLooksAtCount, SenderLooksAtHalt, SenderStoresFirst, SenderStoresSecond, SenderPublishes}
 use Rattle.dr_ring.specs.declared.record.Step.TheVariants.{SenderHalts, SenderCloses, ReceiverLooksAtClosed, ReceiverLooksAtCursor, ReceiverLooksAtCount}
@@ -18,7 +17,7 @@ use Rattle.dr_ring.specs.Meaning.Settling.{FoundUnhalted}
 use Rattle.dr_ring.specs.Meaning.Steps.{Happens}
 use Rattle.dr_ring.specs.Meaning.Moments.{Runs, new_world}
 use Rattle.dr_ring.proofs.Beginning.{kept_opening}
-use Rattle.dr_ring.proofs.Keeps.{word_at}
+use Rattle.dr_runs.proofs.Elements.{word_at}
 use Rattle.dr_ring.proofs.Pictures.{keeps_step}
 
 -- without a halt of the halter's the sender found none but its own
@@ -74,6 +73,6 @@ unhalted_runs k [] es w u R K is = subst Unhalted R.1 is
 unhalted_runs k (s ∷ steps) es w u R K is = unhalted_runs k steps R.1 R.0 u R.4 (keeps_step k s w R.0 R.2 K) (unhalted_step k s w R.0 R.2 K is)
 
 -- from the opening on
-pub unhalted_since : (k : Shape) (steps : List Step) (es : Transcript Event) (u : World) → IsGraph k.upstreams → 0 < k.size → Runs k steps es (new_world k) u
+pub unhalted_since : (k : Shape) (steps : List Step) (es : Transcript Event) (u : World) → IsShape k → Runs k steps es (new_world k) u
     → u.halter.halted ≡ false → FoundUnhalted u.sender
-unhalted_since k steps es u graph some_slot R = unhalted_runs k steps es (new_world k) u R (kept_opening k graph some_slot) (λ off. refl)
+unhalted_since k steps es u shape R = unhalted_runs k steps es (new_world k) u R (kept_opening k shape) (λ off. refl)

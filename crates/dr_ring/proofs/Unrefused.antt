@@ -16,7 +16,7 @@ use Rattle.dr_meaning.specs.Calls.Calling.{CallsLead, InletCall, TriesClaim, Wri
 use Rattle.dr_meaning.specs.Calls.Ends.{Claims, GivesStretch, Sent, MayFail, MayHold, Publishes, Writes, WritesAll}
 use Rattle.dr_runs.specs.declared.look.Look.{Look}
 use Rattle.dr_runs.specs.Looks.{look, last_look}
-use Rattle.dr_runs.specs.Words.{halt_word}
+use Rattle.dr_runs.specs.OneSender.Words.{halt_word}
 use Rattle.dr_runs.proofs.Looks.{last_look_more}
 use Rattle.dr_ring.specs.declared.record.SenderRecord.{SenderRecord}
 use Rattle.dr_ring.specs.Meaning.Moments.{fresh_sender}
@@ -25,7 +25,7 @@ use Rattle.dr_ring.specs.Meaning.Settling.{FoundUnhalted}
 use Rattle.dr_ring.specs.Meaning.Shape.{Shape}
 use Rattle.dr_ring.specs.Calls.Ends.{SenderEnd, SenderPlace, sender_place}
 use Rattle.dr_ring.specs.Calls.Sending.{ClosesOnceDone, LooksToClaim, gate_looks, tests_of_claim}
-use Rattle.dr_ring.specs.Calls.Telling.{sender_does}
+use Rattle.dr_ring.specs.Calls.Inlets.{sender_does}
 
 pub claims : (a b : SenderEnd) (n : ℕ) (answer : Result Claimed Trouble) → sender_does a (TriesClaim n answer) b
     → Claims n answer a.knows.sent b.knows.sent × GivesStretch n answer

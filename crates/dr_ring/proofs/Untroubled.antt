@@ -9,7 +9,7 @@ use Rattle.dr_meaning.specs.declared.ends.Trouble.TheVariants.{Memory, Refused}
 use Rattle.dr_meaning.specs.Calls.Calling.{PollsInto, CompletesBelow}
 use Rattle.dr_meaning.specs.Calls.Ends.{Completes, Takes}
 use Rattle.dr_ring.specs.Calls.Ends.{ReceiverEnd, received_of}
-use Rattle.dr_ring.specs.Calls.Telling.{receiver_does}
+use Rattle.dr_ring.specs.Calls.Outlets.{receiver_does}
 
 pub polls : (a b : ReceiverEnd) (before after : List Event) (trouble : Trouble) → 0 < length before
     → receiver_does a (PollsInto before after (Err trouble)) b → ⊥

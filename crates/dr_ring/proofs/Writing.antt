@@ -5,7 +5,7 @@ use Rattle.dr_seq.proofs.Sizes.{size_positive}
 use Rattle.dr_runs.specs.declared.written.Written.{Written}
 use Rattle.dr_ring.specs.declared.record.SenderRecord.{SenderRecord}
 use Rattle.dr_ring.specs.Meaning.Records.{written}
-use Rattle.dr_runs.specs.Noted.{Notes}
+use Rattle.dr_runs.specs.OneSender.Noted.{Notes}
 use Rattle.dr_ring.specs.Inside.Fits.{SenderFields, SenderFits}
 use Rattle.dr_ring.proofs.Noting.{noted_write}
 

@@ -11,8 +11,9 @@ use Rattle.dr_ring.specs.declared.record.Step.{Step}
 use Rattle.dr_ring.specs.declared.record.Step.TheVariants.{SenderStoresFirst, SenderStoresSecond}
 use Rattle.dr_runs.specs.Runs.{IsBeginning}
 use Rattle.dr_ring.specs.Calls.Ends.{SenderEnd, sender_place}
-use Rattle.dr_ring.proofs.Stations.{begins_same, begins_on}
-use Rattle.dr_ring.specs.Calls.Sending.{OnlySends, WriteAllCall, WriteCall, writes_from}
+use Rattle.dr_runs.proofs.Beginnings.{begins_same, begins_on}
+use Rattle.dr_ring.specs.Calls.Sending.{OnlySends, WriteCall}
+use Rattle.dr_ring.specs.Calls.Inlets.{WriteAllCall, writes_from}
 
 -- a sender has written the first k of some events
 pub record WroteFirst (e : SenderEnd) (lo : ℕ) (events : List Event) (k : ℕ) (e' : SenderEnd) : Type 0 where

@@ -1,10 +1,13 @@
 -- What public contracts cite: what an end is, and what its calls answer and leave.
-pub mod Settling
 pub mod Plans
-pub mod Ends
 pub mod Finds
+pub mod Ends
+pub mod Making
+pub mod Fault
+pub mod Settling
 pub mod Sending
 pub mod Receiving
-pub mod Telling
-pub mod Making
 pub mod Replies
+pub mod Handing
+pub mod Inlets
+pub mod Outlets

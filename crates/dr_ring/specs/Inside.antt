@@ -4,4 +4,6 @@ pub mod Seats
 pub mod Stations
 pub mod Noted
 pub mod Fits
-pub mod Parts
+pub mod Scans
+pub mod Polling
+pub mod Gathering

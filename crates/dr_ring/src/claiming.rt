@@ -4,7 +4,7 @@ ghost use Rattle.std.specs.Prelude.{◌≡◌, ◌≤◌, if◌then◌else◌, l
 ghost use Rattle.dr_ring.specs.Meaning.Records.{halt_looked, SeesRoom};
 ghost use Rattle.dr_ring.specs.Inside.Fits.{IsSeenLeast};
 ghost use Rattle.dr_ring.specs.Calls.Ends.{HasLoaded};
-ghost use Rattle.dr_ring.specs.Inside.Parts.{Scans};
+ghost use Rattle.dr_ring.specs.Inside.Scans.{Scans};
 
 use crate::laws::SenderStation;
 use std::marker::Brand;

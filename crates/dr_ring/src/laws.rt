@@ -9,21 +9,21 @@
 mod halter;
 mod receiver;
 mod sender;
-pub mod settling;
+pub(crate) mod settling;
 
 ghost use Rattle.dr_seq.specs.declared.event.Event.{Event};
-ghost use Rattle.std.specs.Prelude.{List, ℕ, ◌≡◌, ◌<◌, ◌≤◌, slice_index};
-ghost use Rattle.dr_graph.specs.Meaning.Graph.{IsGraph};
+ghost use Rattle.std.specs.Prelude.{List, ◌≡◌, slice_index};
 ghost use Rattle.dr_meaning.specs.Meaning.Transcript.{Transcript, LeadsTo};
 ghost use Rattle.dr_meaning.specs.Meaning.Laws.{Laws};
 ghost use Rattle.dr_meaning.specs.Meaning.Progress.{NobodyIsStuck};
-ghost use Rattle.dr_ring.specs.Meaning.Shape.{Shape, ring_setup, handlers_of};
-ghost use Rattle.dr_runs.specs.Words.{halt_word, count_word};
+ghost use Rattle.dr_ring.specs.Meaning.Shape.{Shape, IsShape, ring_setup};
+ghost use Rattle.dr_runs.specs.OneSender.Words.{halt_word};
 ghost use Rattle.dr_ring.specs.Meaning.Records.{claimed};
 ghost use Rattle.dr_ring.specs.Meaning.Rule.{World, KeepsRule};
 ghost use Rattle.dr_ring.specs.declared.record.Step.{Step};
-ghost use Rattle.dr_ring.specs.Meaning.Moments.{Runs, new_world, picture_of, WereTold};
-ghost use Rattle.dr_ring.specs.Calls.Replies.{RepliesAsAnswered, HandsWhatWasThere};
+ghost use Rattle.dr_ring.specs.Meaning.Moments.{Runs, new_world, picture_of, NothingFalls, WereTold};
+ghost use Rattle.dr_ring.specs.Calls.Replies.{RepliesAsAnswered};
+ghost use Rattle.dr_ring.specs.Calls.Handing.{HandsWhatWasThere};
 
 use crate::plan::Plan;
 use crate::record::View;
@@ -34,7 +34,6 @@ pub use halter::Halter;
 pub use receiver::ReceiverStation;
 pub use sender::SenderStation;
 use std::alloc::Global;
-use std::marker::Brand;
 
 /// The rule that every step keeps.
 pub struct RingRule;
@@ -63,17 +62,6 @@ pub(crate) struct RingBody {
     pub(crate) plan: Plan,
 }
 
-/// A number that a step names, for its proof alone.
-pub trait Names {
-    ghost number: { ℕ };
-
-    ghost use Rattle.std.specs.Prelude.{ℕ};
-}
-
-impl Names for Brand {
-    ghost number = { 0 };
-}
-
 /// Whatever steps fall in whatever order: between any two of them the rule holds, the entries of
 /// their events lead the machine to the ring's picture, in which nobody is stuck, and the
 /// transcript has the five laws. An end that was told `Drained` was told so by a poll of the
@@ -84,23 +72,23 @@ impl Names for Brand {
 /// nothing more is claimed. It does nothing when it runs: the contract is the theorem.
 pub fn moments()
     // Between any two steps the ring's rule holds.
-    ensures rule { (k : Shape) (steps : List Step) (entries : Transcript Event) (w : World) → IsGraph k.upstreams → 0 < k.size → Runs k steps entries (new_world k) w → KeepsRule k w }
+    ensures rule { (k : Shape) (steps : List Step) (entries : Transcript Event) (w : World) → IsShape k → Runs k steps entries (new_world k) w → KeepsRule k w }
     // The entries of the steps' events lead the machine to the ring's picture.
-    ensures leads { (k : Shape) (steps : List Step) (entries : Transcript Event) (w : World) → IsGraph k.upstreams → 0 < k.size → Runs k steps entries (new_world k) w → LeadsTo (ring_setup k) entries (picture_of k w) }
+    ensures leads { (k : Shape) (steps : List Step) (entries : Transcript Event) (w : World) → IsShape k → Runs k steps entries (new_world k) w → LeadsTo (ring_setup k) entries (picture_of k w) }
     // This transcript has the five laws.
-    ensures laws { (k : Shape) (steps : List Step) (entries : Transcript Event) (w : World) → IsGraph k.upstreams → 0 < k.size → Runs k steps entries (new_world k) w → Laws (ring_setup k) entries }
+    ensures laws { (k : Shape) (steps : List Step) (entries : Transcript Event) (w : World) → IsShape k → Runs k steps entries (new_world k) w → Laws (ring_setup k) entries }
     // Nobody is stuck in the picture.
-    ensures progress { (k : Shape) (steps : List Step) (entries : Transcript Event) (w : World) → IsGraph k.upstreams → 0 < k.size → Runs k steps entries (new_world k) w → NobodyIsStuck (ring_setup k) (picture_of k w) }
+    ensures progress { (k : Shape) (steps : List Step) (entries : Transcript Event) (w : World) → IsShape k → Runs k steps entries (new_world k) w → NobodyIsStuck (ring_setup k) (picture_of k w) }
     // An end that was told `Drained` was told so by a poll of the transcript.
-    ensures told { (k : Shape) (steps : List Step) (entries : Transcript Event) (w : World) → IsGraph k.upstreams → 0 < k.size → Runs k steps entries (new_world k) w → WereTold w entries }
+    ensures told { (k : Shape) (steps : List Step) (entries : Transcript Event) (w : World) → IsShape k → Runs k steps entries (new_world k) w → WereTold w entries }
     // What an end answers is what the machine then replies on the picture, at the look that decides.
-    ensures replies { (k : Shape) (steps : List Step) (entries : Transcript Event) (w : World) → IsGraph k.upstreams → 0 < k.size → Runs k steps entries (new_world k) w → RepliesAsAnswered k w }
+    ensures replies { (k : Shape) (steps : List Step) (entries : Transcript Event) (w : World) → IsShape k → Runs k steps entries (new_world k) w → RepliesAsAnswered k w }
     // As far as there is room, a poll hands over what was there at any moment since its receiver's last step.
-    ensures hands { (k : Shape) (steps more : List Step) (entries rest : Transcript Event) (w u : World) → IsGraph k.upstreams → 0 < k.size → Runs k steps entries (new_world k) w → Runs k more rest w u → HandsWhatWasThere k w u }
+    ensures hands { (k : Shape) (steps more : List Step) (entries rest : Transcript Event) (w u : World) → IsShape k → Runs k steps entries (new_world k) w → Runs k more rest w u → HandsWhatWasThere k w u }
     // No handler's count falls.
-    ensures rises { (k : Shape) (steps more : List Step) (entries rest : Transcript Event) (w u : World) → IsGraph k.upstreams → 0 < k.size → Runs k steps entries (new_world k) w → Runs k more rest w u → (f : ℕ) → f < handlers_of k → slice_index w.words (count_word f) ≤ slice_index u.words (count_word f) }
+    ensures rises { (k : Shape) (steps more : List Step) (entries rest : Transcript Event) (w u : World) → IsShape k → Runs k steps entries (new_world k) w → Runs k more rest w u → NothingFalls k w u }
     // Once halt is 1, nothing more is claimed.
-    ensures halted { (k : Shape) (steps more : List Step) (entries rest : Transcript Event) (w u : World) → IsGraph k.upstreams → 0 < k.size → Runs k steps entries (new_world k) w → Runs k more rest w u → slice_index w.words halt_word ≡ 1 → claimed u.sender ≡ claimed w.sender }
+    ensures halted { (k : Shape) (steps more : List Step) (entries rest : Transcript Event) (w u : World) → IsShape k → Runs k steps entries (new_world k) w → Runs k more rest w u → slice_index w.words halt_word ≡ 1 → claimed u.sender ≡ claimed w.sender }
 {
     every_transcript_is_lawful::<Event>();
     nobody_is_stuck::<Event>();

@@ -9,8 +9,11 @@
 #![tactic(auto)]
 
 mod claiming;
+mod fault;
+mod inlet;
 pub mod laws;
 mod opening;
+mod outlet;
 mod plan;
 mod polling;
 mod receiver;
@@ -18,7 +21,8 @@ pub mod record;
 mod sender;
 mod settled;
 
-pub use dr_runs::{HandlerCounts, RingFault};
+pub use dr_runs::HandlerCounts;
+pub use fault::RingFault;
 pub use laws::Halter;
 pub use opening::ring;
 pub use plan::Plan;

@@ -9,32 +9,20 @@ ghost use Rattle.dr_ring.specs.Meaning.Moments.{fresh_receivers};
 ghost use Rattle.dr_runs.specs.Seats.{fresh_seat};
 ghost use Rattle.dr_ring.specs.Inside.Seats.{IsAtTable, known_receivers};
 ghost use Rattle.dr_ring.specs.Calls.Settling.{AreAllEnds};
-ghost use Rattle.dr_ring.specs.Calls.Making.{at_ring, AreFreshEnds};
-ghost use Rattle.dr_runs.specs.Fault.{fault_of};
+ghost use Rattle.dr_ring.specs.Calls.Making.{receiver_at_ring, AreFreshEnds};
+ghost use Rattle.dr_ring.specs.Calls.Fault.{fault_of};
 
+use crate::fault::RingFault;
 use crate::laws::{Halter, ReceiverStation, RingBody, RingSeat, RingTable, SenderStation};
 use crate::plan::Plan;
 use crate::receiver::Receiver;
-use crate::record::View;
 use crate::sender::Sender;
-use atomic_table::Split;
 use dr_graph::Graph;
 use dr_meaning::is_valid_limit;
-use dr_runs::{HandlerCounts, RingFault, Written};
+use dr_runs::{Cut, HandlerCounts, Written};
 use dr_seq::{GateCache, Size};
 use std::alloc::{AllocError, Global};
 use std::sync::Arc;
-
-// The first record of a view stays with its seat, and the others go to another.
-struct Cut;
-
-impl Split<View> for Cut {
-    ghost use Rattle.dr_runs.specs.Seats.{first_view, rest_view};
-
-    ghost left = { first_view };
-
-    ghost right = { rest_view };
-}
 
 // The receivers, each with its seat. `rest` stands for them all.
 fn receivers(
@@ -45,7 +33,7 @@ fn receivers(
     requires table { IsAtTable rest.table_id (arc_value ring.now).table.shared.table_id (arc_value ring.now).plan }
     requires made { IsPlan (arc_value ring.now).plan }
     requires all { rest.me ≡ fresh_seat (known_receivers (arc_value ring.now).plan 0 (handlers_of (arc_value ring.now).plan)) }
-    ensures { IfOk result (λ v. v.items ≡ map (at_ring rest.table_id) (fresh_receivers (arc_value ring.now).plan 0 (handlers_of (arc_value ring.now).plan))) }
+    ensures { IfOk result (λ v. v.items ≡ map (receiver_at_ring rest.table_id) (fresh_receivers (arc_value ring.now).plan 0 (handlers_of (arc_value ring.now).plan))) }
 {
     let handlers = ring.plan.handlers();
     let mut receivers = Vec::with_capacity(alloc, handlers)?;

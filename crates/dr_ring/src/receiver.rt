@@ -1,14 +1,11 @@
 //! An end that receives every event.
 
-ghost use Rattle.std.specs.Prelude.{◌≡◌, ◌<◌, ◌^◌, ◌||◌, length, Some};
-ghost use Rattle.dr_meaning.specs.Calls.Ends.{IsEndsAnswer, PollAnswers, CompleteAnswers, is_drained, Takes, Completes};
-ghost use Rattle.dr_ring.specs.Calls.Ends.{receiver_place, received_of};
+ghost use Rattle.std.specs.Prelude.{◌≡◌, ◌<◌, ◌^◌, length};
 ghost use Rattle.dr_runs.specs.Looks.{looks_counted};
 ghost use Rattle.dr_ring.specs.Calls.Receiving.{PollCall, CompleteCall};
-ghost use Rattle.dr_ring.specs.Calls.Telling.{receiver_does};
 
 use crate::laws::ReceiverStation;
-use dr_meaning::{Outlet, Polled, Refusal, Trouble};
+use dr_meaning::{Polled, Refusal};
 use dr_runs::nothing_offered;
 use dr_seq::Event;
 use std::marker::Model;
@@ -38,7 +35,7 @@ impl Receiver {
     /// of `out`. It looks at closed, then at the cursor, then at the count of each upstream.
     ///
     /// It is refused with `BadCount`, and changes nothing, where `out` is empty.
-    #[tactic(auto, using(crate::proofs::Stations::begins_same, crate::proofs::Stations::begins_on))]
+    #[tactic(auto, using(dr_runs::proofs::Beginnings::begins_same, dr_runs::proofs::Beginnings::begins_on))]
     pub fn poll_into(&mut self, out: &mut [Event]) -> Result<Polled, Refusal>
         // By what its looks find it takes the next events, or says why there are none, and stores nothing.
         ensures call { PollCall self.old out.old self.new out.new result }
@@ -70,7 +67,7 @@ impl Receiver {
     /// may use their slots again once all final handlers have completed them.
     ///
     /// Refusals in their order: `Behind` (more are completed), `NotTaken`. They change nothing.
-    #[tactic(auto, using(crate::proofs::Stations::begins_same, crate::proofs::Stations::begins_on))]
+    #[tactic(auto, using(dr_runs::proofs::Beginnings::begins_same, dr_runs::proofs::Beginnings::begins_on))]
     pub fn complete(&mut self, upto: u64) -> Result<(), Refusal>
         // It answers by what it took and completed, and stores its count; a refused call stores nothing.
         ensures { CompleteCall self.old upto self.new result }
@@ -115,41 +112,5 @@ impl Receiver {
     {
         let Receiver { station, .. } = self;
         station
-    }
-}
-
-impl Outlet<Event> for Receiver {
-    ghost use Rattle.dr_ring.specs.Calls.Ends.{ReceiverPlace};
-
-    ghost Kept = { ReceiverPlace };
-
-    ghost kept = { receiver_place };
-
-    ghost received = { λ e. Some (received_of e.knows) };
-
-    ghost told = { λ e. e.knows.told };
-
-    ghost does = { receiver_does };
-
-    fn poll_into(&mut self, out: &mut [Event]) -> Result<Polled, Trouble>
-        ensures kept { receiver_place self.new ≡ receiver_place self.old }
-        ensures answer { PollAnswers (Some (received_of self.old.knows)) out.old out.new result }
-        ensures told { self.new.knows.told ≡ (self.old.knows.told || is_drained result) }
-        ensures received { Takes out.new result (received_of self.old.knows) (received_of self.new.knows) }
-        // It is the receiver's own poll, and memory never runs out.
-        ensures own { IsEndsAnswer (PollCall self.old out.old self.new out.new) result }
-    {
-        Ok(Receiver::poll_into(self, out)?)
-    }
-
-    fn complete(&mut self, upto: u64) -> Result<(), Trouble>
-        ensures kept { receiver_place self.new ≡ receiver_place self.old }
-        ensures answer { CompleteAnswers (Some (received_of self.old.knows)) upto result }
-        ensures told { self.new.knows.told ≡ self.old.knows.told }
-        ensures received { Completes upto result (received_of self.old.knows) (received_of self.new.knows) }
-        // It is the receiver's own completion, and memory never runs out.
-        ensures own { IsEndsAnswer (CompleteCall self.old upto self.new) result }
-    {
-        Ok(Receiver::complete(self, upto)?)
     }
 }

@@ -1,16 +1,12 @@
 //! The one end that claims, writes and publishes.
 
-ghost use Rattle.std.specs.Prelude.{◌≡◌, ◌+◌, ◌^◌, ◌≤◌, Some, length, take};
-ghost use Rattle.dr_meaning.specs.Calls.Calling.{WritesBy};
-ghost use Rattle.dr_meaning.specs.Calls.Ends.{IsEndsAnswer, ClaimAnswers, WriteAnswers, PublishAnswers, Claims, Writes, Publishes, WriteAllAnswers, WritesAll};
-ghost use Rattle.dr_ring.specs.Calls.Ends.{sender_place};
+ghost use Rattle.std.specs.Prelude.{◌≡◌, length};
 ghost use Rattle.dr_ring.specs.Meaning.Records.{claimed as claimed_by};
 ghost use Rattle.dr_runs.specs.Looks.{looks_counted};
-ghost use Rattle.dr_ring.specs.Calls.Sending.{ClaimCall, WriteCall, WriteAllCall, PublishCall, CloseCall, ClosesOnceDone};
-ghost use Rattle.dr_ring.specs.Calls.Telling.{sender_does};
+ghost use Rattle.dr_ring.specs.Calls.Sending.{ClaimCall, WriteCall, PublishCall, CloseCall, ClosesOnceDone};
 
 use crate::laws::SenderStation;
-use dr_meaning::{Claimed, Inlet, Refusal, Trouble, Wrote};
+use dr_meaning::{Claimed, Refusal};
 use dr_runs::{HandlerCounts, Written};
 use dr_seq::{Event, GateCache};
 use std::marker::{Brand, Model};
@@ -46,7 +42,7 @@ impl Sender {
     /// The causes of a refusal in their order: `BadCount` (none, or more than the size), `Halted`,
     /// `Exhausted`, `NoRoom`, and `Halted` once more. A refused claim may have looked, and changes
     /// nothing else.
-    #[tactic(auto, using(crate::proofs::Stations::begins_same, crate::proofs::Stations::begins_on))]
+    #[tactic(auto, using(dr_runs::proofs::Beginnings::begins_same, dr_runs::proofs::Beginnings::begins_on))]
     pub fn try_claim(&mut self, n: u64) -> Result<Claimed, Refusal>
         // By what its looks find it claims the next sequences, or says why it does not, and stores nothing.
         ensures { ClaimCall self.old n self.new result }
@@ -81,7 +77,7 @@ impl Sender {
     /// written before.
     ///
     /// Refusals in their order: `NotClaimed`, `AlreadyPublished`. They change nothing.
-    #[tactic(auto, using(crate::proofs::Stations::begins_same, crate::proofs::Stations::begins_on))]
+    #[tactic(auto, using(dr_runs::proofs::Beginnings::begins_same, dr_runs::proofs::Beginnings::begins_on))]
     pub fn write(&mut self, sequence: u64, event: Event) -> Result<(), Refusal>
         // It answers by what it sent, and stores both words of the event; a refused call stores nothing.
         ensures { WriteCall self.old sequence event self.new result }
@@ -105,7 +101,7 @@ impl Sender {
     ///
     /// Refusals in their order: `BadCount` (`lo` above `hi`), `NotClaimed`, `AlreadyPublished`,
     /// `NotWritten`, `OutOfOrder`. They change nothing.
-    #[tactic(auto, using(crate::proofs::Stations::begins_same, crate::proofs::Stations::begins_on))]
+    #[tactic(auto, using(dr_runs::proofs::Beginnings::begins_same, dr_runs::proofs::Beginnings::begins_on))]
     pub fn publish(&mut self, lo: u64, hi: u64) -> Result<(), Refusal>
         // It answers by what it sent, and stores the cursor; a refused call stores nothing.
         ensures { PublishCall self.old lo hi self.new result }
@@ -135,7 +131,7 @@ impl Sender {
     /// all of them is told `Drained`. It may be repeated.
     ///
     /// It is refused with `OpenClaim`, and changes nothing, while a claimed sequence is unpublished.
-    #[tactic(auto, using(crate::proofs::Stations::begins_same, crate::proofs::Stations::begins_on))]
+    #[tactic(auto, using(dr_runs::proofs::Beginnings::begins_same, dr_runs::proofs::Beginnings::begins_on))]
     pub fn close(&mut self) -> Result<(), Refusal>
         // It stores halt and then closed where all that it claimed is published; else it stores nothing.
         ensures call { CloseCall self.old self.new result }
@@ -178,74 +174,5 @@ impl Sender {
     {
         let Sender { station, .. } = self;
         station
-    }
-}
-
-impl Inlet<Event> for Sender {
-    ghost use Rattle.dr_ring.specs.Calls.Ends.{SenderPlace};
-
-    ghost Kept = { SenderPlace };
-
-    ghost kept = { sender_place };
-
-    ghost sent = { λ e. Some e.knows.sent };
-
-    ghost does = { sender_does };
-
-    fn try_claim(&mut self, n: u64) -> Result<Claimed, Trouble>
-        ensures kept { sender_place self.new ≡ sender_place self.old }
-        ensures answer { ClaimAnswers (Some self.old.knows.sent) n result }
-        ensures sent { Claims n result self.old.knows.sent self.new.knows.sent }
-        // It is the sender's own claim, and memory never runs out.
-        ensures own { IsEndsAnswer (ClaimCall self.old n self.new) result }
-    {
-        Ok(Sender::try_claim(self, n)?)
-    }
-
-    fn write(&mut self, s: u64, event: Event) -> Result<(), Trouble>
-        ensures kept { sender_place self.new ≡ sender_place self.old }
-        ensures answer { WriteAnswers (Some self.old.knows.sent) s result }
-        ensures sent { Writes s event result self.old.knows.sent self.new.knows.sent }
-        // It is the sender's own write, and memory never runs out.
-        ensures own { IsEndsAnswer (WriteCall self.old s event self.new) result }
-    {
-        Ok(Sender::write(self, s, event)?)
-    }
-
-    #[tactic(auto, using(crate::proofs::Stations::begins_same, crate::proofs::Stations::begins_on))]
-    fn write_all(&mut self, lo: u64, events: &[Event]) -> Wrote
-        requires limit { lo + length events.now ≤ 2 ^ 62 }
-        ensures kept { sender_place self.new ≡ sender_place self.old }
-        ensures answer { WriteAllAnswers (Some self.old.knows.sent) lo (length events.now) result }
-        ensures sent { WritesAll lo (take result.count events.now) self.old.knows.sent self.new.knows.sent }
-        // It answers each write by what it sent, stores both words of each event written, and nothing else.
-        ensures own { WriteAllCall self.old lo events.now self.new result }
-        ensures called { WritesBy self.old self.new sender_does lo events.now result }
-    {
-        for (k, event) in events.iter().enumerate() {
-            match Sender::write(self, lo + k as u64, *event) {
-                Ok(()) => (),
-                Err(refusal) => {
-                    return Wrote {
-                        count: k,
-                        trouble: Some(Trouble::Refused(refusal)),
-                    };
-                }
-            }
-        }
-        Wrote {
-            count: events.len(),
-            trouble: None,
-        }
-    }
-
-    fn publish(&mut self, lo: u64, hi: u64) -> Result<(), Trouble>
-        ensures kept { sender_place self.new ≡ sender_place self.old }
-        ensures answer { PublishAnswers (Some self.old.knows.sent) lo hi result }
-        ensures sent { Publishes lo hi result self.old.knows.sent self.new.knows.sent }
-        // It is the sender's own publication, and memory never runs out.
-        ensures own { IsEndsAnswer (PublishCall self.old lo hi self.new) result }
-    {
-        Ok(Sender::publish(self, lo, hi)?)
     }
 }

@@ -6,7 +6,7 @@ ghost use Rattle.std.specs.Arc.{arc_value};
 ghost use Rattle.dr_ring.specs.Inside.Seats.{IsAtTable, ring_ends};
 ghost use Rattle.dr_ring.specs.Meaning.Records.{claimed as claimed_of};
 ghost use Rattle.dr_runs.specs.Gathering.{Gathers, counts_at};
-ghost use Rattle.dr_ring.specs.Inside.Stations.{AreOfRing, halters_known, receiver_known};
+ghost use Rattle.dr_ring.specs.Inside.Gathering.{AreReceiversAt, halters_known, receiver_known};
 ghost use Rattle.dr_ring.specs.Meaning.Settling.{FoundUnhalted, Settles};
 ghost use Rattle.dr_ring.specs.Calls.Settling.{AreAllEnds, AreOfOneRun, AreReceiversOf, HasRun, handler_counts};
 
@@ -76,19 +76,19 @@ fn gather_halter(ring: &Arc<RingBody, Global>, seat: &mut RingSeat, halter: Opti
     ensures view { Gathers ring_ends seat.old.me.0 (halters_known halter) seat.new.me.0 }
 {
     if let Some(halter) = halter {
-        settling::take_in(&ring.table.shared, seat, halter.seat);
+        settling::unite(&ring.table.shared, seat, halter.seat);
     }
 }
 
 // A receiver's seat comes to the sender's, and its counts to their place.
-fn gather(
+fn gather_receivers(
     ring: &Arc<RingBody, Global>,
     seat: &mut RingSeat,
     mut receivers: Vec<Receiver>,
     counts: &mut Vec<HandlerCounts>,
 )
     requires table { IsAtTable seat.old.table_id (arc_value ring.now).table.shared.table_id (arc_value ring.now).plan }
-    requires receivers { AreOfRing seat.old.table_id receivers.items }
+    requires receivers { AreReceiversAt seat.old.table_id receivers.items }
     requires places { length counts.old.items ≡ length receivers.items }
     ensures seat { seat.new.table_id ≡ seat.old.table_id }
     ensures view { Gathers ring_ends seat.old.me.0 (map receiver_known receivers.items) seat.new.me.0 }
@@ -100,7 +100,7 @@ fn gather(
             completed: receiver.completed,
         };
         let station = receiver.station;
-        settling::take_in(&ring.table.shared, seat, station.seat);
+        settling::unite(&ring.table.shared, seat, station.seat);
     }
 }
 
@@ -126,7 +126,7 @@ fn bring_together(sender: Sender, receivers: Vec<Receiver>, halter: Option<Halte
     let mut seat = station.seat;
     let mut counts = sender.counts;
     gather_halter(&station.ring, &mut seat, halter);
-    gather(&station.ring, &mut seat, receivers, &mut counts);
+    gather_receivers(&station.ring, &mut seat, receivers, &mut counts);
     settling::compare(&station.ring.table.shared, &mut seat);
     moments();
     Settled {

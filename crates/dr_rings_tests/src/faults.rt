@@ -19,8 +19,8 @@ fn faults_of_a_ring_over_words(rt: HostRuntime) {
 
 #[test]
 fn faults_of_a_ring_over_plain_memory(rt: HostRuntime) {
-    check_text(&rt, rt.alloc(), dr_plain::RingFault::BadLimit, "bad-limit");
-    check_text(&rt, rt.alloc(), dr_plain::RingFault::NoMemory, "no-memory");
+    check_text(&rt, rt.alloc(), dr_plain::OpenFault::BadLimit, "bad-limit");
+    check_text(&rt, rt.alloc(), dr_plain::OpenFault::NoMemory, "no-memory");
 }
 
 #[test]

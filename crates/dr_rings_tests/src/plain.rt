@@ -1,7 +1,7 @@
 //! The ring over plain memory, with one sender.
 
 ghost use Rattle.std.specs.Prelude.{◌≡◌, length};
-ghost use Rattle.dr_plain.specs.Calls.Settling.{AreAllEnds, IsHalterOf};
+ghost use Rattle.dr_plain.specs.Calls.Settling.{AreAllEnds};
 
 mod calling;
 mod endings;
@@ -36,7 +36,7 @@ pub fn open<T: Drop>(
     events: Vec<T>,
 ) -> Ends<T>
     requires { length events.items ≡ size }
-    ensures { AreAllEnds result.sender result.receivers.items × IsHalterOf result.sender result.halter }
+    ensures { AreAllEnds result.sender result.receivers.items result.halter }
 {
     let graph = graph(rt, alloc, shape);
     let made = ring(alloc, &graph, size, limit, events);
@@ -56,7 +56,7 @@ pub fn open_words(
     size: u64,
     limit: u64,
 ) -> Ends<Event>
-    ensures { AreAllEnds result.sender result.receivers.items × IsHalterOf result.sender result.halter }
+    ensures { AreAllEnds result.sender result.receivers.items result.halter }
 {
     let size = Size::new(size).expect(rt, "a size");
     let events = vec![in alloc; Event::NONE; size.get() as usize].expect(rt, "memory");

@@ -11,10 +11,11 @@ mod play;
 mod rows;
 mod texts;
 mod threads;
+mod turns;
 mod workers;
 
 use crate::graphs::{Shape, graph};
-use dr_plain_senders::{Halter, Receiver, Sender, senders_ring};
+use dr_plain_senders::{Halter, Receiver, Sender, ring};
 use dr_seq::Size;
 use std::alloc::Global;
 use std::process::Abort;
@@ -39,7 +40,7 @@ pub fn open<T: Drop>(
 {
     let size = Size::new(events.len() as u64).expect(rt, "a size");
     let graph = graph(rt, alloc, shape);
-    let made = senders_ring(alloc, &graph, size, limit, senders, events);
+    let made = ring(alloc, &graph, size, limit, senders, events);
     let (senders, receivers, halter) = made.expect(rt, "a ring");
     Ends {
         senders,

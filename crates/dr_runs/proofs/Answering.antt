@@ -12,7 +12,7 @@ use Rattle.dr_meaning.specs.declared.ends.Trouble.TheVariants.{Refused}
 use Rattle.dr_meaning.specs.Calls.Ends.{Verdict, Exactly, MayHold, MayFail, claim_tests, end_sequence_tests, PublishAnswers, Sent, claimed_in}
 use Rattle.dr_meaning.proofs.BadCounts.{bad_is_not_one, good_is_never_bad}
 use Rattle.dr_meaning.proofs.Causes.{none_join, first_left, first_right, none_of_stretch, first_of_stretch}
-use Rattle.dr_runs.specs.Replies.{claim_tests_of}
+use Rattle.dr_runs.specs.OneSender.Replies.{claim_tests_of}
 
 -- the event of an open sequence, once it is written
 abbrev pub open_at : {T : Type 0} → Sent T → ℕ → Option T

@@ -8,16 +8,13 @@ use Rattle.std.proofs.lemmas.List.{get_or_past}
 use Rattle.std.proofs.lemmas.List.FromFn.{get_or-map-range_with_len}
 use Rattle.dr_graph.specs.Meaning.Graph.{nobody, upstreams_of, finals, IsOrderly, IsGated, IsGraph}
 use Rattle.dr_meaning.specs.Meaning.Machine.{State, least_completed}
-use Rattle.dr_runs.specs.Words.{count_word}
+use Rattle.dr_runs.specs.OneSender.Words.{count_word}
 use Rattle.dr_runs.specs.declared.look.Look.{Look}
 use Rattle.dr_runs.specs.Looks.{last_look, ArePast}
-use Rattle.dr_runs.proofs.Elements.{contains_none}
+use Rattle.dr_runs.proofs.Elements.{word_at, contains_none}
 use Rattle.dr_runs.proofs.Lists.{map_same, map_but}
 use Rattle.dr_runs.proofs.Looks.{last_look_le}
 use Rattle.dr_runs.proofs.Offers.{final_inside, some_final, counts_below}
-
-abbrev pub word_at : List ℕ → ℕ → ℕ
-word_at words i = get_or words i 0
 
 -- counts by their words
 abbrev pub counts_of : List (List ℕ) → List ℕ → List ℕ

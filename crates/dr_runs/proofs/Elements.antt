@@ -8,6 +8,10 @@ use mathlib.Core.Option.{some, some-injective, some-ne-none}
 use lib.ListN.{get_elem?}
 use Rattle.atomic_table.proofs.Lists.{at_set}
 
+-- what a word of a table holds
+abbrev pub word_at : List ℕ → ℕ → ℕ
+word_at words i = get_or words i 0
+
 pub there : {A : Type 0} (l : List A) (i : ℕ) → i < length l → (a : A) × (get_elem? l i ≡ some a)
 there [] i h = absurd (omega arith)
 there (x ∷ xs) zero h = (x, refl)

@@ -1,14 +1,12 @@
 -- What stores leave of a ring's words of halt and close.
-use Rattle.std.proofs.Common.{◌≡◌, ◌≢◌, ℕ, ◌<◌, ◌≤◌, ◌⊎◌, inl, Bool, true, ◌==◌, ◌&&◌, List, length, get_or, set}
+use Rattle.std.proofs.Common.{◌≡◌, ◌≢◌, ℕ, ◌<◌, ◌≤◌, ◌⊎◌, inl, Bool, true, ◌==◌, ◌&&◌, List, length, set}
 use Rattle.std.proofs.Common.{sym, refl, ◌∙◌, arith, get_or-set_same, get_or-set_other}
 use Rattle.std.proofs.lemmas.Bool.{and_parts, eqb-true}
-use Rattle.dr_runs.specs.Words.{cursor_word, closed_word, halt_word, HaltAndClose}
+use Rattle.dr_runs.specs.OneSender.Words.{cursor_word, closed_word, halt_word, HaltAndClose}
 use Rattle.dr_runs.specs.declared.look.Look.{Look}
 use Rattle.dr_runs.specs.Looks.{last_look, ArePast}
 use Rattle.dr_runs.proofs.Looks.{last_look_le}
-
-abbrev word_at : List ℕ → ℕ → ℕ
-word_at words i = get_or words i 0
+use Rattle.dr_runs.proofs.Elements.{word_at}
 
 pub flags_stay : (words us : List ℕ) (n : ℕ) (a b c : Bool) → word_at us halt_word ≡ word_at words halt_word
     → word_at us closed_word ≡ word_at words closed_word → HaltAndClose words n a b c → HaltAndClose us n a b c

@@ -1,4 +1,5 @@
 pub mod Lists
+pub mod Beginnings
 pub mod Seats
 pub mod Cuts
 pub mod Gathering
@@ -15,5 +16,6 @@ pub mod Completions
 pub mod Replies
 pub mod Scans
 pub mod Answering
+pub mod Entries
 pub mod Told
 pub mod LastLooks

@@ -6,7 +6,7 @@ use Rattle.dr_seq.specs.Rounds.{entry_of, is_marked}
 use Rattle.dr_seq.specs.Stamped.{stamped}
 use Rattle.dr_seq.proofs.Stamped.{mark_is, marked-in, marked-out, marks_none_after}
 use Rattle.dr_runs.specs.declared.written.Written.{Written}
-use Rattle.dr_runs.specs.Noted.{Notes, is_noted}
+use Rattle.dr_runs.specs.OneSender.Noted.{Notes, is_noted}
 
 -- what a note leaves, of the sequences that may be open
 pub record NotesOne (size next : ℕ) (w : Written) (s : ℕ) (w' : Written) : Type 0 where

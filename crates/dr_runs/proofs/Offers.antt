@@ -10,7 +10,7 @@ use Rattle.dr_graph.proofs.Gating.{final_left}
 use Rattle.dr_meaning.specs.declared.command.Polled.TheVariants.{Drained, Gating, Idle}
 use Rattle.dr_meaning.specs.Meaning.Machine.{State, front, offered, least_completed}
 use Rattle.dr_runs.specs.Looks.{offered_by, lesser_of}
-use Rattle.dr_runs.specs.Polls.{nothing_offered}
+use Rattle.dr_runs.specs.OneSender.Polls.{nothing_offered}
 
 -- a final handler is a handler
 pub final_inside : (graph : List (List ℕ)) (f : ℕ) → Contains (finals graph) f → f < length graph

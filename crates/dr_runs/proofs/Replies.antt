@@ -24,10 +24,10 @@ use Rattle.dr_meaning.specs.Calls.Ends.{claimed_in, write_tests, end_sequence_te
 use Rattle.dr_meaning.proofs.Steps.{Refuses, unless-none, unless-refused}
 use Rattle.dr_meaning.proofs.Leasts.{least_of-member}
 use Rattle.dr_graph.specs.Meaning.Graph.{upstreams_of, finals, IsGraph}
-use Rattle.dr_runs.specs.Words.{cursor_word, closed_word, halt_word, count_word}
-use Rattle.dr_runs.specs.Replies.{claim_tests_of, DecidesClaimOf, DecidesPollOf}
-use Rattle.dr_runs.proofs.Completions.{word_at, counts_of, count_at, upstream_inside}
-use Rattle.dr_runs.proofs.Elements.{all_zero}
+use Rattle.dr_runs.specs.OneSender.Words.{cursor_word, closed_word, halt_word, count_word}
+use Rattle.dr_runs.specs.OneSender.Replies.{claim_tests_of, DecidesClaimOf, DecidesPollOf}
+use Rattle.dr_runs.proofs.Completions.{counts_of, count_at, upstream_inside}
+use Rattle.dr_runs.proofs.Elements.{all_zero, word_at}
 use Rattle.dr_runs.proofs.Exact.{AreExact, none_exact, first_exact, exact_join, exact_stretch, unit_replies, offered_low}
 use Rattle.dr_runs.proofs.Exact.{drained_reply, gating_reply, idle_reply}
 use Rattle.dr_runs.proofs.Offers.{final_inside, offered_at_most}

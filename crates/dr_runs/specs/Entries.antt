@@ -1,6 +1,5 @@
 -- The entries that the steps of a ring come to.
-use Rattle.std.specs.Prelude.{ℕ, ◌+◌, ◌==◌, List, [], ◌∷◌, Option, Some, None}
-use Rattle.dr_seq.specs.declared.event.Event.{Event}
+use Rattle.std.specs.Prelude.{ℕ, ◌+◌, ◌==◌, List, [], ◌∷◌, length}
 use Rattle.dr_meaning.specs.declared.command.Command.{Command}
 use Rattle.dr_meaning.specs.declared.command.Command.TheVariants.{Poll}
 use Rattle.dr_meaning.specs.declared.command.Reply.{Reply}
@@ -14,8 +13,8 @@ entry command reply values = record { command = command; reply = reply; values =
 abbrev pub told_drained : {T : Type 0} → ℕ → Entry T
 told_drained h = record { command = Poll h 1; reply = Drained; values = [] }
 
--- the poll that an event comes to of which the first word was loaded before
-abbrev pub poll_of : ℕ → Option ℕ → ℕ → ℕ → ℕ → Transcript Event
-poll_of h None second taken available = []
-poll_of h (Some first) second taken available =
-    entry (Poll h 1) (Batch taken 1 (taken + 1 == available)) (record { first = first; second = second } ∷ [])
+-- the poll that hands out these events, where some are handed out
+abbrev pub poll_of : {T : Type 0} → ℕ → ℕ → List T → ℕ → Transcript T
+poll_of h taken [] available = []
+poll_of h taken (event ∷ events) available =
+    entry (Poll h (length (event ∷ events))) (Batch taken (length (event ∷ events)) (taken + length (event ∷ events) == available)) (event ∷ events)

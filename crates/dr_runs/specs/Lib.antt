@@ -5,8 +5,5 @@ pub mod Stretches
 pub mod Looks
 pub mod Entries
 pub mod Polls
-pub mod Words
-pub mod Fault
-pub mod Noted
-pub mod Replies
 pub mod LastLooks
+pub mod OneSender

@@ -4,7 +4,6 @@ use mathlib.Core.Option.{some}
 use lib.ListN.{get_elem?}
 use Rattle.dr_graph.specs.Meaning.Graph.{least_of}
 use Rattle.dr_runs.specs.declared.look.Look.{Look}
-use Rattle.dr_runs.specs.Words.{count_word}
 
 abbrev pub look : ℕ → ℕ → Look
 look word value = record { word = word; value = value }
@@ -13,6 +12,10 @@ look word value = record { word = word; value = value }
 abbrev pub last_look : ℕ → List Look → ℕ → ℕ
 last_look d [] word = d
 last_look d (x ∷ xs) word = last_look (if x.word == word then x.value else d) xs word
+
+-- a look finds no less than the last one at its word
+abbrev pub FindsMore : List Look → ℕ → ℕ → Type 0
+FindsMore looks word n = last_look 0 looks word ≤ n
 
 -- how many looks an end counts
 abbrev pub looks_counted : List Look → ℕ
@@ -23,10 +26,6 @@ abbrev pub looks_at : (ℕ → ℕ) → List ℕ → List ℕ → List Look
 looks_at word_of [] values = []
 looks_at word_of (h ∷ hs) [] = []
 looks_at word_of (h ∷ hs) (n ∷ values) = look (word_of h) n ∷ looks_at word_of hs values
-
--- looks at the counts of some handlers of a ring with one sender
-abbrev pub count_looks : List ℕ → List ℕ → List Look
-count_looks hs counts = looks_at count_word hs counts
 
 -- the least of some counts or, where there is none, the cursor
 abbrev pub offered_by : ℕ → List ℕ → ℕ

@@ -6,13 +6,14 @@
 //! run is a list of steps from the ring's opening. `specs/Runs.antt` says what a run is,
 //! `specs/Seats.antt` which rule the table keeps, by which each end knows the run as it was at its
 //! last step, `specs/Gathering.antt` what is known once ends come together, and `specs/Looks.antt`
-//! what looks at words come to. A ring with one sender also has the places of its words
-//! (`specs/Words.antt`) and a note of which open sequences are written (`specs/Noted.antt`).
+//! what looks at words come to. What rings with one sender have alone is in `specs/OneSender`: the
+//! places of their words, what their ends answer by them, and which open sequences are written.
 #![tactic(auto)]
 
 mod counts;
-mod fault;
 mod look;
+mod names;
+mod parting;
 mod plan;
 mod polling;
 mod view;
@@ -20,8 +21,9 @@ mod words;
 mod written;
 
 pub use counts::HandlerCounts;
-pub use fault::RingFault;
 pub use look::Look;
+pub use names::Names;
+pub use parting::{Cut, Leave, Together};
 pub use plan::copy_upstreams;
 pub use polling::{lesser, nothing_offered};
 pub use view::View;

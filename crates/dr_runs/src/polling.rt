@@ -2,7 +2,7 @@
 
 ghost use Rattle.std.specs.Prelude.{◌≡◌};
 ghost use Rattle.dr_runs.specs.Looks.{lesser_of};
-ghost use Rattle.dr_runs.specs.Polls.{nothing_offered as answer_of};
+ghost use Rattle.dr_runs.specs.OneSender.Polls.{nothing_offered as answer_of};
 
 use dr_meaning::Polled;
 

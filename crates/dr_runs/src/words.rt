@@ -1,7 +1,7 @@
 //! Where the words lie that a ring with one sender has.
 
 ghost use Rattle.std.specs.Prelude.{◌≡◌, ◌<◌};
-ghost use Rattle.dr_runs.specs.Words.{count_word as count_word_of};
+ghost use Rattle.dr_runs.specs.OneSender.Words.{count_word as count_word_of};
 
 /// The place of the word that counts the published events.
 pub const CURSOR_WORD: usize = 0;

@@ -2,7 +2,7 @@
 
 ghost use Rattle.std.specs.Prelude.{◌≡◌, ◌^◌, ◌<◌, replicate, IfOk};
 ghost use Rattle.std.specs.Bool.{MatchBool};
-ghost use Rattle.dr_runs.specs.Noted.{Notes, AreNoted, HasUnnoted};
+ghost use Rattle.dr_runs.specs.OneSender.Noted.{Notes, AreNoted, HasUnnoted};
 
 use dr_seq::{Rounds, Size};
 use std::alloc::{AllocError, Global};

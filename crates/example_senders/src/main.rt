@@ -4,7 +4,7 @@
 
 use dr_graph::{Graph, GraphBuilder, GraphFault};
 use dr_meaning::{Handler, MAX_LIMIT};
-use dr_plain_senders::{Halter, Receiver, Sender, senders_ring};
+use dr_plain_senders::{Halter, Receiver, Sender, ring};
 use dr_seq::Size;
 use dr_workers::{OpenGate, Waiting, WorkFault, consume, produce_with};
 use std::alloc::Global;
@@ -153,7 +153,7 @@ type Ends = (Vec<Sender<Sale>>, Vec<Receiver<Sale>>, Halter<Sale>);
 fn open(alloc: Global, graph: &Graph) -> Option<Ends> {
     let size = Size::new(SLOTS).ok()?;
     let sales = vec![in alloc; Sale::NONE; size.get() as usize].ok()?;
-    senders_ring(alloc, graph, size, MAX_LIMIT, 2, sales).ok()
+    ring(alloc, graph, size, MAX_LIMIT, 2, sales).ok()
 }
 
 fn run<R: Threads + Wait + Sync>(rt: &R, alloc: Global) -> Result<u64, Fault> {

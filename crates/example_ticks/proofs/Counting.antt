@@ -8,10 +8,9 @@ use Rattle.dr_meaning.specs.Calls.Handling.{GoesThrough, Relation, Showing, show
 use Rattle.dr_meaning.proofs.Showings.{length-showings}
 use Rattle.dr_plain.specs.declared.record.ReceiverRecord.{ReceiverRecord}
 use Rattle.dr_plain.specs.declared.record.SenderRecord.{SenderRecord}
-use Rattle.dr_plain.specs.Calls.Ends.{ReceiverEnd, SenderEnd, sent_of}
+use Rattle.dr_plain.specs.Calls.Ends.{ReceiverEnd, SenderEnd, received_of, sent_of}
 use Rattle.dr_plain.specs.Calls.Sending.{CloseCall}
 use Rattle.dr_plain.specs.Calls.Turning.{TurnCall}
-use Rattle.dr_plain.specs.Meaning.Records.{events_of}
 use Rattle.dr_plain.specs.Meaning.Settling.{HasBeginning}
 use Rattle.example_ticks.specs.Promises.{CountedAll, HasCounted}
 use Rattle.example_ticks.specs.declared.Recorded.{Recorded}
@@ -43,10 +42,10 @@ counts_batch {given} {e} {e'} {old} {new} room first count end had turn =
     let more : length polled.knows.received ≡ length e.knows.received + length took.5.0 =
     ap (λ (r : ReceiverRecord Tick). length r.received) took.5.2 ∙ length-append e.knows.received took.5.0 in
     let kept : length e'.knows.received ≡ length polled.knows.received = ap (λ (r : ReceiverRecord Tick). length r.received) turn.2.1.2 in
-    let all : length (events_of polled.knows.received) ≡ length polled.knows.received = length-map polled.knows.received _ in
-    let shown = showings (drop first (events_of polled.knows.received)) first end in
-    let many : length shown ≡ length (events_of polled.knows.received) - first =
-    length-showings (drop first (events_of polled.knows.received)) first end ∙ length-drop first (events_of polled.knows.received) in
+    let all : length (received_of polled.knows).events ≡ length polled.knows.received = length-map polled.knows.received _ in
+    let shown = showings (drop first (received_of polled.knows).events) first end in
+    let many : length shown ≡ length (received_of polled.knows).events - first =
+    length-showings (drop first (received_of polled.knows).events) first end ∙ length-drop first (received_of polled.knows).events in
     record {
       place = turn.2.0 ∙ turn.1.0 ∙ had.place;
       count = λ few. (let was = had.count (omega arith) in let counts = counts_each old new shown turn.3 (omega arith) in omega arith);

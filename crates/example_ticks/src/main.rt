@@ -1,15 +1,15 @@
 //! A contract of your own with ends by hand, proved: two recorders, each on a thread of its own, count just the ticks that
-//! were sent. Each thread promises that it counts what its end receives, and `finish` says that this is what was sent.
+//! were sent. Each thread promises that it counts what its end receives, and `settle_all` says that this is what was sent.
 #![tactic(auto)]
 
 ghost use Rattle.std.specs.Prelude.{◌≡◌, ◌∷◌, [], length, IfOk};
 ghost use Rattle.dr_plain.specs.Calls.Ends.{sent_of};
-ghost use Rattle.dr_plain.specs.Calls.Settling.{AreAllEnds, IsHalterOf};
+ghost use Rattle.dr_plain.specs.Calls.Settling.{AreAllEnds};
 ghost use Rattle.example_ticks.specs.Promises.{CountedAll};
 
 use dr_graph::{Graph, GraphBuilder, GraphFault};
 use dr_meaning::{InPlaceHandler, MAX_LIMIT, Polled};
-use dr_plain::{Halter, Receiver, RingFault, Sender, finish, ring};
+use dr_plain::{Halter, OpenFault, Receiver, Sender, ring, settle_all};
 use dr_seq::{Size, SizeFault};
 use dr_workers::{OpenGate, SENDER, Waiting, WorkFault, produce};
 use std::alloc::{AllocError, Global};
@@ -27,7 +27,7 @@ enum Fault {
     #[error("the graph has not two handlers")]
     Handlers,
     #[error("the ring: {0}")]
-    Ring(#[from] RingFault),
+    Ring(#[from] OpenFault),
     #[error("the sender: {0}")]
     Sender(WorkFault),
     #[error("no memory, or no thread")]
@@ -105,7 +105,7 @@ type Ends = (Sender<Tick>, Receiver<Tick>, Receiver<Tick>, Halter<Tick>);
 
 /// A new ring of sixty-four slots.
 fn open(alloc: Global, graph: &Graph) -> Result<Ends, Fault>
-    ensures all { IfOk result (λ ends. AreAllEnds ends.0 (ends.1 ∷ ends.2 ∷ []) × IsHalterOf ends.0 ends.3) }
+    ensures all { IfOk result (λ ends. AreAllEnds ends.0 (ends.1 ∷ ends.2 ∷ []) ends.3) }
     ensures fresh { IfOk result (λ ends. ((sent_of ends.0).published ≡ []) × (ends.1.knows.received ≡ []) × (ends.2.knows.received ≡ [])) }
 {
     let size = Size::new(64)?;
@@ -152,7 +152,7 @@ fn counted<R: Threads + Wait + Copy + Send + 'static>(
     }
     // In the graph's order.
     let receivers = vec![in alloc; first.receiver, second.receiver]?;
-    let (settled, _ticks) = finish(sender, receivers, halter);
+    let (settled, _ticks) = settle_all(sender, receivers, halter);
     Ok(Counts {
         sent: settled.published(),
         first: first.recorder.count,

@@ -7,7 +7,6 @@ use crate::pair::graph;
 use crate::words::{Exchange, Order};
 use dr_graph::Graph;
 use dr_meaning::{MAX_LIMIT, Outlet};
-use dr_plain_senders::senders_ring;
 use dr_ring::ring;
 use dr_seq::{Event, Size};
 use dr_workers::{Bell, SENDER};
@@ -86,7 +85,7 @@ fn through_plain_senders<R: Threads + Clock + Wait + Copy + Send + 'static>(
     size: Size,
 ) -> Result<Vec<u64>, Fault> {
     let events = vec![in alloc; Event::NONE; size.get() as usize]?;
-    let Ok((mut senders, receivers, _halter)) = senders_ring(
+    let Ok((mut senders, receivers, _halter)) = dr_plain_senders::ring(
         alloc, graph, size, MAX_LIMIT, 1, events,
     ) else {
         return Err(Fault::Memory);

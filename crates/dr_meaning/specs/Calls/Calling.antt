@@ -1,5 +1,6 @@
 -- The calls of an end with their answers, and an end before and after calls that are made one after another.
 use Rattle.std.specs.Prelude.{◌≡◌, ℕ, ◌+◌, ◌⊎◌, List, [], ◌∷◌, ◌++◌, take, drop, Option, None, Some, Result, Ok, Err}
+use Rattle.dr_meaning.specs.declared.claim_fault.ClaimFault.{ClaimFault}
 use Rattle.dr_meaning.specs.declared.command.Claimed.{Claimed}
 use Rattle.dr_meaning.specs.declared.command.Polled.{Polled}
 use Rattle.dr_meaning.specs.declared.ends.Trouble.{Trouble}
@@ -21,6 +22,12 @@ pub data OutletCall (E : Type 0) : Type 0 where
 pub data InPlaceCall : Type 0 where
   Polls : ℕ → Polled → InPlaceCall
   CompletesUpTo : ℕ → InPlaceCall
+
+-- a call of a producer's end that fills events where they lie: a claim of so many with its answer, a change of a sequence's event, or a publication of a stretch that is filled
+pub data InPlaceInletCall : Type 0 where
+  ClaimsStretch : ℕ → Result Claimed ClaimFault → InPlaceInletCall
+  ChangesEvent : ℕ → InPlaceInletCall
+  PublishesFilled : ℕ → ℕ → InPlaceInletCall
 
 -- calls, made one after another, lead from an end before to the end after
 abbrev pub CallsLead : {S C : Type 0} → (S → C → S → Type 0) → S → List C → S → Type 0

@@ -1,13 +1,9 @@
 -- What a look may find: no word that is looked at falls.
-use Rattle.std.specs.Prelude.{◌≡◌, ℕ, ◌+◌, ◌≤◌, true, List, length}
-use Rattle.dr_runs.specs.declared.look.Look.{Look}
-use Rattle.dr_runs.specs.Words.{halt_word}
+use Rattle.std.specs.Prelude.{◌≡◌, ℕ, ◌+◌, ◌≤◌, true, length}
+use Rattle.dr_runs.specs.OneSender.Words.{halt_word}
 use Rattle.dr_plain.specs.declared.record.SenderRecord.{SenderRecord}
 use Rattle.dr_plain.specs.declared.record.ReceiverRecord.{ReceiverRecord}
 use Rattle.dr_runs.specs.Looks.{last_look}
-
-abbrev pub FindsMore : List Look → ℕ → ℕ → Type 0
-FindsMore looks word n = last_look 0 looks word ≤ n
 
 module _ {T : Type 0} where
   -- no more is completed than is published

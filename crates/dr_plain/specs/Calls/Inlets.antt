@@ -1,4 +1,4 @@
--- What each call of the sender tells as that of an exchange's end, for who does not know which exchange it is.
+-- What each call of the sender tells, for who does not know which exchange it is of.
 use Rattle.std.specs.Prelude.{◌≡◌, ◌≢◌, ℕ, ◌+◌, ◌%◌, List, [], ◌∷◌, length, take, slice_set, Option, Some}
 use Rattle.dr_meaning.specs.declared.ends.Trouble.TheVariants.{Memory}
 use Rattle.dr_meaning.specs.declared.ends.Wrote.{Wrote}

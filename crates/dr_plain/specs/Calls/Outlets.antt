@@ -11,7 +11,7 @@ module _ {T : Type 0} where
   -- a poll that copies: what it took stands at the front of the buffer, and the rest of it stays as it was
   abbrev pub PollIntoCall : ReceiverEnd T → List T → ReceiverEnd T → List T → Result Polled Refusal → Type 0
   PollIntoCall e out e' out' result =
-      PollCall e (length out) e' result × FillsFront out out' (as_end result) × Takes out' (as_end result) (received_of e) (received_of e')
+      PollCall e (length out) e' result × FillsFront out out' (as_end result) × Takes out' (as_end result) (received_of e.knows) (received_of e'.knows)
 
   abbrev pub receiver_does : ReceiverEnd T → OutletCall T → ReceiverEnd T → Type 0
   receiver_does e (PollsInto before after answer) e' = IsEndsAnswer (PollIntoCall e before e' after) answer

@@ -1,26 +1,36 @@
 -- What each call of a receiver answers, and what it leaves of what the receiver knows.
 use Rattle.std.specs.Prelude.{◌≡◌, ◌↔◌, ℕ, ◌+◌, ◌-◌, ◌<◌, ◌≤◌, ◌⊎◌, ◌==◌, ◌&&◌, ◌||◌, IsTrue, true, false, min, List, []}
-use Rattle.std.specs.Prelude.{◌∷◌, ◌++◌, length, Result, Ok, Err, Contains}
+use Rattle.std.specs.Prelude.{◌∷◌, ◌++◌, length, Some, Result, Ok, Err, Contains}
 use mathlib.Core.Option.{some}
 use lib.ListN.{get_elem?}
 use Rattle.dr_meaning.specs.declared.refusal.Refusal.{Refusal}
 use Rattle.dr_meaning.specs.declared.command.Polled.{Polled}
 use Rattle.dr_meaning.specs.declared.command.Polled.TheVariants.{Batch, Drained, Gating, Idle}
-use Rattle.dr_meaning.specs.Meaning.Refusals.{poll_causes, complete_causes}
-use Rattle.dr_meaning.specs.Calls.Ends.{IsAnswerOf, Completes, as_end}
+use Rattle.dr_meaning.specs.Meaning.Refusals.{PollTests, CompleteTests, poll_causes, complete_causes}
+use Rattle.dr_meaning.specs.Calls.Ends.{Verdict, Exactly, IsAnswerOf, poll_tests, complete_tests, Completes, as_end}
 use Rattle.dr_graph.specs.Meaning.Graph.{upstreams_of}
 use Rattle.dr_runs.specs.Runs.{IsBeginning, StoresWhereOk}
-use Rattle.dr_runs.specs.Words.{cursor_word, closed_word}
+use Rattle.dr_runs.specs.OneSender.Words.{cursor_word, closed_word}
 use Rattle.dr_lent.specs.declared.lent.Lent.{Lent}
 use Rattle.dr_plain.specs.declared.record.ReceiverRecord.{ReceiverRecord}
 use Rattle.dr_plain.specs.declared.record.Step.TheVariants.{ReceiverCompletes}
-use Rattle.dr_plain.specs.Meaning.Records.{events_of}
-use Rattle.dr_runs.specs.Looks.{look, count_looks}
-use Rattle.dr_plain.specs.Meaning.Replies.{tests_of_poll, tests_of_completion}
+use Rattle.dr_lent.specs.Events.{events_of}
+use Rattle.dr_runs.specs.Looks.{look}
+use Rattle.dr_runs.specs.OneSender.Looks.{count_looks}
 use Rattle.dr_plain.specs.Calls.Ends.{ReceiverEnd, received_of, receiver_place}
-use Rattle.dr_runs.specs.Polls.{PollLooks, offer}
+use Rattle.dr_runs.specs.OneSender.Polls.{PollLooks, offer}
 
 module _ {T : Type 0} where
+  abbrev pub ups_of : ReceiverRecord T → List ℕ
+  ups_of r = upstreams_of r.plan.upstreams r.number
+
+  -- a receiver knows all of its own tests
+  abbrev pub tests_of_poll : ReceiverRecord T → ℕ → PollTests Verdict
+  tests_of_poll r room = record (poll_tests (Some (received_of r)) room) { retired = Exactly false }
+
+  abbrev pub tests_of_completion : ReceiverRecord T → ℕ → CompleteTests Verdict
+  tests_of_completion r upto = record (complete_tests (Some (received_of r)) upto) { retired = Exactly false }
+
   -- what a receiver knows once it has looked so
   abbrev pub looked_round : ReceiverRecord T → PollLooks → ReceiverRecord T
   looked_round r seen = record r {
@@ -50,13 +60,13 @@ module _ {T : Type 0} where
   PollSees r room r' (Ok polled) = (seen : PollLooks) × (length seen.counts ≡ length (upstreams_of r.plan.upstreams r.number)) × AnswersAsSeen r room r' seen polled
   PollSees r room r' (Err refusal) = r' ≡ r
 
-  abbrev pub Polls : ReceiverEnd T → ℕ → ReceiverEnd T → Result Polled Refusal → Type 0
-  Polls e room e' result = IsAnswerOf (poll_causes (tests_of_poll e.knows room)) (as_end result) × PollSees e.knows room e'.knows result
+  abbrev pub Polls : ReceiverRecord T → ℕ → ReceiverRecord T → Result Polled Refusal → Type 0
+  Polls r room r' result = IsAnswerOf (poll_causes (tests_of_poll r room)) (as_end result) × PollSees r room r' result
 
-  abbrev pub TriesToComplete : ReceiverEnd T → ℕ → ReceiverEnd T → Result (Unit {0}) Refusal → Type 0
-  TriesToComplete e n e' result =
-      IsAnswerOf (complete_causes (tests_of_completion e.knows n)) (as_end result)
-      × Completes n (as_end result) (received_of e) (received_of e') × (e'.knows ≡ record e.knows { completed = e'.knows.completed })
+  abbrev pub TriesToComplete : ReceiverRecord T → ℕ → ReceiverRecord T → Result (Unit {0}) Refusal → Type 0
+  TriesToComplete r n r' result =
+      IsAnswerOf (complete_causes (tests_of_completion r n)) (as_end result)
+      × Completes n (as_end result) (received_of r) (received_of r') × (r' ≡ record r { completed = r'.completed })
 
   -- a receiver reads the event of a sequence that it took and did not complete, and of no other
   abbrev pub ReadsInHand : ReceiverRecord T → ℕ → T → Type 0
@@ -67,11 +77,12 @@ module _ {T : Type 0} where
 
   -- a poll stores nothing
   abbrev pub PollCall : ReceiverEnd T → ℕ → ReceiverEnd T → Result Polled Refusal → Type 0
-  PollCall e room e' result = (receiver_place e' ≡ receiver_place e) × Polls e room e' result × (e'.stored ≡ e.stored) × IsBeginning e.past e'.past
+  PollCall e room e' result =
+      (receiver_place e' ≡ receiver_place e) × Polls e.knows room e'.knows result × (e'.stored ≡ e.stored) × IsBeginning e.past e'.past
 
   -- the call whole: the end stays where it is, answers by what it knows,
   -- and stores its count where it is not refused and nothing else, and all that it saw before comes first
   abbrev pub CompleteCall : ReceiverEnd T → ℕ → ReceiverEnd T → Result (Unit {0}) Refusal → Type 0
   CompleteCall e n e' result =
-      (receiver_place e' ≡ receiver_place e) × TriesToComplete e n e' result × StoresWhereOk e.stored (ReceiverCompletes e.knows.number n ∷ []) e'.stored result
-      × IsBeginning e.past e'.past
+      (receiver_place e' ≡ receiver_place e) × TriesToComplete e.knows n e'.knows result
+      × StoresWhereOk e.stored (ReceiverCompletes e.knows.number n ∷ []) e'.stored result × IsBeginning e.past e'.past

@@ -1,5 +1,5 @@
 -- What an end of a ring answers is what the machine replies on the ring's picture.
-use Rattle.std.specs.Prelude.{◌≡◌, ℕ, ◌+◌, ◌-◌, ◌≤◌, List, length, slice_index, Option, Some, Result, Ok, Err}
+use Rattle.std.specs.Prelude.{◌≡◌, ℕ, ◌+◌, ◌-◌, ◌≤◌, List, [], ◌∷◌, ◌++◌, length, map, slice_index, slice_index_or, Option, None, Some, Result, Ok, Err}
 use mathlib.Core.Option.{some}
 use lib.ListN.{get_elem?}
 use Rattle.dr_meaning.specs.declared.refusal.Refusal.{Refusal}
@@ -13,22 +13,40 @@ use Rattle.dr_meaning.specs.declared.command.Polled.{Polled}
 use Rattle.dr_meaning.specs.Meaning.Refusals.{claim_causes, poll_causes, complete_causes}
 use Rattle.dr_meaning.specs.Meaning.Machine as machine
 use Rattle.dr_meaning.specs.Meaning.Machine.{State}
+use Rattle.dr_meaning.specs.Meaning.Transcript.{Transcript}
 use Rattle.dr_meaning.specs.Calls.Replies.{claim_reply, unit_reply, poll_reply}
-use Rattle.dr_meaning.specs.Calls.Ends.{IsAnswerOf, WriteAnswers, PublishAnswers, as_end}
+use Rattle.dr_meaning.specs.Calls.Ends.{Sent, IsAnswerOf, WriteAnswers, PublishAnswers, as_end}
 use Rattle.dr_plain.specs.Meaning.Shape.{Shape, ring_setup}
-use Rattle.dr_runs.specs.Words.{halt_word}
+use Rattle.dr_runs.specs.OneSender.Words.{halt_word}
 use Rattle.dr_runs.specs.declared.look.Look.{Look}
 use Rattle.dr_runs.specs.Looks.{last_look}
 use Rattle.dr_plain.specs.declared.record.SenderRecord.{SenderRecord}
 use Rattle.dr_plain.specs.declared.record.ReceiverRecord.{ReceiverRecord}
 use Rattle.dr_plain.specs.Meaning.Records.{claimed, SeesRoom}
+use Rattle.dr_lent.specs.Events.{events_of}
 use Rattle.dr_plain.specs.Meaning.Rule.{World}
 use Rattle.dr_plain.specs.Meaning.Moments.{picture_of}
-use Rattle.dr_plain.specs.Meaning.Replies.{picture_with, sent_with, tests_of_claim, tests_of_poll, tests_of_completion}
-use Rattle.dr_plain.specs.Calls.Sending.{LooksToClaim}
-use Rattle.dr_runs.specs.Replies.{DecidesPollOf}
+use Rattle.dr_plain.specs.Calls.Sending.{LooksToClaim, tests_of_claim}
+use Rattle.dr_plain.specs.Calls.Receiving.{tests_of_poll, tests_of_completion}
+use Rattle.dr_runs.specs.Entries.{entry}
+use Rattle.dr_runs.specs.OneSender.Replies.{DecidesPollOf}
 
 module _ {T : Type 0} where
+  -- No word tells what the sender wrote to a sequence that it claimed and did not publish. Where these are its writes, one place for each, the picture is so:
+  abbrev pub picture_with : Shape → World T → List (Option T) → State T
+  picture_with k w writes = record (picture_of k w) {
+    written = λ s. slice_index_or (map (λ event. Some event) (events_of w.sender.published) ++ writes) s None;
+  }
+
+  -- and these are their entries, from the sequence s on
+  abbrev pub open_writes : ℕ → List (Option T) → Transcript T
+  open_writes s [] = []
+  open_writes s (None ∷ writes) = open_writes (s + 1) writes
+  open_writes s (Some event ∷ writes) = entry (Write 0 s event) Written [] ++ open_writes (s + 1) writes
+
+  abbrev pub sent_with : SenderRecord T → List (Option T) → Sent T
+  sent_with r writes = record { published = events_of r.published; pending = writes }
+
   -- in this state of it the machine replies so
   abbrev pub Replies : Shape → State T → Command T → Reply → Type 0
   Replies k m command reply = (machine.step (ring_setup k) m command).reply ≡ reply

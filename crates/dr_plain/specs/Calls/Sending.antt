@@ -6,18 +6,20 @@ use Rattle.dr_seq.specs.Size.{IsSize}
 use Rattle.dr_meaning.specs.declared.refusal.Refusal.{Refusal}
 use Rattle.dr_meaning.specs.declared.refusal.Refusal.TheVariants.{NoRoom, Halted, BadCount, Exhausted, OpenClaim}
 use Rattle.dr_meaning.specs.declared.command.Claimed.{Claimed}
-use Rattle.dr_meaning.specs.Meaning.Refusals.{claim_causes}
-use Rattle.dr_meaning.specs.Calls.Ends.{Sent, IsAnswerOf, GivesStretch, WriteAnswers, PublishAnswers, Claims, Writes, Publishes, as_end, claimed_in, open_event}
+use Rattle.dr_meaning.specs.Meaning.Refusals.{ClaimTests, claim_causes}
+use Rattle.dr_meaning.specs.Calls.Ends.{Sent, Verdict, IsAnswerOf, GivesStretch, WriteAnswers, PublishAnswers, Claims, Writes, Publishes, as_end, claimed_in, open_event}
 use Rattle.dr_graph.specs.Meaning.Graph.{finals}
-use Rattle.dr_runs.specs.Words.{halt_word}
+use Rattle.dr_runs.specs.OneSender.Words.{halt_word}
 use Rattle.dr_runs.specs.declared.look.Look.{Look}
 use Rattle.dr_plain.specs.declared.record.SenderRecord.{SenderRecord}
 use Rattle.dr_plain.specs.declared.record.Step.TheVariants.{SenderPublishes, SenderHalts, SenderCloses}
 use Rattle.dr_runs.specs.Runs.{IsBeginning, StoresWhereOk}
-use Rattle.dr_plain.specs.Meaning.Replies.{tests_of_claim}
+use Rattle.dr_runs.specs.OneSender.Replies.{claim_tests_of}
 use Rattle.dr_plain.specs.Calls.Ends.{SenderEnd, sender_place, sent_of}
-use Rattle.dr_plain.specs.Meaning.Records.{claimed, events_of, sender_halted, sender_closed, SeesRoom}
-use Rattle.dr_runs.specs.Looks.{look, count_looks}
+use Rattle.dr_plain.specs.Meaning.Records.{claimed, sender_halted, sender_closed, SeesRoom}
+use Rattle.dr_lent.specs.Events.{events_of}
+use Rattle.dr_runs.specs.Looks.{look}
+use Rattle.dr_runs.specs.OneSender.Looks.{count_looks}
 
 module _ {T : Type 0} where
   -- a claim looks at the finals' counts in rising order
@@ -47,6 +49,13 @@ module _ {T : Type 0} where
     pub counts : List ℕ
     pub room : FoundRoom r n counts
     pub saw : seen ≡ look halt_word 0 ∷ gate_looks r counts ++ look halt_word 1 ∷ []
+
+  -- The refusals of each call are the machine's, in its order. There is one producer, and no handler retires,
+  -- so all tests are known but those that rest on what a claim finds at its looks.
+
+  -- a ring tells more of a claim's tests than an end: its size and its limit are known
+  abbrev pub tests_of_claim : SenderRecord T → ℕ → ClaimTests Verdict
+  tests_of_claim r n = claim_tests_of r.plan.size r.plan.limit (claimed r) n
 
   -- where a claim looked, and what it found: at halt first,
   -- then at the finals' counts where what it remembers leaves no room, and at halt again, by which it is decided

@@ -12,21 +12,22 @@ use Rattle.dr_plain.specs.Meaning.Rule.{World}
 use Rattle.dr_plain.specs.Meaning.Moments.{new_world, picture_of, Runs}
 use Rattle.dr_plain.specs.declared.record.ReceiverRecord.{ReceiverRecord}
 use Rattle.dr_plain.specs.declared.record.Step.{Step}
-use Rattle.dr_plain.specs.Calls.Ends.{SenderEnd, ReceiverEnd, HalterStand}
+use Rattle.dr_plain.specs.Calls.Ends.{SenderEnd, ReceiverEnd, HalterEnd}
 
 module _ {T : Type 0} where
   -- these are the receivers of a sender's ring, in the graph's order
-  pub record AreAllEnds (s : SenderEnd T) (rs : List (ReceiverEnd T)) : Type 0 where
+  pub record AreReceiversOf (s : SenderEnd T) (rs : List (ReceiverEnd T)) : Type 0 where
     pub all : length rs ≡ handlers_of s.knows.plan
     pub each : (h : ℕ) (e : ReceiverEnd T) → get_elem? rs h ≡ some e → (e.ring ≡ s.ring) × (e.knows.number ≡ h)
 
-  -- and this is its halter
-  abbrev pub IsHalterOf : SenderEnd T → HalterStand T → Type 0
-  IsHalterOf s t = t.ring ≡ s.ring
+  -- and with its halter they are all of its ends
+  pub record AreAllEnds (s : SenderEnd T) (rs : List (ReceiverEnd T)) (t : HalterEnd T) : Type 0 where
+    pub receivers : AreReceiversOf s rs
+    pub halter : t.ring ≡ s.ring
 
   -- The run of a ring, which came to what its ends know, and in which each of them stored exactly what it did.
   -- Its transcript leads the machine to the ring's picture, and has the five laws.
-  pub record HasRun (s : SenderEnd T) (rs : List (ReceiverEnd T)) (t : HalterStand T) : Type 0 where
+  pub record HasRun (s : SenderEnd T) (rs : List (ReceiverEnd T)) (t : HalterEnd T) : Type 0 where
     pub steps : List (Step T)
     pub entries : Transcript T
     pub world : World T

@@ -2,7 +2,6 @@
 use Rattle.std.specs.Prelude.{◌≡◌, ◌≢◌, ℕ, ◌+◌, ◌-◌, ◌<◌, ◌≤◌, true, if◌then◌else◌, List, [], ◌∷◌, ◌++◌, map, length, drop, Some}
 use mathlib.Core.Option.{some}
 use lib.ListN.{get_elem?}
-use Rattle.atomic_table.specs.Table.{Step as TableStep}
 use Rattle.dr_cells.specs.declared.token.Token.{Token}
 use Rattle.dr_cells.specs.Hold.{whole, kept, joined}
 use Rattle.dr_cells.specs.Tokens.{token_at, with_hold}
@@ -19,11 +18,10 @@ use Rattle.dr_plain.specs.Meaning.Records.{claimed}
 use Rattle.dr_plain.specs.declared.record.SenderRecord.{SenderRecord}
 use Rattle.dr_plain.specs.declared.record.EndRecord.{EndRecord}
 use Rattle.dr_plain.specs.declared.record.Step.{Step}
-use Rattle.dr_plain.specs.Calls.Ends.{SenderEnd, ReceiverEnd, HalterStand}
+use Rattle.dr_plain.specs.Calls.Ends.{SenderEnd, ReceiverEnd, HalterEnd}
 use Rattle.dr_plain.specs.Calls.Settling.{AreAllEnds, handler_counts}
 use Rattle.dr_plain.specs.Inside.Seats.{Hand, Sitting, ring_ends, exchange}
 use Rattle.dr_plain.specs.Inside.Gathering.{sender_known, receiver_known, halter_known}
-use Rattle.dr_plain.specs.Inside.Fits.{PartsFit, TokensFit}
 
 module _ {T : Type 0} where
   -- the first event that still lies lent in its cell
@@ -45,30 +43,16 @@ module _ {T : Type 0} where
       all_left s.knows.plan 0 (map (λ (e : ReceiverEnd T). handler_counts e.knows) es) (first_lent s.knows) (drop (first_lent s.knows) s.knows.published)
 
   -- a view has all ends of a ring
-  pub record HasAllEnds (v : View (EndRecord T) (Step T)) (s : SenderEnd T) (es : List (ReceiverEnd T)) (t : HalterStand T) : Type 0 where
+  pub record HasAllEnds (v : View (EndRecord T) (Step T)) (s : SenderEnd T) (es : List (ReceiverEnd T)) (t : HalterEnd T) : Type 0 where
     pub sender : IsInView ring_ends v (sender_known s)
     pub halter : IsInView ring_ends v (halter_known t)
     pub receivers : (h : ℕ) (e : ReceiverEnd T) → get_elem? es h ≡ some e → IsInView ring_ends v (receiver_known e)
-    pub all : AreAllEnds s es
+    pub all : AreAllEnds s es t
 
   -- a load by the seat that has them: it stands for none any more, and has in hand what lay in the slots
-  pub record TookAll (k : Shape) (s : TableStep (Token T)) (me : Sitting T) (n : ℕ) (me' : Sitting T) : Type 0 where
+  pub record TookAll (k : Shape) (me : Sitting T) (n : ℕ) (me' : Sitting T) : Type 0 where
     pub ran : ViewRan (exchange k) me.0
-    pub hand : (s : SenderEnd T) (es : List (ReceiverEnd T)) (t : HalterStand T) → HasAllEnds me.0 s es t → me'.1 ≡ left_of s es ++ me.1
-
-  -- these are the receivers' tokens
-  pub record AreHandsOf (es : List (ReceiverEnd T)) (hands : List (List (Token T))) : Type 0 where
-    pub count : length hands ≡ length es
-    pub each : (h : ℕ) (e : ReceiverEnd T) (parts : List (Token T)) → get_elem? es h ≡ some e → get_elem? hands h ≡ some parts → PartsFit e.knows parts
-
-  -- what the ends keep, once their seats are together: the sender's numbers and tokens, and the receivers' counts and tokens
-  pub record EndsKeep (s : SenderEnd T) (es : List (ReceiverEnd T)) (claimed_to published_to : ℕ) (tokens : List (Token T)) (counts : List HandlerCounts) (hands : List (List (Token T))) : Type 0 where
-    pub next : claimed_to ≡ claimed s.knows
-    pub front : published_to ≡ length s.knows.published
-    pub near : claimed_to ≤ s.knows.plan.size + published_to
-    pub tokens_fit : TokensFit s.knows tokens
-    pub counted : counts ≡ map (λ (e : ReceiverEnd T). handler_counts e.knows) es
-    pub handed : AreHandsOf es hands
+    pub hand : (s : SenderEnd T) (es : List (ReceiverEnd T)) (t : HalterEnd T) → HasAllEnds me.0 s es t → me'.1 ≡ left_of s es ++ me.1
 
   -- one handler's parts of the events from `first` on are in its slots, which are first in hand, or with it, and m parts of each are out
   pub record IsLane (k : Shape) (h : ℕ) (c : HandlerCounts) (first upto m : ℕ) (lents : List (Lent T)) (hand : Hand T) (parts tokens : List (Token T)) : Type 0 where

@@ -12,7 +12,7 @@ use Rattle.dr_lent.specs.declared.lent.Lent.{Lent}
 use Rattle.dr_runs.specs.declared.counts.HandlerCounts.{HandlerCounts}
 use Rattle.dr_plain.specs.Meaning.Shape.{Shape, handlers_of}
 use Rattle.dr_plain.specs.Meaning.Words.{cell_of}
-use Rattle.dr_runs.specs.Words.{count_word}
+use Rattle.dr_runs.specs.OneSender.Words.{count_word}
 use Rattle.dr_plain.specs.Meaning.Lying.{part_of, placed}
 use Rattle.dr_plain.specs.Meaning.Records.{claimed, laid}
 use Rattle.dr_runs.specs.Looks.{last_look}

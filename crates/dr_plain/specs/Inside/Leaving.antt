@@ -2,7 +2,7 @@
 use Rattle.std.specs.Prelude.{◌≡◌, ℕ}
 use Rattle.atomic_table.specs.Seated.{TableId}
 use Rattle.dr_plain.specs.Meaning.Shape.{Shape}
-use Rattle.dr_plain.specs.Calls.Ends.{SenderEnd, ReceiverEnd, HalterStand}
+use Rattle.dr_plain.specs.Calls.Ends.{SenderEnd, ReceiverEnd, HalterEnd}
 use Rattle.dr_plain.specs.Inside.Seats.{IsAtTable}
 
 module _ {T : Type 0} where
@@ -13,5 +13,5 @@ module _ {T : Type 0} where
   abbrev pub BelongsReceiver : TableId → ℕ → ReceiverEnd T → Type 0
   BelongsReceiver ring place e = (e.ring ≡ ring) × (e.knows.number ≡ place)
 
-  abbrev pub BelongsHalter : TableId → HalterStand T → Type 0
+  abbrev pub BelongsHalter : TableId → HalterEnd T → Type 0
   BelongsHalter ring e = e.ring ≡ ring

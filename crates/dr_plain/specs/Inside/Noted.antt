@@ -2,7 +2,7 @@
 use Rattle.std.specs.Prelude.{◌≡◌, ℕ, zero, suc, ◌+◌, ◌%◌, ◌≤◌, false, if◌then◌else◌, List, [], ◌∷◌, length, slice_index_or, Option, None}
 use Rattle.dr_seq.specs.Rounds.{is_marked}
 use Rattle.dr_runs.specs.declared.written.Written.{Written}
-use Rattle.dr_runs.specs.Noted.{is_noted}
+use Rattle.dr_runs.specs.OneSender.Noted.{is_noted}
 
 -- nothing is noted of what is not claimed
 pub record Noted (size claims : ℕ) (w : Written) : Type 0 where

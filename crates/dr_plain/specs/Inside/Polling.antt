@@ -1,19 +1,16 @@
 -- What the looks of a poll come to.
 use Rattle.std.specs.Prelude.{◌≡◌, ℕ, ◌+◌, ◌-◌, ◌<◌, ◌≤◌, ◌||◌, true, min, List, [], ◌∷◌, ◌++◌, length, take, Contains}
-use Rattle.dr_graph.specs.Meaning.Graph.{upstreams_of}
-use Rattle.dr_runs.specs.Words.{cursor_word}
+use Rattle.dr_runs.specs.OneSender.Words.{cursor_word}
 use Rattle.dr_runs.specs.declared.look.Look.{Look}
 use Rattle.dr_lent.specs.declared.lent.Lent.{Lent}
 use Rattle.dr_plain.specs.declared.record.ReceiverRecord.{ReceiverRecord}
 use Rattle.dr_plain.specs.Meaning.Records.{tells_drained}
-use Rattle.dr_runs.specs.Looks.{look, offered_by, count_looks}
-use Rattle.dr_plain.specs.Calls.Receiving.{received_all}
+use Rattle.dr_runs.specs.Looks.{look, offered_by}
+use Rattle.dr_runs.specs.OneSender.Looks.{count_looks}
+use Rattle.dr_plain.specs.Calls.Receiving.{received_all, ups_of}
 use Rattle.dr_plain.specs.Inside.Seats.{Hand, taken_by_poll}
 
 module _ {T : Type 0} where
-  abbrev pub ups_of : ReceiverRecord T → List ℕ
-  ups_of r = upstreams_of r.plan.upstreams r.number
-
   -- a receiver has made these looks more, and taken nothing
   abbrev pub receiver_saw : ReceiverRecord T → List Look → ReceiverRecord T
   receiver_saw r seen = record r { looks = r.looks ++ seen }

@@ -2,10 +2,11 @@
 use Rattle.std.specs.Prelude.{◌≡◌, ℕ, ◌+◌, ◌<◌, ◌≤◌, ◌⊎◌, List, [], ◌++◌, length, slice_index, Option, Some, None}
 use Rattle.dr_graph.specs.Meaning.Graph.{finals}
 use Rattle.dr_plain.specs.Meaning.Shape.{Shape}
-use Rattle.dr_runs.specs.Words.{count_word}
+use Rattle.dr_runs.specs.OneSender.Words.{count_word}
 use Rattle.dr_runs.specs.declared.look.Look.{Look}
 use Rattle.dr_plain.specs.declared.record.SenderRecord.{SenderRecord}
-use Rattle.dr_runs.specs.Looks.{last_look, count_looks}
+use Rattle.dr_runs.specs.Looks.{last_look}
+use Rattle.dr_runs.specs.OneSender.Looks.{count_looks}
 use Rattle.dr_plain.specs.Inside.Fits.{IsSeenLeast}
 
 -- the last count was the first that was less

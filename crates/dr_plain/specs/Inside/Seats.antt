@@ -1,12 +1,11 @@
 -- The seats that stand for the ends of a ring, the rule that its table keeps, and what each kind of step tells.
-use Rattle.std.specs.Prelude.{◌≡◌, ℕ, ◌-◌, ◌<◌, ◌==◌, if◌then◌else◌, List, [], ◌∷◌, ◌++◌, map, length, take, drop, Option, Some}
+use Rattle.std.specs.Prelude.{◌≡◌, ℕ, ◌-◌, ◌==◌, if◌then◌else◌, List, [], ◌∷◌, ◌++◌, map, length, take, drop, Option, Some}
 use mathlib.Core.Option.{some}
 use denote.RawPtr.{null_ptr}
 use lib.ListN.{get_elem?}
 use Rattle.atomic_table.specs.Table.{State, Step as TableStep}
 use Rattle.atomic_table.specs.Seated.{TableId}
 use Rattle.dr_cells.specs.declared.token.Token.{Token}
-use Rattle.dr_graph.specs.Meaning.Graph.{IsGraph}
 use Rattle.dr_runs.specs.declared.view.View.{View}
 use Rattle.dr_runs.specs.Runs.{Ends, Exchange, receiver_number}
 use Rattle.dr_runs.specs.Seats as seats
@@ -20,7 +19,7 @@ use Rattle.dr_plain.specs.declared.record.HalterRecord.{HalterRecord}
 use Rattle.dr_plain.specs.declared.record.EndRecord.{EndRecord}
 use Rattle.dr_plain.specs.declared.record.EndRecord.TheVariants.{Receives, Sends, Halts}
 use Rattle.dr_plain.specs.declared.record.Step.{Step}
-use Rattle.dr_plain.specs.Meaning.Shape.{Shape, handlers_of}
+use Rattle.dr_plain.specs.Meaning.Shape.{Shape, IsShape, handlers_of}
 use Rattle.dr_plain.specs.Meaning.Words.{words_of, slots_of}
 use Rattle.dr_plain.specs.Meaning.Records.{claimed, laid, sender_looked, halt_looked, published_more, sender_halted, sender_closed, closed_looked}
 use Rattle.dr_plain.specs.Meaning.Records.{receiver_looked, taken_at, cursor_looked, completed_to, halter_halted, halter_looked}
@@ -29,7 +28,8 @@ use Rattle.dr_plain.specs.Meaning.Lying.{placed, Lies}
 use Rattle.dr_plain.specs.Meaning.Steps.{Happens}
 use Rattle.dr_plain.specs.Meaning.Stores.{is_store_of}
 use Rattle.dr_plain.specs.Meaning.Moments.{fresh_sender, fresh_receivers, fresh_halter, fresh_receiver, new_world, entries_of}
-use Rattle.dr_plain.specs.Calls.Finds.{FindsMore, FindsCompleted, FindsHalt, FindsClosed, FindsEvents}
+use Rattle.dr_plain.specs.Calls.Finds.{FindsCompleted, FindsHalt, FindsClosed, FindsEvents}
+use Rattle.dr_runs.specs.Looks.{FindsMore}
 
 -- what is known of a seat's ends, with the slots that it has in hand, and a seat: with it, the run as it was at each end's last step
 abbrev pub End : Type 0 → Type 0
@@ -43,10 +43,6 @@ Hand T = List (ℕ × Token T)
 
 abbrev pub Tells : Type 0 → Type 1
 Tells T = TableStep (Token T) → End T → ℕ → End T → Type 0
-
--- a graph of handlers, and some slots
-abbrev pub IsMade : Shape → Type 0
-IsMade k = IsGraph k.upstreams × (0 < k.size)
 
 abbrev pub no_shape : Shape
 no_shape = record { upstreams = []; size = 0; limit = 0; strip = null_ptr }
@@ -82,7 +78,7 @@ module _ {T : Type 0} where
   abbrev pub exchange : Shape → Exchange T (Token T) (EndRecord T) (Step T) (World T)
   exchange k = record {
     ends = ring_ends;
-    IsMade = IsMade k;
+    IsMade = IsShape k;
     opening = new_world k;
     words_of = λ w. w.words;
     Lies = Lies k;

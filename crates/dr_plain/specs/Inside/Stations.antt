@@ -4,7 +4,7 @@ use Rattle.atomic_table.specs.Seated.{TableId}
 use Rattle.dr_runs.specs.Seats.{past_of}
 use Rattle.dr_plain.specs.Meaning.Shape.{Shape, handlers_of}
 use Rattle.dr_plain.specs.Calls.Plans.{IsPlan}
-use Rattle.dr_plain.specs.Calls.Ends.{SenderStand, ReceiverStand, HalterStand}
+use Rattle.dr_plain.specs.Calls.Ends.{SenderStand, ReceiverStand, HalterEnd}
 use Rattle.dr_runs.specs.Looks.{looks_counted}
 use Rattle.dr_plain.specs.Inside.Seats.{End, Sitting, IsAtTable, stored_of, sender_of, receiver_of, halter_of, IsSender, IsReceiver, IsHalter}
 
@@ -16,27 +16,27 @@ module _ {T : Type 0} where
   abbrev pub receiver_stand : TableId → Sitting T → ReceiverStand T
   receiver_stand ring me = record { ring = ring; knows = receiver_of me.0.ends; hand = me.1; past = past_of me.0; stored = stored_of me.0 }
 
-  abbrev pub halter_stand : TableId → Sitting T → HalterStand T
-  halter_stand ring me = record { ring = ring; knows = halter_of me.0.ends; hand = me.1; past = past_of me.0; stored = stored_of me.0 }
+  abbrev pub halter_end : TableId → Sitting T → HalterEnd T
+  halter_end ring me = record { ring = ring; knows = halter_of me.0.ends; hand = me.1; past = past_of me.0; stored = stored_of me.0 }
 
   -- an end's seat is at the table of its ring and stands for that end alone, which knows the ring's plan and counts its looks
-  pub record SenderSits (at own : TableId) (k : Shape) (me : End T) (looked : ℕ) : Type 0 where
-    pub table : IsAtTable own at k
+  pub record SenderSits (at seat : TableId) (k : Shape) (me : End T) (looked : ℕ) : Type 0 where
+    pub table : IsAtTable seat at k
     pub made : IsPlan (sender_of me.0).plan
     pub end : IsSender me
     pub plan : (sender_of me.0).plan ≡ k
     pub looks : looked ≡ looks_counted (sender_of me.0).looks
 
-  pub record ReceiverSits (at own : TableId) (k : Shape) (me : End T) (number looked : ℕ) : Type 0 where
-    pub table : IsAtTable own at k
+  pub record ReceiverSits (at seat : TableId) (k : Shape) (me : End T) (number looked : ℕ) : Type 0 where
+    pub table : IsAtTable seat at k
     pub made : IsPlan (receiver_of me.0).plan
     pub end : IsReceiver me
     pub plan : (receiver_of me.0).plan ≡ k
-    pub mine : (receiver_of me.0).number ≡ number
+    pub own : (receiver_of me.0).number ≡ number
     pub handler : number < handlers_of k
     pub looks : looked ≡ looks_counted (receiver_of me.0).looks
 
-  pub record HalterSits (at own : TableId) (k : Shape) (me : End T) : Type 0 where
-    pub table : IsAtTable own at k
+  pub record HalterSits (at seat : TableId) (k : Shape) (me : End T) : Type 0 where
+    pub table : IsAtTable seat at k
     pub end : IsHalter me
     pub plan : (halter_of me.0).plan ≡ k

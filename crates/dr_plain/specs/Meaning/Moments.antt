@@ -1,29 +1,30 @@
 -- What each list of steps comes to, from a ring's opening.
-use Rattle.std.specs.Prelude.{◌≡◌, ℕ, zero, suc, ◌+◌, ◌-◌, ◌==◌, ◌&&◌, not, nat_lt, if◌then◌else◌, false, List, [], ◌∷◌, ◌++◌, map, length, replicate}
+use Rattle.std.specs.Prelude.{◌≡◌, ℕ, zero, suc, ◌+◌, ◌-◌, ◌≤◌, ◌==◌, ◌&&◌, not, nat_lt, if◌then◌else◌, false, List, [], ◌∷◌, ◌++◌, map, length, replicate}
 use Rattle.std.specs.Prelude.{slice_index, slice_index_or, Some, None, true, Contains}
 use mathlib.Core.Option.{some}
 use lib.ListN.{get_elem?}
 use Rattle.std.specs.List.{range_with_len}
-use Rattle.dr_meaning.specs.declared.command.Command.TheVariants.{Claim, Write, Publish, Poll, Complete, Halt}
-use Rattle.dr_meaning.specs.declared.command.Reply.TheVariants.{Claimed, Written, Published, Batch, Completed, Halting}
+use Rattle.dr_meaning.specs.declared.command.Command.TheVariants.{Claim, Write, Publish, Complete, Halt}
+use Rattle.dr_meaning.specs.declared.command.Reply.TheVariants.{Claimed, Written, Published, Completed, Halting}
 use Rattle.dr_meaning.specs.Meaning.Machine as machine
 use Rattle.dr_meaning.specs.Meaning.Machine.{State, available}
 use Rattle.dr_meaning.specs.Meaning.Transcript.{Transcript}
 use Rattle.dr_runs.specs.Runs as runs
 use Rattle.dr_plain.specs.Meaning.Shape.{Shape, handlers_of, ring_setup}
 use Rattle.dr_plain.specs.Meaning.Words.{words_of}
-use Rattle.dr_runs.specs.Words.{cursor_word, halt_word, count_word}
+use Rattle.dr_runs.specs.OneSender.Words.{cursor_word, halt_word, count_word}
 use Rattle.dr_plain.specs.declared.record.SenderRecord.{SenderRecord}
 use Rattle.dr_plain.specs.declared.record.ReceiverRecord.{ReceiverRecord}
 use Rattle.dr_plain.specs.declared.record.HalterRecord.{HalterRecord}
-use Rattle.dr_plain.specs.Meaning.Records.{events_of, claimed, taken_at, tells_drained}
+use Rattle.dr_plain.specs.Meaning.Records.{claimed, taken_at, tells_drained}
+use Rattle.dr_lent.specs.Events.{events_of}
 use Rattle.dr_plain.specs.Meaning.Rule.{World}
 use Rattle.dr_plain.specs.declared.record.Step.{Step}
 use Rattle.dr_plain.specs.declared.record.Step.TheVariants.{SenderLooksAtCount, SenderLooksAtHalt, SenderPublishes, SenderHalts, SenderCloses}
 use Rattle.dr_plain.specs.declared.record.Step.TheVariants.{ReceiverLooksAtClosed, ReceiverLooksAtCursor, ReceiverLooksAtCount, ReceiverCompletes}
 use Rattle.dr_plain.specs.declared.record.Step.TheVariants.{HalterHalts, HalterLooks}
 use Rattle.dr_plain.specs.Meaning.Steps.{Happens, next_of}
-use Rattle.dr_runs.specs.Entries.{entry, told_drained}
+use Rattle.dr_runs.specs.Entries.{entry, told_drained, poll_of}
 
 module _ {T : Type 0} where
   -- the ends of a new ring
@@ -65,12 +66,6 @@ module _ {T : Type 0} where
   writes_of s [] = []
   writes_of s (event ∷ events) = entry (Write 0 s event) Written [] ++ writes_of (s + 1) events
 
-  -- the poll that hands out these events, where some are handed out
-  abbrev pub poll_of : ℕ → ℕ → List T → ℕ → Transcript T
-  poll_of h taken [] available = []
-  poll_of h taken (event ∷ events) available =
-      entry (Poll h (length (event ∷ events))) (Batch taken (length (event ∷ events)) (taken + length (event ∷ events) == available)) (event ∷ events)
-
   abbrev pub receiver_at : Shape → World T → ℕ → ReceiverRecord T
   receiver_at k w h = slice_index_or w.receivers h (fresh_receiver k h)
 
@@ -105,3 +100,7 @@ module _ {T : Type 0} where
   -- who was told that the ring drained, was told so by a poll of the run
   abbrev pub WereTold : World T → Transcript T → Type 0
   WereTold w entries = (h : ℕ) (r : ReceiverRecord T) → get_elem? w.receivers h ≡ some r → r.told ≡ true → Contains entries (told_drained h)
+
+  -- No word falls: so what the last look of a claim without room finds was so already at its first.
+  abbrev pub NothingFalls : World T → World T → Type 0
+  NothingFalls w u = (word : ℕ) → slice_index w.words word ≤ slice_index u.words word

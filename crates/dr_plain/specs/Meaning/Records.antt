@@ -4,7 +4,7 @@ use Rattle.std.specs.Prelude.{Some, None, Contains}
 use Rattle.dr_graph.specs.Meaning.Graph.{upstreams_of, finals}
 use Rattle.dr_lent.specs.declared.lent.Lent.{Lent}
 use Rattle.dr_plain.specs.Meaning.Shape.{Shape}
-use Rattle.dr_runs.specs.Words.{cursor_word, closed_word, halt_word, count_word}
+use Rattle.dr_runs.specs.OneSender.Words.{cursor_word, closed_word, halt_word, count_word}
 use Rattle.dr_runs.specs.declared.look.Look.{Look}
 use Rattle.dr_plain.specs.declared.record.SenderRecord.{SenderRecord}
 use Rattle.dr_plain.specs.declared.record.ReceiverRecord.{ReceiverRecord}
@@ -16,10 +16,6 @@ abbrev pub barrier_seen : Shape → ℕ → List Look → ℕ
 barrier_seen k h looks = offered_by (last_look 0 looks cursor_word) (map (λ u. last_look 0 looks (count_word u)) (upstreams_of k.upstreams h))
 
 module _ {T : Type 0} where
-  -- the events that were lent
-  abbrev pub events_of : List (Lent T) → List T
-  events_of lents = map (λ (l : Lent T). l.event) lents
-
   -- how many sequences the sender claimed
   abbrev pub claimed : SenderRecord T → ℕ
   claimed r = length r.published + r.pending

@@ -6,7 +6,7 @@ use Rattle.dr_graph.specs.Meaning.Graph.{upstreams_of, finals, IsGraph}
 use Rattle.dr_lent.specs.declared.lent.Lent.{Lent}
 use Rattle.dr_plain.specs.Meaning.Shape.{Shape, handlers_of}
 use Rattle.dr_plain.specs.Meaning.Words.{words_of}
-use Rattle.dr_runs.specs.Words.{cursor_word, closed_word, count_word, HaltAndClose}
+use Rattle.dr_runs.specs.OneSender.Words.{cursor_word, closed_word, count_word, HaltAndClose}
 use Rattle.dr_plain.specs.Meaning.Records.{claimed}
 use Rattle.dr_runs.specs.Looks as past
 use Rattle.dr_runs.specs.declared.look.Look.{Look}

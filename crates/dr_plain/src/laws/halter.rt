@@ -4,8 +4,8 @@
 ghost use Rattle.dr_plain.specs.Meaning.Records.{halter_halted, halter_looked};
 ghost use Rattle.dr_plain.specs.Meaning.Shape.{handlers_of};
 ghost use Rattle.dr_plain.specs.Meaning.Words.{words_of};
-ghost use Rattle.dr_runs.specs.Words.{cursor_word, count_word as count_word_of};
-ghost use Rattle.dr_plain.specs.Calls.Finds.{FindsMore};
+ghost use Rattle.dr_runs.specs.OneSender.Words.{cursor_word, count_word as count_word_of};
+ghost use Rattle.dr_runs.specs.Looks.{FindsMore};
 ghost use Rattle.dr_plain.specs.declared.record.Step.TheVariants.{HalterHalts};
 ghost use Rattle.std.specs.Arc.{arc_value};
 ghost use Rattle.std.specs.Prelude.{◌≡◌, ◌<◌, ◌≤◌};
@@ -31,12 +31,12 @@ pub struct Halter<T> {
 impl<T> Model for Halter<T> {
     ghost use Rattle.std.specs.Arc.{arc_value};
     ghost use Rattle.dr_runs.specs.Seats.{end_of};
-    ghost use Rattle.dr_plain.specs.Calls.Ends.{HalterStand};
-    ghost use Rattle.dr_plain.specs.Inside.Stations.{halter_stand, HalterSits};
+    ghost use Rattle.dr_plain.specs.Calls.Ends.{HalterEnd};
+    ghost use Rattle.dr_plain.specs.Inside.Stations.{halter_end, HalterSits};
 
-    ghost Value = { HalterStand T };
+    ghost Value = { HalterEnd T };
 
-    ghost view = { λ s. halter_stand s.seat.table_id s.seat.me };
+    ghost view = { λ s. halter_end s.seat.table_id s.seat.me };
 
     ghost invariant = { λ s. HalterSits (arc_value s.ring).table.shared.table_id s.seat.table_id (arc_value s.ring).plan (end_of s.seat.me) };
 }

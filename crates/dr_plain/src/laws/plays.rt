@@ -1,13 +1,14 @@
 //! What each kind of step tells. These types are for the proofs alone.
 
 ghost use Rattle.dr_plain.specs.Inside.Seats.{Loads, Stores, SenderLookedAtCount, SenderLookedAtHalt, SenderPublished, SenderHalted, SenderClosed, ReceiverLookedAtClosed, ReceiverLookedAtCursor, ReceiverLookedAtCount, ReceiverCompleted, HalterHalted, HalterLooked, receiver_of};
-ghost use Rattle.dr_plain.specs.Meaning.Records.{events_of};
+ghost use Rattle.dr_lent.specs.Events.{events_of};
 ghost use Rattle.dr_plain.specs.declared.record.Step.TheVariants.{SenderPublishes, SenderHalts, SenderCloses, ReceiverCompletes, HalterHalts};
 
-use super::{Lends, Names};
 use crate::record::View;
 use atomic_table::Play;
 use dr_cells::Token;
+use dr_lent::Lends;
+use dr_runs::Names;
 use std::marker::PhantomData;
 
 pub struct LookAtFinal;

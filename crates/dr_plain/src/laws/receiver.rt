@@ -4,17 +4,19 @@ ghost use Rattle.std.specs.Prelude.{◌≡◌, ◌≤◌, ◌++◌, List, ℕ, l
 ghost use Rattle.dr_cells.specs.declared.token.Token.{Token};
 ghost use Rattle.dr_graph.specs.Meaning.Graph.{upstreams_of};
 ghost use Rattle.dr_lent.specs.declared.lent.Lent.{Lent};
+ghost use Rattle.dr_plain.specs.Calls.Plans.{IsPlan};
 ghost use Rattle.dr_plain.specs.declared.record.Step.TheVariants.{ReceiverCompletes};
-ghost use Rattle.dr_runs.specs.Words.{cursor_word, closed_word, count_word as count_word_of};
+ghost use Rattle.dr_runs.specs.OneSender.Words.{cursor_word, closed_word, count_word as count_word_of};
 ghost use Rattle.dr_plain.specs.Meaning.Records.{closed_looked, cursor_looked, receiver_looked, taken_at, completed_to};
 ghost use Rattle.dr_plain.specs.Calls.Finds.{FindsClosed, FindsEvents};
 ghost use Rattle.dr_plain.specs.Calls.Ends.{HasLoaded, HasStored};
 ghost use Rattle.dr_plain.specs.Inside.Seats.{taken_by_poll, given_by_completion};
 
+use super::RingSeat;
 use super::plays::{Complete, LookAtClosed, LookAtCursor, LookAtUpstream};
-use super::{Names, RingSeat};
 use crate::body::RingBody;
-use dr_runs::{CLOSED_WORD, CURSOR_WORD, count_word};
+use crate::plan::Plan;
+use dr_runs::{CLOSED_WORD, CURSOR_WORD, Names, count_word};
 use std::alloc::Global;
 use std::marker::Model;
 use std::sync::Arc;
@@ -42,6 +44,15 @@ impl<T> Model for ReceiverStation<T> {
 }
 
 impl<T> ReceiverStation<T> {
+    /// What the ring was made for.
+    pub fn plan(&self) -> &Plan<T>
+        // It is the ring's plan: of a graph of at most 16 handlers, a size, and a limit of at most 2^62.
+        ensures plan { result.now ≡ self.now.knows.plan }
+        ensures made { IsPlan result.now }
+    {
+        &self.ring.plan
+    }
+
     /// The direct upstreams of the handler.
     pub fn upstreams(&self) -> &[usize]
         ensures { result.now ≡ upstreams_of self.now.knows.plan.upstreams self.now.knows.number }

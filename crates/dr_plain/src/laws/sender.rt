@@ -4,18 +4,20 @@ ghost use Rattle.std.specs.Prelude.{◌≡◌, ◌+◌, ◌<◌, ◌≤◌, ◌+
 ghost use Rattle.dr_graph.specs.Meaning.Graph.{finals};
 ghost use Rattle.dr_cells.specs.declared.token.Token.{Token};
 ghost use Rattle.dr_plain.specs.Calls.Plans.{IsPlan};
-ghost use Rattle.dr_runs.specs.Words.{count_word as count_word_of};
-ghost use Rattle.dr_plain.specs.Meaning.Records.{events_of, sender_looked, halt_looked, published_more, sender_halted, sender_closed, SeesRoom};
+ghost use Rattle.dr_runs.specs.OneSender.Words.{count_word as count_word_of};
+ghost use Rattle.dr_plain.specs.Meaning.Records.{sender_looked, halt_looked, published_more, sender_halted, sender_closed, SeesRoom};
+ghost use Rattle.dr_lent.specs.Events.{events_of};
 ghost use Rattle.dr_plain.specs.declared.record.Step.TheVariants.{SenderPublishes, SenderHalts, SenderCloses};
 ghost use Rattle.dr_plain.specs.Calls.Finds.{FindsCompleted, FindsHalt};
 ghost use Rattle.dr_plain.specs.Calls.Ends.{HasLoaded, HasStored};
 ghost use Rattle.dr_plain.specs.Inside.Seats.{taken_by_claim, given_by_publication};
 
+use super::RingSeat;
 use super::plays::{Close, LookAtFinal, LookAtHalt, Publish, SenderHalt};
-use super::{Lends, Names, RingSeat};
 use crate::body::RingBody;
 use crate::plan::Plan;
-use dr_runs::{CLOSED_WORD, CURSOR_WORD, HALT_WORD, count_word};
+use dr_lent::Lends;
+use dr_runs::{CLOSED_WORD, CURSOR_WORD, HALT_WORD, Names, count_word};
 use std::alloc::Global;
 use std::marker::Model;
 use std::sync::Arc;

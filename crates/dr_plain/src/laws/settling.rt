@@ -5,37 +5,16 @@ ghost use Rattle.std.specs.Prelude.{◌≡◌, ◌<◌, ◌++◌, List};
 ghost use Rattle.dr_runs.specs.Seats.{both_views};
 ghost use Rattle.dr_runs.specs.Gathering.{ViewRan};
 ghost use Rattle.dr_plain.specs.Meaning.Shape.{Shape};
-ghost use Rattle.dr_plain.specs.Calls.Ends.{SenderEnd, ReceiverEnd, HalterStand};
+ghost use Rattle.dr_plain.specs.Calls.Ends.{SenderEnd, ReceiverEnd, HalterEnd};
 ghost use Rattle.dr_plain.specs.Inside.Seats.{exchange};
 ghost use Rattle.dr_plain.specs.Inside.Finishing.{HasAllEnds, TookAll, left_of};
 
 use super::{RingSeat, Words};
 use crate::record::View;
-use atomic_table::{Join, Play, Split};
+use atomic_table::Play;
 use dr_cells::Token;
-use dr_runs::CURSOR_WORD;
+use dr_runs::{CURSOR_WORD, Leave, Together};
 use std::marker::{Brand, PhantomData};
-
-// A view leaves its seat, which keeps the slots that it has in hand.
-struct Leave;
-
-impl<T> Split<View<T>> for Leave {
-    ghost use Rattle.dr_runs.specs.Seats.{no_view};
-
-    ghost left = { λ _. no_view };
-
-    ghost right = { λ v. v };
-}
-
-struct Together;
-
-impl<T> Join<View<T>> for Together {
-    ghost use Rattle.dr_runs.specs.Seats.{both_views, no_view};
-
-    ghost both = { both_views };
-
-    ghost spent = { no_view };
-}
 
 /// What the ring of a seat is made for, for a proof alone.
 pub trait Plans {
@@ -57,11 +36,11 @@ pub struct TakesAll<J> {
 }
 
 impl<T, J: Plans> Play<Token<T>, View<T>> for TakesAll<J> {
-    ghost then = { TookAll J.plan };
+    ghost then = { λ s me n me'. TookAll J.plan me n me' };
 }
 
 /// A seat takes in what another stands for. What slots that other has in hand stay in no seat.
-pub fn take_in<T>(words: &Words<T>, seat: &mut RingSeat<T>, mut other: RingSeat<T>)
+pub fn unite<T>(words: &Words<T>, seat: &mut RingSeat<T>, mut other: RingSeat<T>)
     requires table { (seat.old.table_id ≡ words.now.table_id) × (other.table_id ≡ words.now.table_id) × (0 < words.now.table_id.words) }
     // The seat stays this seat, and stands for the ends of both.
     ensures seat { (seat.new.table_id ≡ seat.old.table_id) × (seat.new.id ≡ seat.old.id) }
@@ -77,13 +56,13 @@ pub fn take_in<T>(words: &Words<T>, seat: &mut RingSeat<T>, mut other: RingSeat<
 pub fn take_all<T, J: Plans>(words: &Words<T>, seat: &mut RingSeat<T>)
     requires table { (seat.old.table_id ≡ words.now.table_id) × (0 < words.now.table_id.words) }
     requires plan { words.now.key ≡ J.plan }
-    requires ends { (s : SenderEnd T) × (es : List (ReceiverEnd T)) × (t : HalterStand T) × HasAllEnds seat.old.me.0 s es t }
+    requires ends { (s : SenderEnd T) × (es : List (ReceiverEnd T)) × (t : HalterEnd T) × HasAllEnds seat.old.me.0 s es t }
     // The seat stays one of this ring.
     ensures seat { seat.new.table_id ≡ seat.old.table_id }
     // One run came to what all ends know that the seat stands for.
     ensures ran { ViewRan (exchange J.plan) seat.old.me.0 }
     // What lay in the slots is in hand, before what was there.
-    ensures hand { (s : SenderEnd T) (es : List (ReceiverEnd T)) (t : HalterStand T) → HasAllEnds seat.old.me.0 s es t → seat.new.me.1 ≡ left_of s es ++ seat.old.me.1 }
+    ensures hand { (s : SenderEnd T) (es : List (ReceiverEnd T)) (t : HalterEnd T) → HasAllEnds seat.old.me.0 s es t → seat.new.me.1 ≡ left_of s es ++ seat.old.me.1 }
 {
     words.load::<TakesAll<J>>(seat, CURSOR_WORD);
 }

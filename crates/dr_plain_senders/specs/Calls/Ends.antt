@@ -13,7 +13,8 @@ use Rattle.dr_plain_senders.specs.declared.record.SenderRecord.{SenderRecord}
 use Rattle.dr_plain_senders.specs.declared.record.ReceiverRecord.{ReceiverRecord}
 use Rattle.dr_plain_senders.specs.declared.record.HalterRecord.{HalterRecord}
 use Rattle.dr_plain_senders.specs.declared.record.MarkLook.{MarkLook}
-use Rattle.dr_plain_senders.specs.Meaning.Records.{events_of, mark_look}
+use Rattle.dr_plain_senders.specs.Meaning.Records.{mark_look}
+use Rattle.dr_lent.specs.Events.{events_of}
 
 -- an end: of which ring it is, made for what, what it knows, the slots that it has in hand,
 -- the run as it was at its last step, and what it has stored since the ring's opening
@@ -31,8 +32,9 @@ SenderStand T = EndOf T (SenderRecord T)
 abbrev pub ReceiverStand : Type 0 → Type 0
 ReceiverStand T = EndOf T (ReceiverRecord T)
 
-abbrev pub HalterStand : Type 0 → Type 0
-HalterStand T = EndOf T HalterRecord
+-- the halter is to its caller what it is at its station
+abbrev pub HalterEnd : Type 0 → Type 0
+HalterEnd T = EndOf T HalterRecord
 
 -- looks at the counts of some handlers
 abbrev pub count_looks : List ℕ → List ℕ → List Look

@@ -1,6 +1,5 @@
 -- What a look may find: no word that is looked at falls. And what an exchange comes to.
-use Rattle.std.specs.Prelude.{◌≡◌, ℕ, ◌+◌, ◌<◌, ◌≤◌, ◌==◌, if◌then◌else◌, true, List, length, None}
-use Rattle.dr_runs.specs.declared.look.Look.{Look}
+use Rattle.std.specs.Prelude.{◌≡◌, ℕ, ◌+◌, ◌<◌, ◌≤◌, ◌==◌, if◌then◌else◌, true, length, None}
 use Rattle.dr_runs.specs.Looks.{last_look}
 use Rattle.dr_plain_senders.specs.Meaning.Shape.{Shape}
 use Rattle.dr_plain_senders.specs.Meaning.Words.{claim_word, claimed_in, is_halted}
@@ -8,9 +7,6 @@ use Rattle.dr_plain_senders.specs.declared.record.Stage.{Stage}
 use Rattle.dr_plain_senders.specs.declared.record.SenderRecord.{SenderRecord}
 use Rattle.dr_plain_senders.specs.declared.record.ReceiverRecord.{ReceiverRecord}
 use Rattle.dr_plain_senders.specs.Meaning.Records.{Owns, sender_looked, claimed_from, marked_next}
-
-abbrev pub FindsMore : List Look → ℕ → ℕ → Type 0
-FindsMore looks word n = last_look 0 looks word ≤ n
 
 -- how many an exchange of c for c + n claims
 abbrev pub exchanged : ℕ → ℕ → ℕ → ℕ

@@ -1,22 +1,22 @@
 -- What the ends of a ring over plain memory with several senders are as ends in place.
-use Rattle.std.specs.Prelude.{◌≡◌, ℕ, suc, ◌+◌, ◌^◌, ◌≤◌, ◌++◌, Contains, ◌==◌, ◌&&◌, not, nat_le, nat_lt, max, if◌then◌else◌, Bool, true, List, [], ◌∷◌, length, Option, None, Err, Ok}
+use Rattle.std.specs.Prelude.{ℕ, suc, ◌+◌, ◌^◌, ◌≤◌, ◌==◌, ◌&&◌, not, nat_le, nat_lt, max, if◌then◌else◌, Bool, true, List, [], ◌∷◌, length, Option, None, Ok}
 use Rattle.std.specs.List.{filter_map}
 use Rattle.dr_graph.specs.Meaning.Graph.{least_of}
-use Rattle.dr_meaning.specs.Calls.Calling.{CompletesUpTo, InPlaceCall, Polls}
+use Rattle.dr_meaning.specs.Calls.Calling.{ChangesEvent, ClaimsStretch, CompletesUpTo, InPlaceCall, InPlaceInletCall, Polls, PublishesFilled}
 use Rattle.dr_runs.specs.declared.look.Look.{Look}
 use Rattle.dr_runs.specs.LastLooks.{found_last}
 use Rattle.dr_plain_senders.specs.declared.record.MarkLook.{MarkLook}
 use Rattle.dr_plain_senders.specs.declared.record.Own.{Own}
-use Rattle.dr_plain_senders.specs.declared.record.ReceiverRecord.{ReceiverRecord}
 use Rattle.dr_plain_senders.specs.Meaning.Moments.{event_of}
 use Rattle.dr_plain_senders.specs.Meaning.Records.{is_published}
+use Rattle.dr_plain_senders.specs.Meaning.Settling.{SawAtMost}
 use Rattle.dr_plain_senders.specs.Meaning.Shape.{Shape}
-use Rattle.dr_plain_senders.specs.Meaning.Words.{count_word, marked_from}
+use Rattle.dr_plain_senders.specs.Meaning.Words.{marked_from}
 use Rattle.dr_plain_senders.specs.Calls.Ends.{ReceiverEnd, SenderEnd}
 use Rattle.dr_plain_senders.specs.Calls.Publishing.{PublishCall}
 use Rattle.dr_plain_senders.specs.Calls.Receiving.{CompleteCall, PollCall, ups_of}
 use Rattle.dr_plain_senders.specs.Calls.Sending.{SenderClaimCall}
-use Rattle.dr_meaning.specs.declared.claim_fault.ClaimFault.{ClaimFault}
+use Rattle.dr_plain_senders.specs.Calls.Writing.{UpdateCall}
 use Rattle.dr_meaning.specs.Calls.InPlaceInlets.{Sending}
 
 module _ {T : Type 0} where
@@ -59,13 +59,11 @@ module _ {T : Type 0} where
   abbrev pub sending_of : SenderEnd T → Sending T
   sending_of e = sending_by e.plan e.knows.own e.writes
 
-  -- a refused claim tells all that the ring's own does
-  abbrev pub RefusesClaim : SenderEnd T → ℕ → ClaimFault → SenderEnd T → Type 0
-  RefusesClaim e n fault e' = SenderClaimCall e n e' (Err fault)
-
-  -- a publication tells all that the ring's own does: it changes nothing else, and does not halt the ring
-  abbrev pub StoresStretch : SenderEnd T → ℕ → ℕ → SenderEnd T → Type 0
-  StoresStretch e lo hi e' = PublishCall e lo hi e' (Ok tt)
+  -- each call of a sender tells all that the ring's own does: so no claim, change or publication halts the ring
+  abbrev pub sends_in_place : SenderEnd T → InPlaceInletCall → SenderEnd T → Type 0
+  sends_in_place e (ClaimsStretch n answer) e' = SenderClaimCall e n e' answer
+  sends_in_place e (ChangesEvent s) e' = UpdateCall (λ was now. Unit {0}) e s e' (Ok tt)
+  sends_in_place e (PublishesFilled lo hi) e' = PublishCall e lo hi e' (Ok tt)
 
   -- and so does each call of a receiver
   abbrev pub does_in_place : ReceiverEnd T → InPlaceCall → ReceiverEnd T → Type 0
@@ -85,15 +83,6 @@ module _ {T : Type 0} where
 
   abbrev pub offered_of : ReceiverEnd T → ℕ
   offered_of e = offered_in e.plan (ups_of e.plan e.knows) e.knows.marks e.knows.looks
-
-  -- a look that found the marks of some sequences, each of which is one of the first n
-  abbrev pub IsWithin : Shape T → ℕ → MarkLook → Type 0
-  IsWithin k n x = x.sequence + marked_from k x.sequence x.found ≤ n
-
-  -- a receiver found no mark of a sequence from this on, and nothing more completed by its upstreams
-  pub record SawAtMost (n : ℕ) (k : Shape T) (ups : List ℕ) (r : ReceiverRecord T) : Type 0 where
-    pub marks : (before after : List MarkLook) (x : MarkLook) → r.marks ≡ before ++ x ∷ after → IsWithin k n x
-    pub counts : (u : ℕ) (before after : List Look) (x : Look) → Contains ups u → r.looks ≡ before ++ x ∷ after → x.word ≡ count_word u → x.value ≤ n
 
   -- it saw at least so many: no less bounds what it saw
   abbrev pub SawSome : ReceiverEnd T → ℕ → Type 0

@@ -17,7 +17,8 @@ use Rattle.dr_plain_senders.specs.declared.record.Own.{Own}
 use Rattle.dr_plain_senders.specs.declared.record.SenderRecord.{SenderRecord}
 use Rattle.dr_plain_senders.specs.declared.record.Step.{Step}
 use Rattle.dr_plain_senders.specs.declared.record.Step.TheVariants.{SenderPublishes}
-use Rattle.dr_plain_senders.specs.Meaning.Records.{Owns, is_published, events_of, has_published}
+use Rattle.dr_plain_senders.specs.Meaning.Records.{Owns, is_published, has_published}
+use Rattle.dr_lent.specs.Events.{events_of}
 use Rattle.dr_plain_senders.specs.Calls.Ends.{SenderEnd, sender_place}
 use Rattle.dr_plain_senders.specs.Calls.Writing.{Sight, Unasked, Holds, IsSight, marks_of, claims_of, sight_tests, written_where}
 

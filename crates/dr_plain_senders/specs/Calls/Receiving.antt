@@ -16,7 +16,7 @@ use Rattle.dr_plain_senders.specs.Meaning.Shape.{Shape}
 use Rattle.dr_plain_senders.specs.Meaning.Words.{claim_word, claimed_in, is_halted, in_word, marked_from}
 use Rattle.dr_plain_senders.specs.declared.record.ReceiverRecord.{ReceiverRecord}
 use Rattle.dr_plain_senders.specs.declared.record.Step.TheVariants.{ReceiverCompletes}
-use Rattle.dr_plain_senders.specs.Meaning.Records.{events_of}
+use Rattle.dr_lent.specs.Events.{events_of}
 use Rattle.dr_plain_senders.specs.Calls.Ends.{ReceiverEnd, received_of, receiver_place, count_looks, mark_looks}
 
 -- a walk over the words of marks from that of the sequence s on: all marks of its sequences
@@ -104,14 +104,14 @@ module _ {T : Type 0} where
   abbrev pub IsNotInHand : ReceiverRecord T → ℕ → Type 0
   IsNotInHand r s = (s < r.completed) ⊎ (length r.received ≤ s)
 
+  -- a poll stores nothing
+  abbrev pub PollCall : ReceiverEnd T → ℕ → ReceiverEnd T → Result Polled Refusal → Type 0
+  PollCall e room e' result =
+      (receiver_place e' ≡ receiver_place e) × Polls e.plan e.knows room e'.knows result × (e'.stored ≡ e.stored) × IsBeginning e.past e'.past
+
   -- the call whole: the end stays where it is, answers by what it knows,
   -- and stores its count where it is not refused and nothing else, and all that it saw before comes first
   abbrev pub CompleteCall : ReceiverEnd T → ℕ → ReceiverEnd T → Result (Unit {0}) Refusal → Type 0
   CompleteCall e n e' result =
       (receiver_place e' ≡ receiver_place e) × TriesToComplete e.knows n e'.knows result
       × StoresWhereOk e.stored (ReceiverCompletes e.knows.number n ∷ []) e'.stored result × IsBeginning e.past e'.past
-
-  -- a poll stores nothing
-  abbrev pub PollCall : ReceiverEnd T → ℕ → ReceiverEnd T → Result Polled Refusal → Type 0
-  PollCall e room e' result =
-      (receiver_place e' ≡ receiver_place e) × Polls e.plan e.knows room e'.knows result × (e'.stored ≡ e.stored) × IsBeginning e.past e'.past

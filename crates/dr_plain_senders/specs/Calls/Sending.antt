@@ -19,8 +19,6 @@ use Rattle.dr_plain_senders.specs.declared.record.Step.{Step}
 use Rattle.dr_plain_senders.specs.declared.record.Step.TheVariants.{SenderClaims, SenderHalts}
 use Rattle.dr_meaning.specs.declared.claim_fault.ClaimFault.{ClaimFault}
 use Rattle.dr_meaning.specs.declared.claim_fault.ClaimFault.TheVariants.{Refused, Contended}
-use Rattle.dr_plain_senders.specs.Meaning.Lying.{Laid}
-use Rattle.dr_plain_senders.specs.Inside.Seats.{LayIn, LayAsLent, taken_by_claim}
 use Rattle.dr_runs.specs.Runs.{IsBeginning}
 use Rattle.dr_plain_senders.specs.Calls.Ends.{SenderStand, SenderEnd, HasStoredAt, Stays, at_station, count_looks}
 
@@ -85,12 +83,6 @@ module _ {T : Type 0} where
   abbrev pub knows_after : SenderRecord T → ℕ → List Look → Result Claimed ClaimFault → SenderRecord T
   knows_after r n seen (Ok c) = record r { own = r.own ++ fresh_own r.number c.lo n; looks = r.looks ++ seen }
   knows_after r n seen (Err fault) = record r { looks = r.looks ++ seen }
-
-  -- the slots that the stretch has are in hand, with what lay in them, and else the same
-  abbrev pub ClaimTakes : SenderStand T → ℕ → SenderStand T → Result Claimed ClaimFault → Type 0
-  ClaimTakes e n e' (Ok c) =
-      (laid : List (Laid T)) × LayIn e.plan c.lo n laid × (e'.hand ≡ taken_by_claim e.plan c.lo laid ++ e.hand) × LayAsLent e.plan e.knows c.lo laid
-  ClaimTakes e n e' (Err fault) = e'.hand ≡ e.hand
 
   pub record ClaimCall (e : SenderStand T) (n : ℕ) (e' : SenderStand T) (result : Result Claimed ClaimFault) : Type 0 where
     pub stays : Stays e e'

@@ -17,11 +17,11 @@ use Rattle.dr_plain_senders.specs.Meaning.Settling.{CameTo, Settles}
 use Rattle.dr_plain_senders.specs.declared.record.Stage.{Stage}
 use Rattle.dr_plain_senders.specs.declared.record.ReceiverRecord.{ReceiverRecord}
 use Rattle.dr_plain_senders.specs.declared.record.Step.{Step}
-use Rattle.dr_plain_senders.specs.Calls.Ends.{SenderEnd, ReceiverEnd, HalterStand, sender_place, receiver_place}
+use Rattle.dr_plain_senders.specs.Calls.Ends.{SenderEnd, ReceiverEnd, HalterEnd, sender_place, receiver_place}
 
 module _ {T : Type 0} where
   -- these are the senders of the halter's ring by their numbers, and its receivers in the graph's order
-  pub record AreAllEnds (ss : List (SenderEnd T)) (rs : List (ReceiverEnd T)) (t : HalterStand T) : Type 0 where
+  pub record AreAllEnds (ss : List (SenderEnd T)) (rs : List (ReceiverEnd T)) (t : HalterEnd T) : Type 0 where
     pub senders : length ss ≡ t.plan.senders
     pub receivers : length rs ≡ handlers_of t.plan
     pub each_sender : (p : ℕ) (e : SenderEnd T) → get_elem? ss p ≡ some e → sender_place e ≡ (t.ring, t.plan, p)
@@ -29,7 +29,7 @@ module _ {T : Type 0} where
 
   -- The run of a ring, which came so far, and to what its ends know, and in which each of them stored exactly what it did.
   -- Its transcript leads the machine to the ring's picture, and has the five laws.
-  pub record HasRun (ss : List (SenderEnd T)) (rs : List (ReceiverEnd T)) (t : HalterStand T) (n : ℕ) (on : Bool) : Type 0 where
+  pub record HasRun (ss : List (SenderEnd T)) (rs : List (ReceiverEnd T)) (t : HalterEnd T) (n : ℕ) (on : Bool) : Type 0 where
     pub steps : List (Step T)
     pub entries : Transcript T
     pub world : World T

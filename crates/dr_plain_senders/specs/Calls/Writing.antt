@@ -109,8 +109,21 @@ module _ {T : Type 0} where
     pub stored : e'.stored ≡ e.stored
     pub past : IsBeginning e.past e'.past
 
+  -- a sequence is refused by what is seen of it, whatever was to be written, and nothing but what was looked at changes
+  pub record RefusedWrite (e : SenderEnd T) (s : ℕ) (e' : SenderEnd T) (refusal : Refusal) : Type 0 where
+    pub place : sender_place e' ≡ sender_place e
+    pub sight : Sight T
+    pub sees : IsSight e s sight
+    pub asked : IsAsked sight
+    pub answer : IsAnswerOf {A = Unit {0}} (write_causes (tests_of_write e.plan s sight)) (as_end (Err refusal))
+    pub knows : e'.knows ≡ after_write e.knows s sight (Err refusal)
+    pub writes : e'.writes ≡ e.writes
+    pub cells : e'.cells ≡ e.cells
+    pub stored : e'.stored ≡ e.stored
+    pub past : IsBeginning e.past e'.past
+
   -- a change in place: what it leaves of what lay in the cell of the sequence is what is written; a refused one is as a refused write
   abbrev pub UpdateCall : (T → T → Type 0) → SenderEnd T → ℕ → SenderEnd T → Result (Unit {0}) Refusal → Type 0
   UpdateCall Changes e s e' (Ok done) =
       (was : T) × (now : T) × (slice_index_or e.cells (s % length e.cells) None ≡ Some was) × Changes was now × WriteCall e s now e' (Ok done)
-  UpdateCall Changes e s e' (Err refusal) = (event : T) → WriteCall e s event e' (Err refusal)
+  UpdateCall Changes e s e' (Err refusal) = RefusedWrite e s e' refusal

@@ -13,7 +13,7 @@ use Rattle.dr_plain_senders.specs.Meaning.Records.{Owns}
 use Rattle.dr_plain_senders.specs.declared.record.EndRecord.{EndRecord}
 use Rattle.dr_plain_senders.specs.declared.record.Stage.{Stage}
 use Rattle.dr_plain_senders.specs.declared.record.Step.{Step}
-use Rattle.dr_plain_senders.specs.Calls.Ends.{SenderEnd, ReceiverEnd, HalterStand}
+use Rattle.dr_plain_senders.specs.Calls.Ends.{SenderEnd, ReceiverEnd, HalterEnd}
 use Rattle.dr_plain_senders.specs.Calls.Settling.{handler_counts}
 use Rattle.dr_plain_senders.specs.Inside.Finishing.{HasAllEnds}
 use Rattle.dr_plain_senders.specs.Inside.Fits.{PartsFit}
@@ -60,7 +60,7 @@ module _ {T : Type 0} where
         → PartsFit e.plan e.knows parts
 
   -- all ends of a ring are together: in one view, and with what they bring in its places
-  pub record AreTogether (k : Shape T) (v : View (EndRecord T) (Step T)) (ss : List (SenderEnd T)) (rs : List (ReceiverEnd T)) (t : HalterStand T)
+  pub record AreTogether (k : Shape T) (v : View (EndRecord T) (Step T)) (ss : List (SenderEnd T)) (rs : List (ReceiverEnd T)) (t : HalterEnd T)
       (counts : List HandlerCounts) (hands : List (List (Token T))) (tokens : List (Token T)) (brought : List Bool) : Type 0 where
     pub plan : k ≡ t.plan
     pub ends : HasAllEnds v ss rs t

@@ -17,7 +17,7 @@ use Rattle.dr_plain_senders.specs.Meaning.Lying.{Laid, unlent, lent, part_of, pl
 use Rattle.dr_plain_senders.specs.declared.record.Stage.{Stage}
 use Rattle.dr_plain_senders.specs.declared.record.EndRecord.{EndRecord}
 use Rattle.dr_plain_senders.specs.declared.record.Step.{Step}
-use Rattle.dr_plain_senders.specs.Calls.Ends.{SenderEnd, ReceiverEnd, HalterStand}
+use Rattle.dr_plain_senders.specs.Calls.Ends.{SenderEnd, ReceiverEnd, HalterEnd}
 use Rattle.dr_plain_senders.specs.Calls.Settling.{AreAllEnds, handler_counts}
 use Rattle.dr_plain_senders.specs.Inside.Seats.{Hand, Sitting, ring_ends, exchange, IsOfRound}
 use Rattle.dr_plain_senders.specs.Inside.Gathering.{sender_known, receiver_known, halter_known}
@@ -53,7 +53,7 @@ module _ {T : Type 0} where
         → (s : ℕ) × (t : Stage T) × (length stages + i ≡ k.size + s) × (get_elem? stages s ≡ some t) × (t.lent ≡ None)
 
   -- a view has all ends of a ring
-  pub record HasAllEnds (v : View (EndRecord T) (Step T)) (ss : List (SenderEnd T)) (rs : List (ReceiverEnd T)) (t : HalterStand T) : Type 0 where
+  pub record HasAllEnds (v : View (EndRecord T) (Step T)) (ss : List (SenderEnd T)) (rs : List (ReceiverEnd T)) (t : HalterEnd T) : Type 0 where
     pub senders : (p : ℕ) (e : SenderEnd T) → get_elem? ss p ≡ some e → IsInView ring_ends v (sender_known e)
     pub receivers : (h : ℕ) (e : ReceiverEnd T) → get_elem? rs h ≡ some e → IsInView ring_ends v (receiver_known e)
     pub halter : IsInView ring_ends v (halter_known t)

@@ -4,7 +4,7 @@ use denote.RawPtr.{Ptr}
 use Rattle.atomic_table.specs.Seated.{TableId}
 use Rattle.dr_plain_senders.specs.Meaning.Shape.{Shape, handlers_of}
 use Rattle.dr_plain_senders.specs.Calls.Plans.{IsPlan}
-use Rattle.dr_plain_senders.specs.Calls.Ends.{SenderEnd, ReceiverEnd, HalterStand, sender_place, receiver_place}
+use Rattle.dr_plain_senders.specs.Calls.Ends.{SenderEnd, ReceiverEnd, HalterEnd, sender_place, receiver_place}
 use Rattle.dr_plain_senders.specs.declared.brought_together.BroughtTogether.{BroughtTogether}
 use Rattle.dr_plain_senders.specs.Inside.BroughtTogether.{HasPlaces}
 use Rattle.dr_plain_senders.specs.Inside.Seats.{End, IsAtTable, IsHalter}
@@ -17,7 +17,7 @@ module _ {T : Type 0} where
   abbrev pub BelongsReceiver : TableId → Shape T → ℕ → ReceiverEnd T → Type 0
   BelongsReceiver ring k place e = receiver_place e ≡ (ring, k, place)
 
-  abbrev pub BelongsHalter : TableId → Shape T → HalterStand T → Type 0
+  abbrev pub BelongsHalter : TableId → Shape T → HalterEnd T → Type 0
   BelongsHalter ring k e = IsAtTable e.ring ring k × (e.plan ≡ k)
 
   -- a halter's seat stands for it alone, and it has the strip's memory, and places for what the ends bring

@@ -10,7 +10,8 @@ use Rattle.dr_lent.specs.Rows.{cells_of}
 use Rattle.dr_lent.specs.declared.lent.Lent.{Lent}
 use Rattle.dr_plain_senders.specs.Meaning.Shape.{Shape}
 use Rattle.dr_plain_senders.specs.Meaning.Words.{claim_word, claimed_in, cell_of}
-use Rattle.dr_plain_senders.specs.Meaning.Records.{events_of, has_published, sender_looked}
+use Rattle.dr_plain_senders.specs.Meaning.Records.{has_published, sender_looked}
+use Rattle.dr_lent.specs.Events.{events_of}
 use Rattle.dr_plain_senders.specs.declared.record.SenderRecord.{SenderRecord}
 use Rattle.dr_plain_senders.specs.declared.record.Step.{Step}
 use Rattle.dr_plain_senders.specs.declared.record.Step.TheVariants.{SenderPublishes}

@@ -1,13 +1,17 @@
 -- What the sender's looks come to, as a claim goes on.
-use Rattle.std.specs.Prelude.{◌≡◌, ℕ, ◌+◌, ◌<◌, ◌≤◌, Bool, true, false, List, ◌++◌, length, slice_index}
+use Rattle.std.specs.Prelude.{◌≡◌, ℕ, ◌+◌, ◌<◌, ◌≤◌, Bool, true, false, List, ◌++◌, length, slice_index, Result, Ok, Err}
+use Rattle.dr_meaning.specs.declared.command.Claimed.{Claimed}
+use Rattle.dr_meaning.specs.declared.claim_fault.ClaimFault.{ClaimFault}
 use Rattle.dr_graph.specs.Meaning.Graph.{finals}
 use Rattle.dr_runs.specs.declared.look.Look.{Look}
 use Rattle.dr_plain_senders.specs.Meaning.Shape.{Shape}
 use Rattle.dr_plain_senders.specs.declared.record.Stage.{Stage}
 use Rattle.dr_plain_senders.specs.declared.record.SenderRecord.{SenderRecord}
 use Rattle.dr_plain_senders.specs.Meaning.Records.{Owns}
+use Rattle.dr_plain_senders.specs.Meaning.Lying.{Laid}
 use Rattle.dr_plain_senders.specs.Calls.Ends.{SenderStand, count_looks}
 use Rattle.dr_plain_senders.specs.Calls.Finds.{IsEarlier}
+use Rattle.dr_plain_senders.specs.Inside.Seats.{LayIn, LayAsLent, taken_by_claim}
 
 -- every count is at least what was needed
 pub record IsEnough (hs counts : List ℕ) (need : ℕ) : Type 0 where
@@ -38,3 +42,9 @@ module _ {T : Type 0} where
   -- what a claim that is given tells of the sequences that the sender had
   abbrev pub ClaimsApart : SenderStand T → ℕ → ℕ → Type 0
   ClaimsApart e lo n = (s : ℕ) (t : Stage T) → Owns e.knows s t → IsEarlier e.plan lo (lo + n) s t
+
+  -- the slots that the stretch has are in hand, with what lay in them, and else the same
+  abbrev pub ClaimTakes : SenderStand T → ℕ → SenderStand T → Result Claimed ClaimFault → Type 0
+  ClaimTakes e n e' (Ok c) =
+      (laid : List (Laid T)) × LayIn e.plan c.lo n laid × (e'.hand ≡ taken_by_claim e.plan c.lo laid ++ e.hand) × LayAsLent e.plan e.knows c.lo laid
+  ClaimTakes e n e' (Err fault) = e'.hand ≡ e.hand

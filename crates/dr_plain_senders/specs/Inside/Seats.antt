@@ -13,7 +13,7 @@ use Rattle.dr_runs.specs.Seats.{holding, fresh_view}
 use Rattle.dr_runs.specs.Stretches.{stretch, rows}
 use Rattle.dr_lent.specs.declared.lent.Lent.{Lent}
 use Rattle.dr_lent.specs.Over as over
-use Rattle.dr_runs.specs.Looks.{last_look}
+use Rattle.dr_runs.specs.Looks.{last_look, FindsMore}
 use Rattle.dr_plain_senders.specs.Meaning.Shape.{Shape, IsShape, handlers_of}
 use Rattle.dr_plain_senders.specs.Meaning.Words.{claim_word, claimed_in, halted_from, words_of, lanes_of, lane_of, slots_of}
 use Rattle.dr_plain_senders.specs.declared.record.Stage.{Stage}
@@ -30,7 +30,7 @@ use Rattle.dr_plain_senders.specs.Meaning.Lying.{Laid, unlent, lent, placed, Lie
 use Rattle.dr_plain_senders.specs.Meaning.Steps.{Happens}
 use Rattle.dr_plain_senders.specs.Meaning.Stores.{sender_number, receiver_number, is_store_of}
 use Rattle.dr_plain_senders.specs.Meaning.Moments.{fresh_sender, fresh_senders, fresh_receiver, fresh_receivers, new_world, entries_of}
-use Rattle.dr_plain_senders.specs.Calls.Finds.{FindsMore, FindsClaims, FindsEvents, FindsNext, FindsOwn, IsEarlier, exchanged, after_exchange}
+use Rattle.dr_plain_senders.specs.Calls.Finds.{FindsClaims, FindsEvents, FindsNext, FindsOwn, IsEarlier, exchanged, after_exchange}
 
 -- what is known of a seat's ends, with the slots that it has in hand, and a seat: with it, the run as it was at each end's last step
 abbrev pub End : Type 0 → Type 0
@@ -181,8 +181,8 @@ module _ {T : Type 0} where
   given_by_completion k r n = stretch (placed k (lane_of r.number)) r.completed (lent_all (take (n - r.completed) (drop r.completed r.received)))
 
   -- What each kind of step tells: of the seat before and the word found or stored, the seat after.
-  abbrev pub SenderLooked : Tells T
-  SenderLooked s me n me' = let r : SenderRecord T = sender_of me.0 in (me' ≡ as_sender (sender_looked r s.word n) me.1) × FindsMore r.looks s.word n
+  abbrev pub SenderLookedAtCount : Tells T
+  SenderLookedAtCount s me n me' = let r : SenderRecord T = sender_of me.0 in (me' ≡ as_sender (sender_looked r s.word n) me.1) × FindsMore r.looks s.word n
 
   -- one look tells how many sequences are claimed, and what a sender has is among these
   abbrev pub SenderLookedAtClaims : Tells T

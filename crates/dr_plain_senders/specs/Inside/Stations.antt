@@ -6,7 +6,7 @@ use Rattle.dr_runs.specs.Seats.{past_of}
 use Rattle.dr_runs.specs.Looks.{looks_counted}
 use Rattle.dr_plain_senders.specs.Meaning.Shape.{Shape, handlers_of}
 use Rattle.dr_plain_senders.specs.Calls.Plans.{IsPlan}
-use Rattle.dr_plain_senders.specs.Calls.Ends.{SenderStand, ReceiverStand, HalterStand}
+use Rattle.dr_plain_senders.specs.Calls.Ends.{SenderStand, ReceiverStand, HalterEnd}
 use Rattle.dr_plain_senders.specs.declared.brought_together.BroughtTogether.{BroughtTogether}
 use Rattle.dr_plain_senders.specs.Inside.BroughtTogether.{HasPlaces}
 use Rattle.dr_plain_senders.specs.Inside.Seats.{End, Sitting, IsAtTable, stored_of, sender_of, receiver_of, halter_of, IsSender, IsReceiver, IsHalter}
@@ -24,8 +24,8 @@ module _ {T : Type 0} where
   abbrev pub receiver_stand : TableId → Shape T → Sitting T → ReceiverStand T
   receiver_stand ring k me = record { ring = ring; plan = k; knows = receiver_of me.0.ends; hand = me.1; past = past_of me.0; stored = stored_of me.0 }
 
-  abbrev pub halter_stand : TableId → Shape T → Sitting T → HalterStand T
-  halter_stand ring k me = record { ring = ring; plan = k; knows = halter_of me.0.ends; hand = me.1; past = past_of me.0; stored = stored_of me.0 }
+  abbrev pub halter_end : TableId → Shape T → Sitting T → HalterEnd T
+  halter_end ring k me = record { ring = ring; plan = k; knows = halter_of me.0.ends; hand = me.1; past = past_of me.0; stored = stored_of me.0 }
 
   -- an end's seat is at the table of its ring and stands for that end alone, and its looks are counted
   pub record SenderSits (at seat : TableId) (key k : Shape T) (me : End T) (number looked : ℕ) : Type 0 where

@@ -4,14 +4,14 @@ use Rattle.std.specs.Prelude.{slice_index, slice_index_or, Option, Some, None, t
 use Rattle.std.specs.List.{range_with_len, filter_map}
 use mathlib.Core.Option.{some}
 use lib.ListN.{get_elem?}
-use Rattle.dr_meaning.specs.declared.command.Command.TheVariants.{Claim, Write, Publish, Poll, Complete, Halt}
+use Rattle.dr_meaning.specs.declared.command.Command.TheVariants.{Claim, Write, Publish, Complete, Halt}
 use Rattle.dr_meaning.specs.declared.refusal.Refusal.TheVariants.{NotClaimed, AlreadyPublished}
-use Rattle.dr_meaning.specs.declared.command.Reply.TheVariants.{Refused, Claimed, Written, Published, Batch, Completed, Halting}
+use Rattle.dr_meaning.specs.declared.command.Reply.TheVariants.{Refused, Claimed, Written, Published, Completed, Halting}
 use Rattle.dr_meaning.specs.Meaning.Machine as machine
 use Rattle.dr_meaning.specs.Meaning.Machine.{State, available}
 use Rattle.dr_meaning.specs.Meaning.Transcript.{Transcript}
 use Rattle.dr_runs.specs.Runs as runs
-use Rattle.dr_runs.specs.Entries.{entry, told_drained}
+use Rattle.dr_runs.specs.Entries.{entry, told_drained, poll_of}
 use Rattle.dr_lent.specs.declared.lent.Lent.{Lent}
 use Rattle.dr_plain_senders.specs.Meaning.Shape.{Shape, handlers_of, ring_setup}
 use Rattle.dr_plain_senders.specs.Meaning.Words.{claim_word, is_halted, count_word, mark_word, is_out_by, words_of}
@@ -85,12 +85,6 @@ module _ {T : Type 0} where
   -- the events of n sequences from s on, as far as they are published
   abbrev pub events_from : List (Stage T) → ℕ → ℕ → List T
   events_from stages s n = filter_map event_of (take n (drop s stages))
-
-  -- the poll that hands out these events, where some are handed out
-  abbrev pub poll_of : ℕ → ℕ → List T → ℕ → Transcript T
-  poll_of h taken [] available = []
-  poll_of h taken (event ∷ events) available =
-      entry (Poll h (length (event ∷ events))) (Batch taken (length (event ∷ events)) (taken + length (event ∷ events) == available)) (event ∷ events)
 
   -- what a receiver takes at a look, so many
   abbrev pub batch_of : Shape T → World T → ℕ → ReceiverRecord T → ℕ → Transcript T

@@ -32,10 +32,6 @@ abbrev pub mark_look : List Look → ℕ → ℕ → MarkLook
 mark_look looks s found = record { sequence = s; found = found; after = length looks }
 
 module _ {T : Type 0} where
-  -- the events that were lent
-  abbrev pub events_of : List (Lent T) → List T
-  events_of lents = map (λ (l : Lent T). l.event) lents
-
   -- a sequence that is claimed alone
   abbrev pub fresh_stage : ℕ → Stage T
   fresh_stage p = record { owner = p; lent = None }

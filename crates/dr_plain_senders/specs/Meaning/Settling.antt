@@ -1,12 +1,14 @@
 -- What the ends of a ring know of each other, once they come together.
-use Rattle.std.specs.Prelude.{◌≡◌, ℕ, ◌+◌, ◌≤◌, true, Bool, List, length, take, slice_index, Some, Contains}
+use Rattle.std.specs.Prelude.{◌≡◌, ℕ, ◌+◌, ◌≤◌, true, Bool, List, ◌∷◌, ◌++◌, length, take, slice_index, Some, Contains}
 use Rattle.std.specs.List.{take_while, filter_map}
 use mathlib.Core.Option.{some}
 use lib.ListN.{get_elem?}
 use Rattle.dr_graph.specs.Meaning.Graph.{upstreams_of, finals}
 use Rattle.dr_lent.specs.declared.lent.Lent.{Lent}
+use Rattle.dr_runs.specs.declared.look.Look.{Look}
 use Rattle.dr_plain_senders.specs.Meaning.Shape.{Shape}
-use Rattle.dr_plain_senders.specs.Meaning.Words.{claim_word, is_halted}
+use Rattle.dr_plain_senders.specs.Meaning.Words.{claim_word, count_word, is_halted, marked_from}
+use Rattle.dr_plain_senders.specs.declared.record.MarkLook.{MarkLook}
 use Rattle.dr_plain_senders.specs.declared.record.Stage.{Stage}
 use Rattle.dr_plain_senders.specs.declared.record.Own.{Own}
 use Rattle.dr_plain_senders.specs.declared.record.SenderRecord.{SenderRecord}
@@ -19,6 +21,15 @@ module _ {T : Type 0} where
   abbrev pub published_events : World T → List (Lent T)
   published_events w = filter_map (λ t. t.lent) (take_while is_published w.stages)
 
+  -- a look that found the marks of some sequences, each of which is one of the first n
+  abbrev pub IsWithin : Shape T → ℕ → MarkLook → Type 0
+  IsWithin k n x = x.sequence + marked_from k x.sequence x.found ≤ n
+
+  -- a receiver found no mark of a sequence from this on, and nothing more completed by its upstreams
+  pub record SawAtMost (n : ℕ) (k : Shape T) (ups : List ℕ) (r : ReceiverRecord T) : Type 0 where
+    pub marks : (before after : List MarkLook) (x : MarkLook) → r.marks ≡ before ++ x ∷ after → IsWithin k n x
+    pub counts : (u : ℕ) (before after : List Look) (x : Look) → Contains ups u → r.looks ≡ before ++ x ∷ after → x.word ≡ count_word u → x.value ≤ n
+
   -- a receiver has the beginning of what is published, and a final handler leaves room for all that is claimed
   pub record HasBeginning (k : Shape T) (w : World T) (r : ReceiverRecord T) : Type 0 where
     pub beginning : r.received ≡ take (length r.received) (published_events w)
@@ -26,6 +37,8 @@ module _ {T : Type 0} where
     -- who was told that the ring drained has all of it, and all that is claimed
     pub drained : r.told ≡ true → (r.received ≡ published_events w) × (length r.received ≡ length w.stages)
     pub completed : r.completed ≤ length r.received
+    -- it found nothing published, nor completed by its upstreams, beyond what is claimed
+    pub seen : SawAtMost (length w.stages) k (upstreams_of k.upstreams r.number) r
     pub room : Contains (finals k.upstreams) r.number → length w.stages ≤ k.size + r.completed
 
   -- what a receiver took, each of its upstreams completed

@@ -4,15 +4,14 @@
 ghost use Rattle.std.specs.Arc.{arc_value};
 ghost use Rattle.std.specs.Prelude.{◌≡◌, ◌<◌, ◌≤◌, ℕ};
 ghost use Rattle.dr_runs.specs.Seats.{end_of};
-ghost use Rattle.dr_runs.specs.Looks.{last_look};
+ghost use Rattle.dr_runs.specs.Looks.{last_look, FindsMore};
 ghost use Rattle.dr_plain_senders.specs.Meaning.Shape.{handlers_of};
 ghost use Rattle.dr_plain_senders.specs.Meaning.Words.{claim_word, claimed_in as claimed_in_word, count_word as count_word_of, mark_start};
 ghost use Rattle.dr_plain_senders.specs.Meaning.Records.{halter_halted, halter_looked};
-ghost use Rattle.dr_plain_senders.specs.Calls.Finds.{FindsMore};
 ghost use Rattle.dr_plain_senders.specs.declared.record.Step.TheVariants.{HalterHalts};
 ghost use Rattle.dr_plain_senders.specs.Calls.Ends.{HasLoaded, HasStored};
 ghost use Rattle.dr_plain_senders.specs.Inside.Leaving.{BelongsHalter};
-ghost use Rattle.dr_plain_senders.specs.Inside.Stations.{halter_stand, HalterSits};
+ghost use Rattle.dr_plain_senders.specs.Inside.Stations.{halter_end, HalterSits};
 
 use super::RingSeat;
 use super::plays::{Halt, LookAround};
@@ -41,12 +40,12 @@ impl<T> Model for Halter<T> {
     ghost use base.Fml.{ftrue};
     ghost use Rattle.std.specs.Arc.{arc_value};
     ghost use Rattle.dr_runs.specs.Seats.{end_of};
-    ghost use Rattle.dr_plain_senders.specs.Calls.Ends.{HalterStand};
-    ghost use Rattle.dr_plain_senders.specs.Inside.Stations.{halter_stand, HalterSits};
+    ghost use Rattle.dr_plain_senders.specs.Calls.Ends.{HalterEnd};
+    ghost use Rattle.dr_plain_senders.specs.Inside.Stations.{halter_end, HalterSits};
 
-    ghost Value = { HalterStand T };
+    ghost Value = { HalterEnd T };
 
-    ghost view = { λ s. halter_stand s.seat.table_id (arc_value s.ring).plan s.seat.me };
+    ghost view = { λ s. halter_end s.seat.table_id (arc_value s.ring).plan s.seat.me };
 
     ghost invariant = { λ s. HalterSits (arc_value s.ring).table.shared.table_id s.seat.table_id (arc_value s.ring).table.shared.key (arc_value s.ring).plan (end_of s.seat.me) s.strip.cells.ptr s.strip.len s.gathered };
 
@@ -67,7 +66,7 @@ impl<T> Halter<T> {
         gathered: BroughtTogether<T>,
     ) -> Halter<T>
         requires { HalterSits (arc_value ring).table.shared.table_id seat.table_id (arc_value ring).table.shared.key (arc_value ring).plan (end_of seat.me) strip.cells.ptr strip.len gathered }
-        ensures { result ≡ halter_stand seat.table_id (arc_value ring).plan seat.me }
+        ensures { result ≡ halter_end seat.table_id (arc_value ring).plan seat.me }
     {
         Halter {
             ring,

@@ -1,20 +1,21 @@
 //! What each kind of step tells. These types are for the proofs alone.
 
 ghost use Rattle.std.specs.Prelude.{◌-◌};
-ghost use Rattle.dr_plain_senders.specs.Inside.Seats.{Loads, Stores, SenderLooked, SenderLookedAtClaims, SenderClaimed, SenderPublished, SenderLookedAtMark, SenderHalted, ReceiverLookedAtClaims, ReceiverLookedAtMark, ReceiverLookedAtCount, ReceiverCompleted, HalterHalted, HalterLooked, sender_of, receiver_of};
-ghost use Rattle.dr_plain_senders.specs.Meaning.Records.{events_of};
+ghost use Rattle.dr_plain_senders.specs.Inside.Seats.{Loads, Stores, SenderLookedAtCount, SenderLookedAtClaims, SenderClaimed, SenderPublished, SenderLookedAtMark, SenderHalted, ReceiverLookedAtClaims, ReceiverLookedAtMark, ReceiverLookedAtCount, ReceiverCompleted, HalterHalted, HalterLooked, sender_of, receiver_of};
+ghost use Rattle.dr_lent.specs.Events.{events_of};
 ghost use Rattle.dr_plain_senders.specs.declared.record.Step.TheVariants.{SenderClaims, SenderPublishes, SenderHalts, ReceiverCompletes, HalterHalts};
 
-use super::{Lends, Names};
+use super::Names;
 use crate::record::View;
 use atomic_table::Play;
 use dr_cells::Token;
+use dr_lent::Lends;
 use std::marker::PhantomData;
 
-pub struct Look;
+pub struct LookAtFinal;
 
-impl<T> Play<Token<T>, View<T>> for Look {
-    ghost then = { Loads SenderLooked };
+impl<T> Play<Token<T>, View<T>> for LookAtFinal {
+    ghost then = { Loads SenderLookedAtCount };
 }
 
 pub struct SeeClaims;

@@ -7,17 +7,20 @@ ghost use Rattle.dr_lent.specs.declared.lent.Lent.{Lent};
 ghost use Rattle.dr_plain_senders.specs.Calls.Plans.{IsPlan};
 ghost use Rattle.dr_plain_senders.specs.declared.record.Stage.{Stage};
 ghost use Rattle.dr_plain_senders.specs.Meaning.Words.{claim_word, halted_from, count_word as count_word_of, in_word};
-ghost use Rattle.dr_plain_senders.specs.Meaning.Records.{events_of, Owns, has_published, sender_looked, mark_found, SeesRoom};
+ghost use Rattle.dr_plain_senders.specs.Meaning.Records.{Owns, has_published, sender_looked, mark_found, SeesRoom};
+ghost use Rattle.dr_lent.specs.Events.{events_of};
 ghost use Rattle.dr_plain_senders.specs.Meaning.Lying.{Laid};
 ghost use Rattle.dr_plain_senders.specs.declared.record.Step.TheVariants.{SenderClaims, SenderPublishes, SenderHalts};
-ghost use Rattle.dr_plain_senders.specs.Calls.Finds.{FindsMore, FindsOwn, IsEarlier, exchanged, after_exchange};
+ghost use Rattle.dr_plain_senders.specs.Calls.Finds.{FindsOwn, IsEarlier, exchanged, after_exchange};
+ghost use Rattle.dr_runs.specs.Looks.{FindsMore};
 ghost use Rattle.dr_plain_senders.specs.Calls.Ends.{HasLoaded, HasStored};
 ghost use Rattle.dr_plain_senders.specs.Inside.Seats.{LayIn, LayAsLent, taken_by_claim, given_by_publication};
 
-use super::plays::{Claim, Look, LookAtMark, Publish, SeeClaims, SenderHalt};
-use super::{Lends, Names, RingSeat};
+use super::plays::{Claim, LookAtFinal, LookAtMark, Publish, SeeClaims, SenderHalt};
+use super::{Names, RingSeat};
 use crate::body::RingBody;
 use crate::plan::{CLAIM_WORD, HALT_BIT, Plan, count_word};
+use dr_lent::Lends;
 use std::alloc::Global;
 use std::marker::Model;
 use std::sync::Arc;
@@ -76,7 +79,7 @@ impl<T> SenderStation<T> {
     {
         self.looks = self.looks.saturating_add(1);
         let words = &self.ring.table.shared;
-        words.load::<Look>(&mut self.seat, count_word(handler))
+        words.load::<LookAtFinal>(&mut self.seat, count_word(handler))
     }
 
     /// A sender claims `count` sequences from `found` on, for which it has seen that there is room,

@@ -3,36 +3,16 @@
 
 ghost use Rattle.std.specs.Prelude.{◌≡◌, ◌<◌, List};
 ghost use Rattle.dr_runs.specs.Seats.{both_views};
-ghost use Rattle.dr_plain_senders.specs.Calls.Ends.{SenderEnd, ReceiverEnd, HalterStand};
+ghost use Rattle.dr_plain_senders.specs.Calls.Ends.{SenderEnd, ReceiverEnd, HalterEnd};
 ghost use Rattle.dr_plain_senders.specs.Inside.Finishing.{HasAllEnds, TookAll};
 
 use super::{Names, RingSeat, Words};
 use crate::plan::CLAIM_WORD;
 use crate::record::View;
-use atomic_table::{Join, Play, Split};
+use atomic_table::Play;
 use dr_cells::Token;
+use dr_runs::{Leave, Together};
 use std::marker::PhantomData;
-
-// A view leaves its seat, which keeps the slots that it has in hand.
-struct Leave;
-
-impl<T> Split<View<T>> for Leave {
-    ghost use Rattle.dr_runs.specs.Seats.{no_view};
-
-    ghost left = { λ _. no_view };
-
-    ghost right = { λ v. v };
-}
-
-struct Together;
-
-impl<T> Join<View<T>> for Together {
-    ghost use Rattle.dr_runs.specs.Seats.{both_views, no_view};
-
-    ghost both = { both_views };
-
-    ghost spent = { no_view };
-}
 
 /// A load of the claim word by which its seat takes what lies in the slots of each cell that no
 /// sender has, and stands for no end any more. It tells which run came to what the ends knew.
@@ -45,7 +25,7 @@ impl<T, J: Names<T>> Play<Token<T>, View<T>> for TakesAll<J> {
 }
 
 /// A seat takes in what another stands for. What slots that other has in hand stay in no seat.
-pub fn take_in<T>(words: &Words<T>, seat: &mut RingSeat<T>, mut other: RingSeat<T>)
+pub fn unite<T>(words: &Words<T>, seat: &mut RingSeat<T>, mut other: RingSeat<T>)
     requires table { (seat.old.table_id ≡ words.now.table_id) × (other.table_id ≡ words.now.table_id) × (0 < words.now.table_id.words) }
     // The seat stays this seat, and stands for the ends of both.
     ensures seat { (seat.new.table_id ≡ seat.old.table_id) × (seat.new.id ≡ seat.old.id) }
@@ -61,7 +41,7 @@ pub fn take_in<T>(words: &Words<T>, seat: &mut RingSeat<T>, mut other: RingSeat<
 pub fn take_all<T, J: Names<T>>(words: &Words<T>, seat: &mut RingSeat<T>) -> u64
     requires table { (seat.old.table_id ≡ words.now.table_id) × (0 < words.now.table_id.words) }
     requires plan { words.now.key ≡ J.plan }
-    requires ends { (ss : List (SenderEnd T)) × (rs : List (ReceiverEnd T)) × (t : HalterStand T) × HasAllEnds seat.old.me.0 ss rs t × (J.plan ≡ t.plan) }
+    requires ends { (ss : List (SenderEnd T)) × (rs : List (ReceiverEnd T)) × (t : HalterEnd T) × HasAllEnds seat.old.me.0 ss rs t × (J.plan ≡ t.plan) }
     // The seat stays one of this ring.
     ensures seat { seat.new.table_id ≡ seat.old.table_id }
     // One run came to what the ends knew and to this claim word; what lay in the slots is in hand.

@@ -5,7 +5,7 @@ use Rattle.dr_meaning.specs.declared.refusal.Refusal.{Refusal}
 use Rattle.dr_ring.specs.Calls.Ends.{SenderEnd, ReceiverEnd, HalterEnd, sender_place}
 use Rattle.dr_ring.specs.Calls.Sending.{ClosesOnceDone}
 use Rattle.dr_ring.specs.Calls.Settling.{HasRun}
-use Rattle.dr_ring.specs.Calls.Telling.{sender_does}
+use Rattle.dr_ring.specs.Calls.Inlets.{sender_does}
 use Rattle.dr_workers.specs.declared.producer.Produced.{Produced}
 use Rattle.dr_workers.specs.declared.fault.WorkFault.{WorkFault}
 use Rattle.dr_workers.specs.declared.fault.WorkFault.TheVariants as work

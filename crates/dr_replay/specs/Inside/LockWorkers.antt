@@ -5,6 +5,7 @@ use Rattle.dr_lock.specs.Calls.Lock.{EndView, no_calls}
 use Rattle.dr_lock.specs.Meaning.History.{History}
 use Rattle.dr_workers.specs.declared.ended.Ended.{Ended}
 use Rattle.dr_reports.specs.Keeping.{error_of}
+use Rattle.dr_reports.specs.Passing.{replay_graph}
 use Rattle.dr_replay.specs.Calls.LockRuns.{CameOfLock}
 use Rattle.dr_replay.specs.Calls.LockWorkers.{HasHandled, HasSent, list_of}
 use Rattle.dr_replay.specs.Calls.Workers.{lock_endings}
@@ -26,6 +27,10 @@ pub record AreUnused (halter journal replica business : EndView Event) (producer
   pub replica_is : replica ≡ no_calls
   pub business_is : business ≡ no_calls
   pub producers_are : All (λ (end : EndView Event). end ≡ no_calls) producers
+
+-- scripts can be sent to an exchange: nobody called through the end that is to halt it, so no claim is refused; and each handler of a replay has one of these, so no producer waits for a handler that never takes an event
+abbrev pub CanBegin : {X : Type 0} → EndView Event → List X → Type 0
+CanBegin halter each = (halter ≡ no_calls) × (length each ≡ length replay_graph)
 
 -- what came of an exchange that began so, all of whose workers began with unused ends
 pub record IsJoined {L Z : Type 0} (begun : History Event) (may_stop must_stop : ℕ → ℕ → Type 0) (size : ℕ) (scripts : List (Vec Event Z)) (joined : Joined L) : Type 0 where

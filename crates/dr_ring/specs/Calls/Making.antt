@@ -7,13 +7,13 @@ use Rattle.dr_ring.specs.Meaning.Moments.{fresh_sender, fresh_receivers, fresh_h
 use Rattle.dr_ring.specs.Calls.Ends.{SenderEnd, ReceiverEnd, HalterEnd}
 
 -- a receiver of a new ring
-abbrev pub at_ring : TableId → ReceiverRecord → ReceiverEnd
-at_ring ring r = record { ring = ring; knows = r; past = []; stored = [] }
+abbrev pub receiver_at_ring : TableId → ReceiverRecord → ReceiverEnd
+receiver_at_ring ring r = record { ring = ring; knows = r; past = []; stored = [] }
 
 -- the ends of a new ring: nothing is claimed, received or halted, and no end has stored anything, and the receivers stand in the graph's order
 pub record AreFreshEnds (k : Shape) (s : SenderEnd) (rs : List ReceiverEnd) (t : HalterEnd) : Type 0 where
   pub sender : s.knows ≡ fresh_sender k
   pub past : s.past ≡ []
   pub stored : s.stored ≡ []
-  pub receivers : rs ≡ map (at_ring s.ring) (fresh_receivers k 0 (handlers_of k))
+  pub receivers : rs ≡ map (receiver_at_ring s.ring) (fresh_receivers k 0 (handlers_of k))
   pub halter : t ≡ record { ring = s.ring; knows = fresh_halter k; past = []; stored = [] }

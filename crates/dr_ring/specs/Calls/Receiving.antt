@@ -8,13 +8,17 @@ use Rattle.dr_meaning.specs.declared.command.Polled.TheVariants.{Batch, Drained,
 use Rattle.dr_meaning.specs.Meaning.Refusals.{PollTests, CompleteTests, poll_causes, complete_causes}
 use Rattle.dr_meaning.specs.Calls.Ends.{Verdict, Exactly, IsAnswerOf, poll_tests, complete_tests, Completes, as_end}
 use Rattle.dr_graph.specs.Meaning.Graph.{upstreams_of}
-use Rattle.dr_runs.specs.Words.{cursor_word, closed_word}
+use Rattle.dr_runs.specs.OneSender.Words.{cursor_word, closed_word}
 use Rattle.dr_ring.specs.declared.record.ReceiverRecord.{ReceiverRecord}
 use Rattle.dr_ring.specs.declared.record.Step.TheVariants.{ReceiverCompletes}
 use Rattle.dr_runs.specs.Runs.{IsBeginning, StoresWhereOk}
 use Rattle.dr_ring.specs.Calls.Ends.{ReceiverEnd, received_of, receiver_place}
-use Rattle.dr_runs.specs.Looks.{look, count_looks}
-use Rattle.dr_runs.specs.Polls.{PollLooks, offer}
+use Rattle.dr_runs.specs.Looks.{look}
+use Rattle.dr_runs.specs.OneSender.Looks.{count_looks}
+use Rattle.dr_runs.specs.OneSender.Polls.{PollLooks, offer}
+
+abbrev pub ups_of : ReceiverRecord → List ℕ
+ups_of r = upstreams_of r.plan.upstreams r.number
 
 -- a receiver knows all of its own tests
 abbrev pub tests_of_poll : ReceiverRecord → ℕ → PollTests Verdict

@@ -1,5 +1,5 @@
 -- What an end of a ring answers is what the machine replies on the ring's picture.
-use Rattle.std.specs.Prelude.{◌≡◌, ℕ, ◌+◌, ◌-◌, ◌≤◌, min, List, length, slice_index, Some, Result, Ok, Err}
+use Rattle.std.specs.Prelude.{◌≡◌, ℕ, ◌+◌, ◌-◌, ◌≤◌, List, length, slice_index, Some, Result, Ok, Err}
 use mathlib.Core.Option.{some}
 use lib.ListN.{get_elem?}
 use Rattle.dr_seq.specs.declared.event.Event.{Event}
@@ -13,7 +13,6 @@ use Rattle.dr_meaning.specs.declared.command.Reply.TheVariants.{Written, Publish
 use Rattle.dr_meaning.specs.declared.command.Polled.{Polled}
 use Rattle.dr_meaning.specs.Meaning.Refusals.{claim_causes, poll_causes, complete_causes}
 use Rattle.dr_meaning.specs.Meaning.Machine as machine
-use Rattle.dr_meaning.specs.Meaning.Machine.{available}
 use Rattle.dr_meaning.specs.Calls.Replies.{claim_reply, unit_reply, poll_reply}
 use Rattle.dr_meaning.specs.Calls.Ends.{IsAnswerOf, WriteAnswers, PublishAnswers, as_end}
 use Rattle.dr_ring.specs.Meaning.Shape.{Shape, ring_setup}
@@ -23,12 +22,11 @@ use Rattle.dr_ring.specs.Meaning.Records.{claimed, SeesRoom}
 use Rattle.dr_ring.specs.Meaning.Rule.{World}
 use Rattle.dr_ring.specs.Meaning.Moments.{picture_of}
 use Rattle.dr_ring.specs.Calls.Sending.{LooksToClaim, tests_of_claim}
-use Rattle.dr_ring.specs.Calls.Receiving.{tests_of_poll, tests_of_completion, Polls}
-use Rattle.dr_runs.specs.Words.{halt_word}
+use Rattle.dr_ring.specs.Calls.Receiving.{tests_of_poll, tests_of_completion}
+use Rattle.dr_runs.specs.OneSender.Words.{halt_word}
 use Rattle.dr_runs.specs.declared.look.Look.{Look}
 use Rattle.dr_runs.specs.Looks.{last_look}
-use Rattle.dr_runs.specs.Polls.{handed}
-use Rattle.dr_runs.specs.Replies.{DecidesPollOf}
+use Rattle.dr_runs.specs.OneSender.Replies.{DecidesPollOf}
 
 -- on the ring's picture the machine replies so
 abbrev pub Replies : Shape → World → Command Event → Reply → Type 0
@@ -50,12 +48,6 @@ DecidesClaim k w n seen (Ok c) = FoundHalt w seen × SeesRoom k w.sender n × (c
 -- and that by which a poll takes nothing; of a batch each event is an entry of the run
 abbrev pub DecidesPoll : Shape → World → ReceiverRecord → Result Polled Refusal → Type 0
 DecidesPoll k w r = DecidesPollOf k.upstreams w.words r.number (length r.received) (length w.sender.sent.pending)
-
--- A poll hands over at least what the picture had for its handler at any earlier moment at which its receiver stood as the poll found it, as far as there is room; so where that was more than the handler took, it answers a batch.
-abbrev pub HandsWhatWasThere : Shape → World → World → Type 0
-HandsWhatWasThere k w u =
-    (h : ℕ) (r r' : ReceiverRecord) (out out' : List Event) (polled : Polled) → get_elem? w.receivers h ≡ some r → get_elem? u.receivers h ≡ some r'
-    → Polls r out r' out' (Ok polled) → min (available (ring_setup k) (picture_of k w) h - length r.received) (length out) ≤ handed polled
 
 -- each call of an end, by what the end knows and, where it looks, by what the deciding look finds
 pub record RepliesAsAnswered (k : Shape) (w : World) : Type 0 where

@@ -1,26 +1,24 @@
 -- What each call of the sender answers, and what it leaves of what the sender knows.
-use Rattle.std.specs.Prelude.{◌≡◌, ◌≢◌, ℕ, ◌+◌, ◌^◌, ◌<◌, ◌≤◌, ◌⊎◌, true, List, [], ◌∷◌, ◌++◌, length, take, slice_index, Some, Result, Ok, Err}
+use Rattle.std.specs.Prelude.{◌≡◌, ℕ, ◌+◌, ◌^◌, ◌<◌, ◌≤◌, ◌⊎◌, true, List, [], ◌∷◌, ◌++◌, length, slice_index, Some, Result, Ok, Err}
 use Rattle.dr_seq.specs.Size.{IsSize}
 use Rattle.dr_seq.specs.declared.event.Event.{Event}
 use Rattle.dr_meaning.specs.declared.refusal.Refusal.{Refusal}
 use Rattle.dr_meaning.specs.declared.refusal.Refusal.TheVariants.{NoRoom, Halted, BadCount, Exhausted, OpenClaim}
 use Rattle.dr_meaning.specs.declared.command.Claimed.{Claimed}
-use Rattle.dr_meaning.specs.declared.ends.Trouble.TheVariants.{Memory}
-use Rattle.dr_meaning.specs.declared.ends.Wrote.{Wrote}
 use Rattle.dr_meaning.specs.Meaning.Refusals.{ClaimTests, claim_causes}
-use Rattle.dr_meaning.specs.Calls.Ends.{Verdict, IsAnswerOf, GivesStretch, WriteAnswers, WriteAllAnswers, PublishAnswers, Claims, Writes, WritesAll}
+use Rattle.dr_meaning.specs.Calls.Ends.{Verdict, IsAnswerOf, GivesStretch, WriteAnswers, PublishAnswers, Claims, Writes}
 use Rattle.dr_meaning.specs.Calls.Ends.{Publishes, as_end}
 use Rattle.dr_graph.specs.Meaning.Graph.{finals}
-use Rattle.dr_runs.specs.Words.{halt_word}
+use Rattle.dr_runs.specs.OneSender.Words.{halt_word}
 use Rattle.dr_runs.specs.declared.look.Look.{Look}
 use Rattle.dr_ring.specs.declared.record.SenderRecord.{SenderRecord}
-use Rattle.dr_ring.specs.declared.record.Step.{Step}
 use Rattle.dr_ring.specs.declared.record.Step.TheVariants.{SenderStoresFirst, SenderStoresSecond, SenderPublishes, SenderHalts, SenderCloses}
 use Rattle.dr_runs.specs.Runs.{IsBeginning, StoresWhereOk}
 use Rattle.dr_ring.specs.Calls.Ends.{SenderEnd, sender_place}
 use Rattle.dr_ring.specs.Meaning.Records.{claimed, seen_before, sender_halted, sender_closed, SeesRoom}
-use Rattle.dr_runs.specs.Looks.{look, count_looks}
-use Rattle.dr_runs.specs.Replies.{claim_tests_of}
+use Rattle.dr_runs.specs.Looks.{look}
+use Rattle.dr_runs.specs.OneSender.Looks.{count_looks}
+use Rattle.dr_runs.specs.OneSender.Replies.{claim_tests_of}
 
 -- a claim looks at the finals' counts in rising order
 abbrev pub gate_looks : SenderRecord → List ℕ → List Look
@@ -101,21 +99,6 @@ ClaimCall e n e' result = (sender_place e' ≡ sender_place e) × TriesToClaim e
 abbrev pub WriteCall : SenderEnd → ℕ → Event → SenderEnd → Result (Unit {0}) Refusal → Type 0
 WriteCall e s event e' result =
     (sender_place e' ≡ sender_place e) × TriesToWrite e.knows s event e'.knows result × StoresWhereOk e.stored (SenderStoresFirst s event.first ∷ SenderStoresSecond event.second ∷ []) e'.stored result × IsBeginning e.past e'.past
-
--- the stores of events that are written one after another, to the sequences from lo on
-abbrev pub writes_from : ℕ → List Event → List Step
-writes_from lo [] = []
-writes_from lo (event ∷ events) = SenderStoresFirst lo event.first ∷ SenderStoresSecond event.second ∷ writes_from (lo + 1) events
-
--- many writes: each is answered by what the end knows, those events are stored that are written, and nothing else, and memory is never wanting
-pub record WriteAllCall (e : SenderEnd) (lo : ℕ) (events : List Event) (e' : SenderEnd) (answer : Wrote) : Type 0 where
-  pub place : sender_place e' ≡ sender_place e
-  pub answers : WriteAllAnswers (Some e.knows.sent) lo (length events) answer
-  pub sent : WritesAll lo (take answer.count events) e.knows.sent e'.knows.sent
-  pub only : OnlySends e.knows e'.knows
-  pub stored : e'.stored ≡ e.stored ++ writes_from lo (take answer.count events)
-  pub memory : answer.trouble ≢ Some Memory
-  pub past : IsBeginning e.past e'.past
 
 abbrev pub PublishCall : SenderEnd → ℕ → ℕ → SenderEnd → Result (Unit {0}) Refusal → Type 0
 PublishCall e lo hi e' result = (sender_place e' ≡ sender_place e) × TriesToPublish e.knows lo hi e'.knows result × StoresWhereOk e.stored (SenderPublishes (hi + 1) ∷ []) e'.stored result × IsBeginning e.past e'.past

@@ -3,7 +3,7 @@ use Rattle.std.specs.Prelude.{◌≡◌, ℕ, ◌+◌, ◌≤◌, List, length, 
 use Rattle.dr_graph.specs.Meaning.Graph.{finals}
 use Rattle.dr_ring.specs.Meaning.Shape.{handlers_of}
 use Rattle.dr_ring.specs.Calls.Plans.{IsPlan}
-use Rattle.dr_runs.specs.Words.{count_word}
+use Rattle.dr_runs.specs.OneSender.Words.{count_word}
 use Rattle.dr_runs.specs.declared.written.Written.{Written}
 use Rattle.dr_runs.specs.declared.counts.HandlerCounts.{HandlerCounts}
 use Rattle.dr_ring.specs.declared.record.SenderRecord.{SenderRecord}

@@ -2,7 +2,7 @@
 use Rattle.std.specs.Prelude.{◌≡◌, ℕ, ◌+◌, ◌<◌, ◌≤◌, false, is_some, length, slice_index_or, None}
 use Rattle.dr_seq.specs.Rounds.{is_marked}
 use Rattle.dr_runs.specs.declared.written.Written.{Written}
-use Rattle.dr_runs.specs.Noted.{is_noted}
+use Rattle.dr_runs.specs.OneSender.Noted.{is_noted}
 use Rattle.dr_ring.specs.declared.record.SenderRecord.{SenderRecord}
 use Rattle.dr_ring.specs.Meaning.Records.{claimed}
 

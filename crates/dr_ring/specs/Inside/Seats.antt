@@ -1,15 +1,14 @@
 -- The seats that stand for the ends of a ring, the rule that the words' table keeps, and what each kind of step tells.
-use Rattle.std.specs.Prelude.{◌≡◌, ℕ, List, [], map, ◌<◌, ◌∷◌, Some}
+use Rattle.std.specs.Prelude.{◌≡◌, ℕ, List, [], map, ◌∷◌, Some}
 use Rattle.dr_seq.specs.declared.event.Event.{Event}
 use Rattle.atomic_table.specs.Seated.{TableId}
 use Rattle.dr_ring.specs.declared.record.ReceiverRecord.{ReceiverRecord}
 use Rattle.dr_ring.specs.declared.record.EndRecord.TheVariants.{Receives, Sends, Halts}
-use Rattle.dr_ring.specs.Meaning.Shape.{Shape, handlers_of}
+use Rattle.dr_ring.specs.Meaning.Shape.{Shape, IsShape, handlers_of}
 use Rattle.dr_ring.specs.Meaning.Moments.{fresh_sender, fresh_receivers, fresh_halter, fresh_receiver, new_world, entries_of}
 use mathlib.Core.Option.{some}
 use lib.ListN.{get_elem?}
 use Rattle.atomic_table.specs.Table.{State, Step as TableStep}
-use Rattle.dr_graph.specs.Meaning.Graph.{IsGraph}
 use Rattle.dr_runs.specs.declared.view.View.{View}
 use Rattle.dr_runs.specs.Runs.{Ends, Exchange, receiver_number}
 use Rattle.dr_runs.specs.Seats as seats
@@ -56,15 +55,11 @@ Stands w (Receives r) = get_elem? w.receivers r.number ≡ some r
 abbrev pub world_of : List ℕ → SenderRecord → List ReceiverRecord → HalterRecord → World
 world_of words sender receivers halter = record { words = words; sender = sender; receivers = receivers; halter = halter }
 
--- a graph of handlers, and some slots
-abbrev pub IsMade : Shape → Type 0
-IsMade k = IsGraph k.upstreams × (0 < k.size)
-
 -- a ring by its steps
 abbrev pub exchange : Shape → Exchange Event ℕ EndRecord Step World
 exchange k = record {
   ends = ring_ends;
-  IsMade = IsMade k;
+  IsMade = IsShape k;
   opening = new_world k;
   words_of = λ w. w.words;
   Lies = λ w homes. Unit {0};

@@ -1,20 +1,12 @@
 -- The ends of a ring, each at its station, with the seat that stands for it.
-use Rattle.std.specs.Prelude.{◌≡◌, ℕ, ◌<◌, List, [], ◌∷◌, Option, None, Some}
+use Rattle.std.specs.Prelude.{◌≡◌, ℕ, ◌<◌}
 use Rattle.atomic_table.specs.Seated.{TableId}
 use Rattle.dr_ring.specs.Meaning.Shape.{Shape, handlers_of}
 use Rattle.dr_ring.specs.Calls.Plans.{IsPlan}
 use Rattle.dr_runs.specs.Seats.{past_of}
 use Rattle.dr_ring.specs.Inside.Seats.{End, Sitting, IsAtTable, stored_of, sender_of, receiver_of, halter_of, IsSender, IsReceiver, IsHalter}
-use Rattle.dr_runs.specs.Gathering.{AreOf, Known}
-use Rattle.dr_ring.specs.declared.record.EndRecord.{EndRecord}
-use Rattle.dr_ring.specs.declared.record.EndRecord.TheVariants.{Sends, Receives, Halts}
-use Rattle.dr_ring.specs.declared.record.Step.{Step}
-use Rattle.dr_ring.specs.Calls.Ends.{EndOf, SenderEnd, ReceiverEnd, HalterEnd}
+use Rattle.dr_ring.specs.Calls.Ends.{SenderEnd, ReceiverEnd, HalterEnd}
 use Rattle.dr_runs.specs.Looks.{looks_counted}
-
--- the ends are of this ring
-abbrev pub AreOfRing : {K : Type 0} → TableId → List (EndOf K) → Type 0
-AreOfRing ring es = AreOf (λ (e : EndOf _). e.ring) ring es
 
 -- the end that a seat at a table stands for
 abbrev pub sender_end : TableId → Sitting → SenderEnd
@@ -25,21 +17,6 @@ receiver_end ring me = record { ring = ring; knows = receiver_of me.0.ends; past
 
 abbrev pub halter_end : TableId → Sitting → HalterEnd
 halter_end ring me = record { ring = ring; knows = halter_of me.0.ends; past = past_of me.0; stored = stored_of me.0 }
-
--- what is known of the ends that come together
-abbrev pub sender_known : SenderEnd → Known EndRecord Step
-sender_known e = record { knows = Sends e.knows; past = e.past; stored = e.stored }
-
-abbrev pub receiver_known : ReceiverEnd → Known EndRecord Step
-receiver_known e = record { knows = Receives e.knows; past = e.past; stored = e.stored }
-
-abbrev pub halter_known : HalterEnd → Known EndRecord Step
-halter_known e = record { knows = Halts e.knows; past = e.past; stored = e.stored }
-
--- the halter's, if it comes too
-abbrev pub halters_known : Option HalterEnd → List (Known EndRecord Step)
-halters_known None = []
-halters_known (Some t) = halter_known t ∷ []
 
 -- an end's seat is at the table of its ring and stands for that end alone, which knows the ring's plan and counts its looks
 pub record SenderSits (at seat : TableId) (k : Shape) (me : End) (looked : ℕ) : Type 0 where

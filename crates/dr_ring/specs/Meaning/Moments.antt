@@ -1,19 +1,19 @@
 -- What each list of steps comes to, from a ring's opening.
-use Rattle.std.specs.Prelude.{◌≡◌, ℕ, zero, suc, ◌+◌, ◌-◌, ◌==◌, ◌&&◌, not, nat_lt, if◌then◌else◌, false, List, [], ◌∷◌, ◌++◌, map, length, replicate}
+use Rattle.std.specs.Prelude.{◌≡◌, ℕ, zero, suc, ◌+◌, ◌-◌, ◌<◌, ◌≤◌, ◌==◌, ◌&&◌, not, nat_lt, if◌then◌else◌, false, List, [], ◌∷◌, ◌++◌, map, length, replicate}
 use Rattle.std.specs.Prelude.{slice_index, slice_index_or, Option, Some, None, true, Contains}
 use mathlib.Core.Option.{some}
 use lib.ListN.{get_elem?}
 use Rattle.std.specs.List.{range_with_len}
 use Rattle.dr_seq.specs.declared.event.Event.{Event}
-use Rattle.dr_meaning.specs.declared.command.Command.TheVariants.{Claim, Write, Publish, Complete, Halt}
-use Rattle.dr_meaning.specs.declared.command.Reply.TheVariants.{Claimed, Written, Published, Completed, Halting}
+use Rattle.dr_meaning.specs.declared.command.Command.TheVariants.{Claim, Write, Publish, Poll, Complete, Halt}
+use Rattle.dr_meaning.specs.declared.command.Reply.TheVariants.{Claimed, Written, Published, Batch, Completed, Halting}
 use Rattle.dr_meaning.specs.Meaning.Machine as machine
 use Rattle.dr_meaning.specs.Meaning.Machine.{State, available}
 use Rattle.dr_meaning.specs.Meaning.Transcript.{Transcript}
 use Rattle.dr_runs.specs.Runs as runs
 use Rattle.dr_ring.specs.Meaning.Shape.{Shape, handlers_of, ring_setup}
 use Rattle.dr_ring.specs.Meaning.Words.{payload_word, words_of}
-use Rattle.dr_runs.specs.Words.{cursor_word, halt_word, count_word}
+use Rattle.dr_runs.specs.OneSender.Words.{cursor_word, halt_word, count_word}
 use Rattle.dr_ring.specs.declared.record.HalfWrite.{HalfWrite}
 use Rattle.dr_ring.specs.declared.record.SenderRecord.{SenderRecord}
 use Rattle.dr_ring.specs.declared.record.ReceiverRecord.{ReceiverRecord}
@@ -26,7 +26,7 @@ use Rattle.dr_ring.specs.declared.record.Step.TheVariants.{SenderPublishes, Send
 use Rattle.dr_ring.specs.declared.record.Step.TheVariants.{ReceiverLooksAtCount, ReceiverLoadsFirst, ReceiverLoadsSecond, ReceiverCompletes}
 use Rattle.dr_ring.specs.declared.record.Step.TheVariants.{HalterHalts}
 use Rattle.dr_ring.specs.Meaning.Steps.{Happens}
-use Rattle.dr_runs.specs.Entries.{entry, told_drained, poll_of}
+use Rattle.dr_runs.specs.Entries.{entry, told_drained}
 
 -- the ends of a new ring
 abbrev pub fresh_sender : Shape → SenderRecord
@@ -66,6 +66,12 @@ abbrev pub write_of : Option HalfWrite → ℕ → Transcript Event
 write_of None second = []
 write_of (Some x) second = entry (Write 0 x.sequence record { first = x.first; second = second }) Written []
 
+-- the poll that an event comes to of which the first word was loaded before
+abbrev pub poll_of_event : ℕ → Option ℕ → ℕ → ℕ → ℕ → Transcript Event
+poll_of_event h None second taken available = []
+poll_of_event h (Some first) second taken available =
+    entry (Poll h 1) (Batch taken 1 (taken + 1 == available)) (record { first = first; second = second } ∷ [])
+
 abbrev pub receiver_at : Shape → World → ℕ → ReceiverRecord
 receiver_at k w h = slice_index_or w.receivers h (fresh_receiver k h)
 
@@ -86,7 +92,7 @@ entries_of k (ReceiverLooksAtCount h u) w = []
 entries_of k (ReceiverLoadsFirst h) w = []
 entries_of k (ReceiverLoadsSecond h) w =
     let r : ReceiverRecord = receiver_at k w h in
-    poll_of h r.half (slice_index w.words (payload_word k (length r.received) 1)) (length r.received) (available (ring_setup k) (picture_of k w) h)
+    poll_of_event h r.half (slice_index w.words (payload_word k (length r.received) 1)) (length r.received) (available (ring_setup k) (picture_of k w) h)
 entries_of k (ReceiverCompletes h n) w = entry (Complete h n) Completed []
 entries_of k HalterHalts w = entry Halt Halting []
 
@@ -97,3 +103,7 @@ Runs k steps entries w w' = runs.Runs (Happens k) (entries_of k) steps entries w
 -- who was told that the ring drained, was told so by a poll of the run
 abbrev pub WereTold : World → Transcript Event → Type 0
 WereTold w entries = (h : ℕ) (r : ReceiverRecord) → get_elem? w.receivers h ≡ some r → r.told ≡ true → Contains entries (told_drained h)
+
+-- No handler's count falls: so what the last look of a claim without room finds was so already at its first.
+abbrev pub NothingFalls : Shape → World → World → Type 0
+NothingFalls k w u = (f : ℕ) → f < handlers_of k → slice_index w.words (count_word f) ≤ slice_index u.words (count_word f)

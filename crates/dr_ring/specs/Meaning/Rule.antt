@@ -7,7 +7,7 @@ use Rattle.dr_seq.specs.Event.{no_event}
 use Rattle.dr_graph.specs.Meaning.Graph.{upstreams_of, finals, IsGraph}
 use Rattle.dr_ring.specs.Meaning.Shape.{Shape, handlers_of}
 use Rattle.dr_ring.specs.Meaning.Words.{payload_start, payload_word, words_of}
-use Rattle.dr_runs.specs.Words.{cursor_word, closed_word, count_word, HaltAndClose}
+use Rattle.dr_runs.specs.OneSender.Words.{cursor_word, closed_word, count_word, HaltAndClose}
 use Rattle.dr_ring.specs.Meaning.Records.{claimed}
 use Rattle.dr_runs.specs.Looks as past
 use Rattle.dr_runs.specs.declared.look.Look.{Look}

@@ -5,7 +5,7 @@ use lib.ListN.{get_elem?}
 use Rattle.dr_graph.specs.Meaning.Graph.{upstreams_of, finals}
 use Rattle.dr_runs.specs.Looks.{last_look}
 use Rattle.dr_runs.specs.declared.look.Look.{Look}
-use Rattle.dr_runs.specs.Words.{count_word, cursor_word, halt_word}
+use Rattle.dr_runs.specs.OneSender.Words.{count_word, cursor_word, halt_word}
 use Rattle.dr_ring.specs.declared.record.SenderRecord.{SenderRecord}
 use Rattle.dr_ring.specs.declared.record.ReceiverRecord.{ReceiverRecord}
 use Rattle.dr_ring.specs.Meaning.Records.{claimed, seen_before}

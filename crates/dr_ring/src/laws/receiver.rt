@@ -2,14 +2,16 @@
 
 ghost use Rattle.std.specs.Prelude.{◌≡◌, ◌<◌, ◌≤◌, None, Some, length, Contains};
 ghost use Rattle.dr_graph.specs.Meaning.Graph.{upstreams_of};
+ghost use Rattle.dr_ring.specs.Calls.Plans.{IsPlan};
 ghost use Rattle.dr_ring.specs.Meaning.Words.{payload_word};
-ghost use Rattle.dr_runs.specs.Words.{cursor_word, closed_word, count_word as count_word_of};
+ghost use Rattle.dr_runs.specs.OneSender.Words.{cursor_word, closed_word, count_word as count_word_of};
 ghost use Rattle.dr_ring.specs.Meaning.Records.{receiver_looked, cursor_looked, half_taken, took, completed_to, IsBelowBarrier};
 ghost use Rattle.dr_ring.specs.declared.record.Step.TheVariants.{ReceiverCompletes};
 ghost use Rattle.dr_ring.specs.Calls.Finds.{FindsClosed, FindsEvents};
 ghost use Rattle.dr_ring.specs.Calls.Ends.{HasLoaded, HasStored};
 
 use super::{RingBody, RingSeat};
+use crate::plan::Plan;
 use dr_runs::{CLOSED_WORD, CURSOR_WORD, count_word};
 use dr_seq::Event;
 use std::alloc::Global;
@@ -39,6 +41,15 @@ impl Model for ReceiverStation {
 }
 
 impl ReceiverStation {
+    /// What the ring was made for.
+    pub fn plan(&self) -> &Plan
+        // It is the ring's plan: of a graph of at most 16 handlers, a size, and a limit of at most 2^62.
+        ensures plan { result.now ≡ self.now.knows.plan }
+        ensures made { IsPlan result.now }
+    {
+        &self.ring.plan
+    }
+
     /// The direct upstreams of the handler.
     pub fn upstreams(&self) -> &[usize]
         ensures { result.now ≡ upstreams_of self.now.knows.plan.upstreams self.now.knows.number }

@@ -4,15 +4,15 @@ ghost use Rattle.std.specs.Prelude.{◌≡◌, ◌<◌, ◌≤◌, [], true, Non
 ghost use Rattle.dr_graph.specs.Meaning.Graph.{finals};
 ghost use Rattle.dr_ring.specs.Calls.Plans.{IsPlan};
 ghost use Rattle.dr_ring.specs.Meaning.Words.{payload_word};
-ghost use Rattle.dr_runs.specs.Words.{count_word as count_word_of};
+ghost use Rattle.dr_runs.specs.OneSender.Words.{count_word as count_word_of};
 ghost use Rattle.dr_ring.specs.Meaning.Records.{claimed, sender_looked, halt_looked, half_written, written, published_to, sender_halted, sender_closed, SeesRoom, IsOpen, AreWritten};
 ghost use Rattle.dr_ring.specs.declared.record.Step.TheVariants.{SenderStoresFirst, SenderStoresSecond, SenderPublishes, SenderHalts, SenderCloses};
 ghost use Rattle.dr_ring.specs.Calls.Finds.{FindsCompleted, FindsHalt};
 ghost use Rattle.dr_ring.specs.Calls.Ends.{HasLoaded, HasStored};
 
-use super::{Names, RingBody, RingSeat};
+use super::{RingBody, RingSeat};
 use crate::plan::Plan;
-use dr_runs::{CLOSED_WORD, CURSOR_WORD, HALT_WORD, count_word};
+use dr_runs::{CLOSED_WORD, CURSOR_WORD, HALT_WORD, Names, count_word};
 use dr_seq::Event;
 use std::alloc::Global;
 use std::marker::{Brand, Model};

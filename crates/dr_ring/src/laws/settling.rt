@@ -6,23 +6,11 @@ ghost use Rattle.dr_runs.specs.Gathering.{ViewRan};
 ghost use Rattle.dr_ring.specs.Inside.Seats.{exchange};
 
 use super::{RingSeat, Words};
-use crate::record::View;
-use atomic_table::Join;
-use dr_runs::CURSOR_WORD;
+use dr_runs::{CURSOR_WORD, Together};
 use std::marker::Brand;
 
-struct Together;
-
-impl Join<View> for Together {
-    ghost use Rattle.dr_runs.specs.Seats.{both_views, no_view};
-
-    ghost both = { both_views };
-
-    ghost spent = { no_view };
-}
-
 /// A seat takes in what another stands for.
-pub fn take_in(words: &Words, seat: &mut RingSeat, other: RingSeat)
+pub fn unite(words: &Words, seat: &mut RingSeat, other: RingSeat)
     requires table { (seat.old.table_id ≡ words.now.table_id) × (other.table_id ≡ words.now.table_id) × (0 < words.now.table_id.words) }
     requires other { other.me.1 ≡ [] }
     // The seat stays this seat, and stands for the ends of both.

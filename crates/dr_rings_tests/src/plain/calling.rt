@@ -1,7 +1,7 @@
 //! The ends of this ring, as tests of any ring call them.
 
 ghost use Rattle.dr_plain.specs.Calls.Ends.{sender_place, receiver_place};
-ghost use Rattle.dr_plain.specs.Calls.Settling.{AreAllEnds, IsHalterOf};
+ghost use Rattle.dr_plain.specs.Calls.Settling.{AreAllEnds};
 
 use super::Ends;
 use crate::answering::{answer_of_inlet, answer_of_outlet, answer_of_receiver, answer_of_sender};
@@ -11,7 +11,7 @@ use crate::ends::{AllEnds, Sends, Shows};
 use crate::playing::Came;
 use crate::texts::{ShowsTexts, are_texts};
 use dr_meaning::{Claimed, Polled, Refusal, Reply};
-use dr_plain::{Receiver, Sender, Settled, finish};
+use dr_plain::{Receiver, Sender, Settled, settle_all};
 use dr_seq::Event;
 use std::alloc::Global;
 use std::process::Abort;
@@ -88,7 +88,7 @@ fn came<T>(settled: &Settled<T>) -> Came {
 
 /// By the calls that copy events.
 impl AllEnds for Ends<Event> {
-    ghost are_all = { λ e. AreAllEnds e.sender e.receivers.items × IsHalterOf e.sender e.halter };
+    ghost are_all = { λ e. AreAllEnds e.sender e.receivers.items e.halter };
 
     fn answer<R: Abort>(&mut self, rt: &R, who: usize, call: Call, out: &mut [Event; 8]) -> Reply {
         match call {
@@ -106,14 +106,14 @@ impl AllEnds for Ends<Event> {
     }
 
     fn finish(self) -> Came {
-        let (settled, _) = finish(self.sender, self.receivers, self.halter);
+        let (settled, _) = settle_all(self.sender, self.receivers, self.halter);
         came(&settled)
     }
 }
 
 /// By the calls that move and show them.
 impl AllEnds for Counting<Ends<Counted>> {
-    ghost are_all = { λ c. AreAllEnds c.ends.sender c.ends.receivers.items × IsHalterOf c.ends.sender c.ends.halter };
+    ghost are_all = { λ c. AreAllEnds c.ends.sender c.ends.receivers.items c.ends.halter };
 
     fn answer<R: Abort>(&mut self, rt: &R, who: usize, call: Call, out: &mut [Event; 8]) -> Reply {
         match call {
@@ -139,7 +139,7 @@ impl AllEnds for Counting<Ends<Counted>> {
             receivers,
             halter,
         } = self.ends;
-        let (settled, events) = finish(sender, receivers, halter);
+        let (settled, events) = settle_all(sender, receivers, halter);
         let mut told = came(&settled);
         told.events = Some(events);
         told

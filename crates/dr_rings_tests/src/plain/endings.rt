@@ -1,6 +1,6 @@
 //! Events that own memory come back once each, whatever the ends have in hand when they are brought together.
 
-ghost use Rattle.dr_plain.specs.Calls.Settling.{AreAllEnds, IsHalterOf};
+ghost use Rattle.dr_plain.specs.Calls.Settling.{AreAllEnds};
 
 use super::{Ends, open};
 use crate::counted::{Counted, Counting, none_alive, some_events};
@@ -54,7 +54,7 @@ const MOMENTS: [Moment; 6] = [
 ];
 
 fn begin(rt: &impl Abort, alloc: Global, alive: &Arc<u64>) -> Counting<Ends<Counted>>
-    ensures { AreAllEnds result.ends.sender result.ends.receivers.items × IsHalterOf result.ends.sender result.ends.halter }
+    ensures { AreAllEnds result.ends.sender result.ends.receivers.items result.ends.halter }
 {
     let size = Size::new(4).expect(rt, "a size");
     let events = some_events(rt, alloc, alive, 4);

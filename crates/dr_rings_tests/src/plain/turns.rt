@@ -3,27 +3,12 @@
 use super::open;
 use crate::checks::check;
 use crate::graphs::Shape;
+use crate::work::Digits;
 use dr_meaning::Polled::{Batch, Drained, Idle};
-use dr_meaning::{Claimed, InPlaceHandler, MAX_LIMIT, Polled, Refusal};
+use dr_meaning::{Claimed, MAX_LIMIT, Polled, Refusal};
 use dr_plain::{Receiver, Sender};
 use dr_seq::Size;
 use std::process::Abort;
-
-/// The digits of what it is shown, and of the sequences that are marked.
-#[derive(Drop)]
-struct Digits {
-    shown: u64,
-    marked: u64,
-}
-
-impl InPlaceHandler<u64> for Digits {
-    fn on_event_in_place(&mut self, event: &u64, s: u64, end: bool) {
-        self.shown = self.shown.wrapping_mul(10).wrapping_add(*event);
-        if end {
-            self.marked = self.marked.wrapping_mul(10).wrapping_add(s);
-        }
-    }
-}
 
 // Three events, each by its number and by how often the closure was called.
 fn fill_three(rt: &impl Abort, sender: &mut Sender<u64>) {

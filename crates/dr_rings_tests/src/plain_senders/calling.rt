@@ -12,7 +12,7 @@ use crate::ends::{AllEnds, Sends, Shows};
 use crate::playing::Came;
 use crate::texts::{ShowsTexts, are_texts};
 use dr_meaning::{Claimed, Polled, Refusal, Reply};
-use dr_plain_senders::{ClaimFault, Receiver, Sender, Settled, finish};
+use dr_plain_senders::{ClaimFault, Receiver, Sender, Settled, settle_all};
 use dr_seq::Event;
 use std::alloc::Global;
 use std::process::Abort;
@@ -132,7 +132,7 @@ impl AllEnds for Counting<Ends<Counted>> {
             receivers,
             halter,
         } = self.ends;
-        let (settled, events) = finish(senders, receivers, halter);
+        let (settled, events) = settle_all(senders, receivers, halter);
         let mut told = came(&settled);
         told.events = Some(events);
         told

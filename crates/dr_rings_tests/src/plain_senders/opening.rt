@@ -5,7 +5,7 @@ use crate::checks::check;
 use crate::counted::{none_alive, some_events};
 use crate::graphs::{Shape, graph};
 use dr_meaning::OpenFault;
-use dr_plain_senders::senders_ring;
+use dr_plain_senders::ring;
 use dr_seq::Size;
 use std::alloc::Global;
 use std::process::Abort;
@@ -18,7 +18,7 @@ fn check_refused(rt: &impl Abort, alloc: Global, limit: u64, senders: usize, fau
     let graph = graph(rt, alloc, Shape::Chain);
     let events = some_events(rt, alloc, &alive, 4);
     assert!(rt; events.len() as u64 == size.get());
-    let made = senders_ring(alloc, &graph, size, limit, senders, events);
+    let made = ring(alloc, &graph, size, limit, senders, events);
     check(rt, made.err(), Some(fault));
     check(rt, Arc::strong_count(&alive) as u64, 1);
 }

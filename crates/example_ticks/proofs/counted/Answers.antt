@@ -9,14 +9,15 @@ use Rattle.example_ticks.proofs.counted.Goals as goal
 
 -- Each step has the name of what the source calls or matches there: `join-first` is the first join, `in-Ok` the arm of `let Ok(second)`
 -- (a further one has its function's name behind, as `in-Ok-start_third`), `close-closed-2` the close after `produce`.
-pub finish-settled-requires-clause-ends : goal.finish-settled-requires-clause-ends
-finish-settled-requires-clause-ends g c =
+pub settle_all-settled-requires : goal.settle_all-settled-requires
+settle_all-settled-requires g c =
     let first = rw c.in_ok-first.ensures at c.join-first.ensures in
     let second = rw c.in-Ok.ensures at c.join-second.ensures in
     let closed = c.close-closed-2 in
-    subst (AreAllEnds closed.new.self) (sym c.in_ok-receivers.ensures.items)
-    (still_all c.in_ok-sender.sender closed.new.self _ _ (closed.ensures.0.0 ∙ c.produce-produced.ensures.kept)
-    (λ i. first.counted.place i ∷ second.counted.place i ∷ []) c.in_ok-sender.ensures.all.0)
+    let halter = c.in_ok-sender.halter in
+    subst (λ (l : List (ReceiverEnd Tick)). AreAllEnds closed.new.self l halter) (sym c.in_ok-receivers.ensures.items)
+    (still_all c.in_ok-sender.sender closed.new.self _ _ halter (closed.ensures.0.0 ∙ c.produce-produced.ensures.kept)
+    (λ i. first.counted.place i ∷ second.counted.place i ∷ []) c.in_ok-sender.ensures.all)
 
 pub returns : goal.returns
 returns g c =
@@ -25,7 +26,7 @@ returns g c =
     let produced = c.produce-produced in
     let closed = c.close-closed-2 in
     let fresh = c.in_ok-sender.ensures.fresh in
-    let done = c.finish-settled.ensures in
+    let done = c.settle_all-settled.ensures in
     let all : produced.result.sent ≡ length c.args.ticks.now = rw c.in_default-fault.is at produced.ensures.all in
     let many = all_sent c.in_ok-sender.sender produced.new.inlet closed.new.self closed.result c.args.ticks.now produced.result.sent fresh.0 produced.ensures.sent
     all closed.ensures in

@@ -16,7 +16,7 @@ loop-left-preserved c =
       (let within = inv.0 in omega arith),
       same ∙ inv.1,
       ap (λ (os : List (Option End)). drop at os)
-          (map-set (λ (k : Handle). k.held.value) hs at h ∙ ap (λ (o : Option End). set (ends_in hs) at o) c.free.ensures)
+          (map-set (λ (k : Handle). k.held.value) hs at h ∙ ap (λ (o : Option End). set (ends_in hs) at o) c.free.ensures.none)
           ∙ freed_more (ends_in hs) c.loop-left.left at (length hs) next inv.0 (length-map hs (λ (k : Handle). k.held.value)) inv.2
           ∙ ap (λ (n : ℕ). replicate (n - at) None) (sym same),
     )

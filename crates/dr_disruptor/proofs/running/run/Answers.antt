@@ -4,15 +4,15 @@ use Rattle.std.specs.Prelude.{IfErr}
 use lib.ListN.{get_elem?}
 use Rattle.dr_disruptor.specs.declared.fault.RunFault.{RunFault}
 use Rattle.dr_plain.specs.declared.record.SenderRecord.{SenderRecord}
-use Rattle.dr_plain.specs.Calls.Ends.{HalterStand, ReceiverEnd, SenderEnd, receiver_place, received_of, sender_place}
-use Rattle.dr_plain.specs.Meaning.Records.{events_of}
+use Rattle.dr_plain.specs.Calls.Ends.{HalterEnd, ReceiverEnd, SenderEnd, receiver_place, sender_place}
+use Rattle.dr_lent.specs.Events.{events_of}
 use Rattle.dr_plain.specs.Calls.Settling.{AreAllEnds}
 use Rattle.dr_plain.specs.Meaning.Shape.{handlers_of}
 use Rattle.dr_disruptor.specs.Handlers.{AllWentThrough}
 use Rattle.dr_disruptor.specs.Serving.{IsIdle, given_end, given_handler}
-use Rattle.dr_plain.specs.Calls.InPlace.{does_in_place, sending_of}
+use Rattle.dr_plain.specs.Calls.InPlace.{SawSome, does_in_place, sending_of}
 use Rattle.dr_disruptor.specs.Running.{new_receivers, shape_of}
-use Rattle.dr_disruptor.proofs.Ready.{all_idle, all_moved, halter_moved, is_told, memory_is, none_received, saw_by}
+use Rattle.dr_disruptor.proofs.Ready.{all_idle, all_moved, is_told, memory_is, none_received, received_by}
 use Rattle.dr_disruptor.proofs.Through.{served_as}
 use Rattle.dr_disruptor.proofs.running.run.Goals as goal
 
@@ -20,8 +20,8 @@ pub begin-requires-clause-idle : goal.begin-requires-clause-idle
 begin-requires-clause-idle g c =
     let fresh = c.in_ok-fresh.ensures.fresh in
     let k = shape_of c.args.graph.now.upstreams c.args.size fresh.0 in
-    let all : All (λ (e : ReceiverEnd g.row.E.Denot). IsIdle (received_of e)) c.in_ok-fresh.receivers.items =
-    subst (All (λ (e : ReceiverEnd g.row.E.Denot). IsIdle (received_of e))) (sym fresh.1.receivers) (all_idle c.in_ok-fresh.fresh.ring k 0 (handlers_of k)) in
+    let all : All (λ (e : ReceiverEnd g.row.E.Denot). IsIdle (received_by e)) c.in_ok-fresh.receivers.items =
+    subst (All (λ (e : ReceiverEnd g.row.E.Denot). IsIdle (received_by e))) (sym fresh.1.receivers) (all_idle c.in_ok-fresh.fresh.ring k 0 (handlers_of k)) in
     λ lifetimes outlive. all
 
 pub new-live-requires-clause-none : goal.new-live-requires-clause-none
@@ -37,21 +37,11 @@ wind_up-requires-clause-ends g c =
     let gave : FnOnceReturnsAtMut g.F.FnOnce c.args.send c.new-live.result sent.result sent.new.arg2 =
     record { shown = _; shows = refl; left = _; met = sent.ensures; leaves = refl } in
     let same = c.requires.place c.new-live.result sent.result sent.new.arg2 gave ∙ ap sender_place (c.new-live.ensures ∙ begun.ensures.sender) in
-    all_moved made.fresh sent.new.arg2 _ same
-    (subst (λ (l : List (ReceiverEnd g.row.E.Denot)). AreAllEnds made.fresh l) (sym begun.ensures.ends) made.ensures.ends.0)
-
-pub wind_up-requires-clause-halter : goal.wind_up-requires-clause-halter
-wind_up-requires-clause-halter g c =
-    let made = c.in_ok-fresh in
-    let begun = c.in_ok-sender in
-    let sent = c.send-sent in
-    let gave : FnOnceReturnsAtMut g.F.FnOnce c.args.send c.new-live.result sent.result sent.new.arg2 =
-    record { shown = _; shows = refl; left = _; met = sent.ensures; leaves = refl } in
-    let same = c.requires.place c.new-live.result sent.result sent.new.arg2 gave ∙ ap sender_place (c.new-live.ensures ∙ begun.ensures.sender) in
-    halter_moved made.fresh sent.new.arg2 made.halter same made.ensures.ends.1
+    all_moved made.fresh sent.new.arg2 _ made.halter same
+    (subst (λ (l : List (ReceiverEnd g.row.E.Denot)). AreAllEnds made.fresh l made.halter) (sym begun.ensures.ends) made.ensures.ends)
 
 pub wind_up-requires-clause-unhalted : goal.wind_up-requires-clause-unhalted
-wind_up-requires-clause-unhalted g c = ap (λ (t : HalterStand g.row.E.Denot). t.knows.halted) c.in_ok-fresh.ensures.fresh.1.halter
+wind_up-requires-clause-unhalted g c = ap (λ (t : HalterEnd g.row.E.Denot). t.knows.halted) c.in_ok-fresh.ensures.fresh.1.halter
 
 pub wind_up-requires-clause-fresh : goal.wind_up-requires-clause-fresh
 wind_up-requires-clause-fresh g c =
@@ -108,7 +98,7 @@ returns-clause-ran g c =
       cells = ap (λ (s : SenderEnd g.row.E.Denot). s.cells) same ∙ made.ensures.fresh.1.cells;
       sending = gave;
       place = c.requires.place c.new-live.result sent.result sent.new.arg2 gave;
-      serving = served_as receiver_place received_of is_told saw_by does_in_place g.H.InPlaceHandler.goes c.args.way.batch (map given_end workers) new (map given_handler workers)
+      serving = served_as receiver_place received_by is_told SawSome does_in_place g.H.InPlaceHandler.goes c.args.way.batch (map given_end workers) new (map given_handler workers)
           (g.T.Team.listed c.args.handlers) outlets outlets wound.list.items (g.T.Team.listed c.from_list.result) (c.in_ok-sender.ensures.ends ∙ receivers) starts refl
           (sym c.from_list.ensures) wound.ensures.served;
       through = g.met.T.Team.go c.args.way.batch events c.args.handlers c.from_list.result

@@ -2,17 +2,17 @@ use Rattle.std.proofs.Common.{rules, ◌≡◌, List, All, length, refl, sym, su
 use Rattle.std.specs.Prelude.{IfErr}
 use lib.ListN.{get_elem?}
 use Rattle.dr_plain.specs.declared.record.SenderRecord.{SenderRecord}
-use Rattle.dr_plain.specs.Calls.Ends.{HalterStand, ReceiverEnd, receiver_place, received_of}
-use Rattle.dr_plain.specs.Calls.InPlace.{does_in_place}
+use Rattle.dr_plain.specs.Calls.Ends.{HalterEnd, ReceiverEnd, receiver_place}
+use Rattle.dr_plain.specs.Calls.InPlace.{SawSome, does_in_place}
 use Rattle.dr_plain.specs.Calls.Settling.{AreAllEnds}
-use Rattle.dr_plain.specs.Meaning.Records.{events_of}
+use Rattle.dr_lent.specs.Events.{events_of}
 use Rattle.dr_plain.specs.Meaning.Shape.{handlers_of}
 use Rattle.dr_disruptor.specs.declared.fault.RunFault.{RunFault}
 use Rattle.dr_disruptor.specs.Handlers.{AllWentThrough}
 use Rattle.dr_disruptor.specs.Here.{HereEnd, HerePlace, here_place, sending_here}
 use Rattle.dr_disruptor.specs.Serving.{IsIdle}
 use Rattle.dr_disruptor.specs.Running.{AreServedBack, new_receivers, shape_of}
-use Rattle.dr_disruptor.proofs.Ready.{all_idle, all_moved, halter_moved, is_told, memory_is, none_received, saw_by}
+use Rattle.dr_disruptor.proofs.Ready.{all_idle, all_moved, is_told, memory_is, none_received, received_by}
 use Rattle.dr_disruptor.proofs.Through.{served_as}
 use Rattle.dr_disruptor.proofs.running_here.run_here.Goals as goal
 
@@ -23,8 +23,8 @@ pub new-here-requires-clause-idle : goal.new-here-requires-clause-idle
 new-here-requires-clause-idle g c =
     let fresh = c.in_ok-sender.ensures.fresh in
     let k = shape_of c.args.graph.now.upstreams c.args.size fresh.0 in
-    let all : All (λ (e : ReceiverEnd g.row.E.Denot). IsIdle (received_of e)) c.in_ok-sender.receivers.items =
-    subst (All (λ (e : ReceiverEnd g.row.E.Denot). IsIdle (received_of e))) (sym fresh.1.receivers) (all_idle c.in_ok-sender.sender.ring k 0 (handlers_of k)) in
+    let all : All (λ (e : ReceiverEnd g.row.E.Denot). IsIdle (received_by e)) c.in_ok-sender.receivers.items =
+    subst (All (λ (e : ReceiverEnd g.row.E.Denot). IsIdle (received_by e))) (sym fresh.1.receivers) (all_idle c.in_ok-sender.sender.ring k 0 (handlers_of k)) in
     all
 
 pub new-live-requires-clause-closed : goal.new-live-requires-clause-closed
@@ -43,18 +43,11 @@ wind_up_here-requires-clause-ends g c =
     let same = sent.ensures.kept ∙ ap here_place (c.new-live.ensures ∙ c.new-here.ensures) in
     let place = ap (λ (p : HerePlace g.row.E.Denot g.row.H.Denot). p.0) same in
     let ends = ap (λ (p : HerePlace g.row.E.Denot g.row.H.Denot). p.1) same in
-    subst (λ (l : List (ReceiverEnd g.row.E.Denot)). AreAllEnds sent.new.sender.sender l) (sym ends)
-    (all_moved made.sender sent.new.sender.sender made.receivers.items place made.ensures.ends.0)
-
-pub wind_up_here-requires-clause-halter : goal.wind_up_here-requires-clause-halter
-wind_up_here-requires-clause-halter g c =
-    let made = c.in_ok-sender in
-    let sent = c.feed-sent in
-    let same = sent.ensures.kept ∙ ap here_place (c.new-live.ensures ∙ c.new-here.ensures) in
-    halter_moved made.sender sent.new.sender.sender made.halter (ap (λ (p : HerePlace g.row.E.Denot g.row.H.Denot). p.0) same) made.ensures.ends.1
+    subst (λ (l : List (ReceiverEnd g.row.E.Denot)). AreAllEnds sent.new.sender.sender l made.halter) (sym ends)
+    (all_moved made.sender sent.new.sender.sender made.receivers.items made.halter place made.ensures.ends)
 
 pub wind_up_here-requires-clause-unhalted : goal.wind_up_here-requires-clause-unhalted
-wind_up_here-requires-clause-unhalted g c = ap (λ (t : HalterStand g.row.E.Denot). t.knows.halted) c.in_ok-sender.ensures.fresh.1.halter
+wind_up_here-requires-clause-unhalted g c = ap (λ (t : HalterEnd g.row.E.Denot). t.knows.halted) c.in_ok-sender.ensures.fresh.1.halter
 
 pub wind_up_here-requires-clause-fresh : goal.wind_up_here-requires-clause-fresh
 wind_up_here-requires-clause-fresh g c =
@@ -115,7 +108,7 @@ returns-clause-ran g c =
       cells = ap (λ (x : HereEnd g.row.E.Denot g.row.H.Denot). x.sender.cells) new ∙ made.ensures.fresh.1.cells;
       sending = sent.ensures.gives;
       place = ap (λ (p : HerePlace g.row.E.Denot g.row.H.Denot). p.0) sent.ensures.kept;
-      serving = served_as receiver_place received_of is_told saw_by does_in_place g.H.InPlaceHandler.goes c.args.way.batch back.ends fresh back.starts
+      serving = served_as receiver_place received_by is_told SawSome does_in_place g.H.InPlaceHandler.goes c.args.way.batch back.ends fresh back.starts
           (g.T.Team.listed c.args.handlers) outlets outlets wound.list.items (g.T.Team.listed c.from_list.result) (ends ∙ receivers) starts refl
           (sym c.from_list.ensures) served;
       through = g.met.T.Team.go c.args.way.batch events c.args.handlers c.from_list.result

@@ -4,7 +4,7 @@ use Rattle.std.specs.Prelude.{IfErr}
 use Rattle.dr_meaning.specs.declared.mode.Mode.TheVariants.{Multi}
 use Rattle.dr_meaning.specs.Calls.OpenFault.{has_bad_producers}
 use Rattle.dr_runs.proofs.Elements.{there}
-use Rattle.dr_plain_senders.specs.Calls.Ends.{HalterStand, ReceiverEnd, SenderEnd}
+use Rattle.dr_plain_senders.specs.Calls.Ends.{HalterEnd, ReceiverEnd, SenderEnd}
 use Rattle.dr_plain_senders.specs.Calls.Making.{AreFreshEnds}
 use Rattle.dr_plain_senders.specs.Calls.Settling.{AreAllEnds}
 use Rattle.dr_plain_senders.specs.Meaning.Shape.{IsShape, handlers_of}
@@ -27,7 +27,7 @@ begin-requires-clause-idle g c =
     λ lifetimes outlive. all
 
 pub fed-requires-clause-before : goal.fed-requires-clause-before
-fed-requires-clause-before g c = λ lifetimes outlive. ap (λ (t : HalterStand g.row.E.Denot). t.stored) (c.in_ok-ends.ensures.halter ∙ c.in_ok-senders.ensures.fresh.1.halter)
+fed-requires-clause-before g c = λ lifetimes outlive. ap (λ (t : HalterEnd g.row.E.Denot). t.stored) (c.in_ok-ends.ensures.halter ∙ c.in_ok-senders.ensures.fresh.1.halter)
 
 pub fed-requires-clause-unsent : goal.fed-requires-clause-unsent
 fed-requires-clause-unsent g c =
@@ -50,7 +50,7 @@ wind_up-requires-clause-ends g c =
     let back = senders_back gives c.args.feeds.items made.senders.items made.receivers.items made.halter sent c.requires.place fed.ensures.sent made.ensures.ends in
     let halter = fed.ensures.ends.0 ∙ begun.ensures.halter in
     let given = ap (map given_end) fed.ensures.ends.1 ∙ begun.ensures.ends in
-    subst (λ (t : HalterStand g.row.E.Denot). AreAllEnds (map (λ s. s.sender) sent) (map given_end fed.ends.1.items) t) (sym halter)
+    subst (λ (t : HalterEnd g.row.E.Denot). AreAllEnds (map (λ s. s.sender) sent) (map given_end fed.ends.1.items) t) (sym halter)
     (subst (λ (l : List (ReceiverEnd g.row.E.Denot)). AreAllEnds (map (λ s. s.sender) sent) l made.halter) (sym given) back)
 
 pub wind_up-requires-clause-batches : goal.wind_up-requires-clause-batches
@@ -85,7 +85,7 @@ returns-clause-ran g c =
     let starts = ap (map given_handler) fed.ensures.ends.1 ∙ begun.ensures.starts ∙ c.in_ok-list.ensures in
     let halter = fed.ensures.ends.0 ∙ begun.ensures.halter in
     let is : IsWoundUp goes most workers sent made.halter wound.list.items wound.settled wound.events wound.sent.items =
-    subst (λ (t : HalterStand g.row.E.Denot). IsWoundUp goes most workers sent t wound.list.items wound.settled wound.events wound.sent.items) halter wound.ensures in
+    subst (λ (t : HalterEnd g.row.E.Denot). IsWoundUp goes most workers sent t wound.list.items wound.settled wound.events wound.sent.items) halter wound.ensures in
     let team = c.args.handlers in
     let listed = g.T.Team.listed team in (
       strip,
@@ -121,7 +121,7 @@ from_list-requires-after_bounds g c =
     let starts = ap (map given_handler) fed.ensures.ends.1 ∙ begun.ensures.starts ∙ c.in_ok-list.ensures in
     let halter = fed.ensures.ends.0 ∙ begun.ensures.halter in
     let is : IsWoundUp goes most workers sent made.halter wound.list.items wound.settled wound.events wound.sent.items =
-    subst (λ (t : HalterStand g.row.E.Denot). IsWoundUp goes most workers sent t wound.list.items wound.settled wound.events wound.sent.items) halter wound.ensures in
+    subst (λ (t : HalterEnd g.row.E.Denot). IsWoundUp goes most workers sent t wound.list.items wound.settled wound.events wound.sent.items) halter wound.ensures in
     let listed = g.T.Team.listed c.args.handlers in
     λ lifetimes outlive. g.met.T.Team.stay most _ c.args.handlers wound.list.items
     (all_through goes most k blank gives feeds listed made.senders.items made.receivers.items made.halter workers sent wound.list.items wound.settled

@@ -7,8 +7,8 @@ use Rattle.dr_disruptor.proofs.Through.{end_back, served_by}
 use Rattle.dr_disruptor.proofs.ManyReady.{halted_back, has_all, is_told, received_by, receivers_back}
 use Rattle.dr_disruptor.proofs.running_senders.wind_up.Goals as goal
 
-pub finish-settled-requires : goal.finish-settled-requires
-finish-settled-requires g c =
+pub settle_all-settled-requires : goal.settle_all-settled-requires
+settle_all-settled-requires g c =
     let halter = c.args.ends.0 in
     let workers = c.args.ends.1.items in
     let sent = c.args.ends.2.items in
@@ -29,10 +29,10 @@ returns g c =
     let ss = map (λ b. b.sender) sent in
     let served = c.in_ok-served.served.items in
     let after = c.halt.new.self in
-    let done = c.finish-settled.ensures in
+    let done = c.settle_all-settled.ensures in
     let outlets = c.in_ok-outlets.ensures.outlets in
     let senders = c.in_ok-senders.ensures.senders in
-    let settled = c.finish-settled.result.0 in
+    let settled = c.settle_all-settled.result.0 in
     let kept = served_by receiver_place received_by is_told SawSome does_in_place goes c.args.batch workers served c.requires.batches c.in_ok-served.ensures in
     let back = map (λ b. b.outlet) served in
     let run : HasRun ss back after settled.claimed settled.is_halted =
@@ -53,7 +53,7 @@ returns g c =
             has_all ss back after settled.claimed settled.is_halted run h e at one.3 one.4;
         counts = done.handlers ∙ ap (map (λ (e : ReceiverEnd g.row.E.Denot). handler_counts e.knows)) outlets;
       };
-      back = subst (λ (l : List (SenderEnd g.row.E.Denot)). GivesBack after.plan settled.claimed l c.finish-settled.result.1) senders done.events;
+      back = subst (λ (l : List (SenderEnd g.row.E.Denot)). GivesBack after.plan settled.claimed l c.settle_all-settled.result.1) senders done.events;
       handled = c.in_ok-outlets.ensures.handlers;
       answered = c.in_ok-senders.ensures.answers;
     }

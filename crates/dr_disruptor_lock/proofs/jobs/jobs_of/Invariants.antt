@@ -8,4 +8,4 @@ invariant-loop-handler g l =
     (map (λ j. j.watching.handler) l.jobs.items ++ l.handler-iterator.rest.items ≡ l.fn.handlers.items)
     × (l.shared.begun ≡ l.fn.shared.begun)
     × (l.shared.given ≡ l.fn.shared.given + length l.jobs.items)
-    × AreJobs l.jobs.items
+    × AreJobs l.room l.jobs.items

@@ -1,5 +1,4 @@
-use Rattle.std.proofs.Common.{◌≡◌, None, subst, ap, ◌∙◌}
-use Rattle.dr_seq.specs.declared.event.Event.{Event}
+use Rattle.std.proofs.Common.{◌≡◌, None, subst, ◌∙◌}
 use Rattle.dr_lock.specs.Calls.Asking.{OutletAsks}
 use Rattle.dr_lock.specs.declared.locked.LockedOutlet.{LockedOutlet}
 use Rattle.dr_workers.specs.Calls.Serving.{Serves}

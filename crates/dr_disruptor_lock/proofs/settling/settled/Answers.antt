@@ -12,7 +12,7 @@ use Rattle.dr_disruptor_lock.specs.declared.serving.Served.{Served}
 use Rattle.dr_disruptor_lock.specs.declared.watching.Watching.{Watching}
 use Rattle.dr_disruptor_lock.specs.Joining.{endings_from}
 use Rattle.dr_disruptor_lock.specs.Running.{IsAmiss, IsHistoryOf}
-use Rattle.dr_disruptor_lock.specs.Watching.{HasListed, IsUnlike}
+use Rattle.dr_disruptor_lock.specs.Watching.{HasListed, IsFirstUnlike}
 use Rattle.dr_disruptor_lock.proofs.Listing.{map_map}
 use Rattle.dr_disruptor_lock.proofs.settling.settled.Goals as goal
 
@@ -46,9 +46,9 @@ returns g c =
       audited = subst (λ (l : List (List Event)). IfOk list (λ v. IsAudited (transcript history) (handlers history.core.setup) l v.items)) scripts
           c.compared-list.ensures.audited;
       amiss = subst (λ (ws : List (Watching g.row.H.Denot)).
-          IfErr list (IsAmiss (transcript history) (handlers history.core.setup) (map (λ (s : Delivered g.row.L.Denot). s.script.items) sent) (IsUnlike ws)))
+          IfErr list (IsAmiss (transcript history) (handlers history.core.setup) (map (λ (s : Delivered g.row.L.Denot). s.script.items) sent) (IsFirstUnlike ws)))
           watchings
-          (subst (λ (l : List (List Event)). IfErr list (IsAmiss (transcript history) (handlers history.core.setup) l (IsUnlike c.as_slice-2.result.now)))
+          (subst (λ (l : List (List Event)). IfErr list (IsAmiss (transcript history) (handlers history.core.setup) l (IsFirstUnlike c.as_slice-2.result.now)))
           scripts c.compared-list.ensures.amiss);
       shown = subst (λ (ws : List (Watching g.row.H.Denot)). IfOk list (λ v. All (HasListed v.items) ws)) watchings c.compared-list.ensures.shown;
     }

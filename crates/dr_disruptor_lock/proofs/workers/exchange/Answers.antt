@@ -11,5 +11,5 @@ scoped-requires g c =
     let workers = c.type_bounds.sync-R in
     let handlers = c.type_bounds.send-H in
     record {
-      at = λ a. (search bounds depth 60, (search bounds depth 60, (search bounds depth 60, (search bounds depth 60, search bounds depth 60, search bounds depth 60, search bounds depth 60))));
+      at = λ a. (search bounds depth 60, (search bounds depth 60, (search bounds depth 60, (c.requires.begins, (search bounds depth 60, search bounds depth 60, search bounds depth 60, search bounds depth 60)))));
     }

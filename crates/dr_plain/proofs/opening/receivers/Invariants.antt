@@ -4,11 +4,11 @@ use Rattle.dr_plain.specs.Meaning.Shape.{handlers_of}
 use Rattle.dr_plain.specs.Meaning.Moments.{fresh_receivers}
 use Rattle.dr_runs.specs.Seats.{fresh_seat}
 use Rattle.dr_plain.specs.Inside.Seats.{known_receivers}
-use Rattle.dr_plain.specs.Calls.Making.{at_ring}
+use Rattle.dr_plain.specs.Calls.Making.{receiver_at_ring}
 use Rattle.dr_plain.proofs.opening.receivers.Given as goal
 
 abbrev pub invariant-loop-number : goal.invariant-loop-number
 invariant-loop-number g l = let k = (arc_value l.ring).plan in (l.rest.table_id ≡ l.fn.rest.table_id)
     × (l.rest.me ≡ fresh_seat (known_receivers k l.number (handlers_of k - l.number)))
-    × (l.receivers.items ++ map (λ r. at_ring l.fn.rest.table_id r) (fresh_receivers k l.number (handlers_of k - l.number))
-    ≡ map (λ r. at_ring l.fn.rest.table_id r) (fresh_receivers k 0 (handlers_of k)))
+    × (l.receivers.items ++ map (λ r. receiver_at_ring l.fn.rest.table_id r) (fresh_receivers k l.number (handlers_of k - l.number))
+    ≡ map (λ r. receiver_at_ring l.fn.rest.table_id r) (fresh_receivers k 0 (handlers_of k)))

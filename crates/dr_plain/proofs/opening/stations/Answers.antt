@@ -7,16 +7,16 @@ use Rattle.dr_lent.proofs.Going.{cut_on}
 use Rattle.dr_plain.specs.Meaning.Shape.{handlers_of}
 use Rattle.dr_plain.specs.Meaning.Moments.{fresh_receivers}
 use Rattle.dr_plain.specs.declared.record.ReceiverRecord.{ReceiverRecord}
-use Rattle.dr_plain.specs.Calls.Making.{at_ring}
+use Rattle.dr_plain.specs.Calls.Making.{receiver_at_ring}
 use Rattle.dr_plain.specs.Inside.Seats.{Sitting}
-use Rattle.dr_plain.specs.Inside.Stations.{sender_stand, halter_stand}
+use Rattle.dr_plain.specs.Inside.Stations.{sender_stand, halter_end}
 use Rattle.dr_plain.proofs.Making.{ruled_new, some_words}
 use Rattle.dr_plain.proofs.opening.stations.Goals as goal
 
 pub new-requires : goal.new-requires
 new-requires g c =
     ruled_new _ _ _ (c.as_slice.ensures.value ∙ c.in_ok-words.ensures.items_if_clones_equal (λ y same. same) ∙ ap (λ (n : ℕ). replicate n 0) c.words.ensures)
-    (c.in_ok-slots.ensures ∙ ap (λ (n : ℕ). replicate n no_token) c.slots.ensures) c.requires.graph (size_positive _ c.requires.size)
+    (c.in_ok-slots.ensures ∙ ap (λ (n : ℕ). replicate n no_token) c.slots.ensures) (record { graph = c.requires.graph; some_slot = size_positive _ c.requires.size })
 
 pub split_seat-second-requires : goal.split_seat-second-requires
 split_seat-second-requires g c =
@@ -50,6 +50,6 @@ returns g c =
       sender = ap (λ (m : Sitting g.row.T.Denot). sender_stand c.split_seat-second.new.seat.table_id m)
           (second.2 ∙ ap (λ (m : Sitting g.row.T.Denot). (first_view m.0, m.1)) first);
       receivers = c.in_ok-receivers.ensures
-          ∙ (λ i. map (λ (r : ReceiverRecord g.row.T.Denot). at_ring (receives i) r) (fresh_receivers (plan i) 0 (handlers_of (plan i))));
-      halter = λ i. halter_stand (halts i) (halter i);
+          ∙ (λ i. map (λ (r : ReceiverRecord g.row.T.Denot). receiver_at_ring (receives i) r) (fresh_receivers (plan i) 0 (handlers_of (plan i))));
+      halter = λ i. halter_end (halts i) (halter i);
     }

@@ -12,7 +12,7 @@ returns-clause-view g c =
     let own = c.receiver.inside.seat in (
       own.me.0,
       receiver_in own.table_id _ own.me c.args.receiver c.receiver.invariant.0 c.receiver.view_is,
-      ap (λ (m : Sitting g.row.T.Denot). m.0) c.take_in.ensures.view,
+      ap (λ (m : Sitting g.row.T.Denot). m.0) c.unite.ensures.view,
     )
 
 pub returns-clause-hands : goal.returns-clause-hands

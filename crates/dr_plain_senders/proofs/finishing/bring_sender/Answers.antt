@@ -13,8 +13,8 @@ bring_open-requires g c =
       places = (F.count ∙ ap (λ (k : Shape g.row.T.Denot). k.size) plan, c.requires.places.0, c.requires.places.1);
     }
 
-pub take_in-requires : goal.take_in-requires
-take_in-requires g c = record {
+pub unite-requires : goal.unite-requires
+unite-requires g c = record {
   table = (c.requires.table.0, ap (λ (e : SenderEnd g.row.T.Denot). e.ring) c.sender.view_is ∙ c.requires.table.1, c.requires.table.2);
 }
 
@@ -23,7 +23,7 @@ returns-clause-view g c =
     let own = c.sender.inside.seat in (
       own.me.0,
       sender_in own.table_id _ own.me c.sender.inside.owned c.sender.inside.tokens.items c.args.sender c.sender.invariant.0 c.sender.view_is,
-      ap (λ (m : Sitting g.row.T.Denot). m.0) c.take_in.ensures.view,
+      ap (λ (m : Sitting g.row.T.Denot). m.0) c.unite.ensures.view,
     )
 
 pub returns-clause-brought : goal.returns-clause-brought

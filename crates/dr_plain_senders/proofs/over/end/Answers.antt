@@ -3,7 +3,7 @@ use Rattle.dr_plain_senders.specs.Meaning.Shape.{Shape, handlers_of}
 use Rattle.dr_plain_senders.specs.Meaning.Words.{claimed_in, is_halted}
 use Rattle.dr_plain_senders.specs.Inside.Bringing.{AreTogether}
 use Rattle.dr_plain_senders.specs.Calls.Plans.{IsPlan}
-use Rattle.dr_plain_senders.specs.Calls.Ends.{HalterStand, EndPlace}
+use Rattle.dr_plain_senders.specs.Calls.Ends.{HalterEnd, EndPlace}
 use Rattle.dr_plain_senders.specs.Calls.Settling.{GivesBack}
 use Rattle.dr_plain_senders.proofs.Plans.{is_shape}
 use Rattle.dr_plain_senders.proofs.Gathering.{Together, has_all, has_run}
@@ -34,58 +34,58 @@ come g c =
 
 pub gather_senders_left-requires-clause-table : goal.gather_senders_left-requires-clause-table
 gather_senders_left-requires-clause-table g c =
-    let B = c.requires.halter in let words = B.0.1 in (ap (λ (e : HalterStand g.row.T.Denot). e.ring) c.halter.view_is ∙ B.0.0, omega arith)
+    let B = c.requires.halter in let words = B.0.1 in (ap (λ (e : HalterEnd g.row.T.Denot). e.ring) c.halter.view_is ∙ B.0.0, omega arith)
 
 pub gather_senders_left-requires-clause-senders : goal.gather_senders_left-requires-clause-senders
 gather_senders_left-requires-clause-senders g c p e at =
-    ap (λ (x : EndPlace g.row.T.Denot). x.0) (c.requires.ends.each_sender p e at) ∙ sym (ap (λ (x : HalterStand g.row.T.Denot). x.ring) c.halter.view_is)
+    ap (λ (x : EndPlace g.row.T.Denot). x.0) (c.requires.ends.each_sender p e at) ∙ sym (ap (λ (x : HalterEnd g.row.T.Denot). x.ring) c.halter.view_is)
 
 pub gather_senders_left-requires-clause-plans : goal.gather_senders_left-requires-clause-plans
 gather_senders_left-requires-clause-plans g c p e at = ap (λ (x : EndPlace g.row.T.Denot). x.1) (c.requires.ends.each_sender p e at) ∙ c.requires.halter.1
 
 pub gather_senders_left-requires-clause-size : goal.gather_senders_left-requires-clause-size
 gather_senders_left-requires-clause-size g c =
-    subst (λ (k : Shape g.row.T.Denot). 0 < k.size) (ap (λ (x : HalterStand g.row.T.Denot). x.plan) c.halter.view_is ∙ c.requires.halter.1)
+    subst (λ (k : Shape g.row.T.Denot). 0 < k.size) (ap (λ (x : HalterEnd g.row.T.Denot). x.plan) c.halter.view_is ∙ c.requires.halter.1)
     (is_shape _ c.halter.invariant.made).some_slot
 
 pub gather_senders_left-requires-clause-places : goal.gather_senders_left-requires-clause-places
 gather_senders_left-requires-clause-places g c =
-    let plan = ap (λ (x : HalterStand g.row.T.Denot). x.plan) c.halter.view_is ∙ c.requires.halter.1 in let P = c.halter.invariant.places in
+    let plan = ap (λ (x : HalterEnd g.row.T.Denot). x.plan) c.halter.view_is ∙ c.requires.halter.1 in let P = c.halter.invariant.places in
     (P.tokens ∙ ap (λ (k : Shape g.row.T.Denot). k.size) plan, P.brought ∙ ap (λ (k : Shape g.row.T.Denot). replicate k.size false) plan)
 
 pub gather_receivers_left-requires-clause-table : goal.gather_receivers_left-requires-clause-table
 gather_receivers_left-requires-clause-table g c =
     let B = c.requires.halter in let words = B.0.1 in
-    (c.gather_senders_left.ensures.seat.0 ∙ ap (λ (e : HalterStand g.row.T.Denot). e.ring) c.halter.view_is ∙ B.0.0, omega arith)
+    (c.gather_senders_left.ensures.seat.0 ∙ ap (λ (e : HalterEnd g.row.T.Denot). e.ring) c.halter.view_is ∙ B.0.0, omega arith)
 
 pub gather_receivers_left-requires-clause-receivers : goal.gather_receivers_left-requires-clause-receivers
 gather_receivers_left-requires-clause-receivers g c h e at =
-    ap (λ (x : EndPlace g.row.T.Denot). x.0) (c.requires.ends.each_receiver h e at) ∙ sym (ap (λ (x : HalterStand g.row.T.Denot). x.ring) c.halter.view_is)
+    ap (λ (x : EndPlace g.row.T.Denot). x.0) (c.requires.ends.each_receiver h e at) ∙ sym (ap (λ (x : HalterEnd g.row.T.Denot). x.ring) c.halter.view_is)
     ∙ sym c.gather_senders_left.ensures.seat.0
 
 pub gather_receivers_left-requires-clause-places : goal.gather_receivers_left-requires-clause-places
 gather_receivers_left-requires-clause-places g c =
-    c.halter.invariant.places.counts ∙ ap (λ (x : HalterStand g.row.T.Denot). handlers_of x.plan) c.halter.view_is ∙ sym c.requires.ends.receivers
+    c.halter.invariant.places.counts ∙ ap (λ (x : HalterEnd g.row.T.Denot). handlers_of x.plan) c.halter.view_is ∙ sym c.requires.ends.receivers
 
 pub gather_receivers_left-requires-clause-rooms : goal.gather_receivers_left-requires-clause-rooms
 gather_receivers_left-requires-clause-rooms g c =
-    c.halter.invariant.places.hands ∙ ap (λ (x : HalterStand g.row.T.Denot). handlers_of x.plan) c.halter.view_is ∙ sym c.requires.ends.receivers
+    c.halter.invariant.places.hands ∙ ap (λ (x : HalterEnd g.row.T.Denot). handlers_of x.plan) c.halter.view_is ∙ sym c.requires.ends.receivers
 
 pub reclaim_all-row-requires-clause-table : goal.reclaim_all-row-requires-clause-table
 reclaim_all-row-requires-clause-table g c =
     let B = c.requires.halter in let words = B.0.1 in (
-      c.gather_receivers_left.ensures.seat.0 ∙ c.gather_senders_left.ensures.seat.0 ∙ ap (λ (e : HalterStand g.row.T.Denot). e.ring) c.halter.view_is ∙ B.0.0,
+      c.gather_receivers_left.ensures.seat.0 ∙ c.gather_senders_left.ensures.seat.0 ∙ ap (λ (e : HalterEnd g.row.T.Denot). e.ring) c.halter.view_is ∙ B.0.0,
       omega arith,
     )
 
 pub reclaim_all-row-requires-clause-made : goal.reclaim_all-row-requires-clause-made
 reclaim_all-row-requires-clause-made g c =
-    let plan = ap (λ (x : HalterStand g.row.T.Denot). x.plan) c.halter.view_is ∙ c.requires.halter.1 in
+    let plan = ap (λ (x : HalterEnd g.row.T.Denot). x.plan) c.halter.view_is ∙ c.requires.halter.1 in
     (c.requires.keyed, subst (λ (k : Shape g.row.T.Denot). IsPlan k) plan c.halter.invariant.made)
 
 pub reclaim_all-row-requires-clause-cells : goal.reclaim_all-row-requires-clause-cells
 reclaim_all-row-requires-clause-cells g c =
-    let plan = ap (λ (x : HalterStand g.row.T.Denot). x.plan) c.halter.view_is ∙ c.requires.halter.1 in
+    let plan = ap (λ (x : HalterEnd g.row.T.Denot). x.plan) c.halter.view_is ∙ c.requires.halter.1 in
     ap (λ (k : Shape g.row.T.Denot). k.strip) (sym plan) ∙ c.halter.invariant.strip
 
 pub reclaim_all-row-requires-clause-together : goal.reclaim_all-row-requires-clause-together
@@ -94,7 +94,7 @@ reclaim_all-row-requires-clause-together g c =
 
 pub close-requires : goal.close-requires
 close-requires g c =
-    let plan = ap (λ (x : HalterStand g.row.T.Denot). x.plan) c.halter.view_is ∙ c.requires.halter.1 in let all = c.reclaim_all-row.ensures.all in
+    let plan = ap (λ (x : HalterEnd g.row.T.Denot). x.plan) c.halter.view_is ∙ c.requires.halter.1 in let all = c.reclaim_all-row.ensures.all in
     (all.0, all.1, all.2 ∙ ap (λ (k : Shape g.row.T.Denot). k.size) (sym plan) ∙ c.halter.invariant.cells)
 
 pub returns : goal.returns

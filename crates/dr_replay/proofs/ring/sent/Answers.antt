@@ -2,7 +2,7 @@ use Rattle.std.proofs.Common.{ℕ, ◌<◌, subst}
 use Rattle.dr_seq.proofs.Sizes.{size_positive}
 use Rattle.dr_seq.specs.declared.event.Event.{Event}
 use Rattle.dr_meaning.specs.Calls.Calling.{SomeCalls}
-use Rattle.dr_ring.specs.Calls.Telling.{sender_does}
+use Rattle.dr_ring.specs.Calls.Inlets.{sender_does}
 use Rattle.dr_workers.specs.Calls.Serving.{Sends}
 use Rattle.dr_replay.proofs.ring.sent.Goals as goal
 

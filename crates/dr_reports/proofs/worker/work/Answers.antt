@@ -3,7 +3,7 @@ use Rattle.dr_seq.specs.declared.event.Event.{Event}
 use Rattle.dr_meaning.specs.Calls.Calling.{SomeCalls}
 use Rattle.dr_meaning.specs.Calls.Handling.{Relation}
 use Rattle.dr_ring.specs.Calls.Ends.{ReceiverEnd, received_of}
-use Rattle.dr_ring.specs.Calls.Telling.{receiver_does}
+use Rattle.dr_ring.specs.Calls.Outlets.{receiver_does}
 use Rattle.dr_workers.specs.Calls.Serving.{Serves}
 use Rattle.dr_workers.specs.Meaning.Work.{HandsOut, batches_in, dealt_events}
 use Rattle.dr_workers.specs.declared.fault.WorkFault.{WorkFault}

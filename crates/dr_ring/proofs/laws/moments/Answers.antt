@@ -1,6 +1,6 @@
 use Rattle.dr_seq.specs.declared.event.Event.{Event}
 use Rattle.std.proofs.Common.{◌≡◌, ℕ, ⊎_elim, [], ◌∷◌, ◌++◌, Result, Ok, Err, subst, refl, ap, ◌∙◌, arith}
-use Rattle.dr_runs.specs.Words.{halt_word, count_word}
+use Rattle.dr_runs.specs.OneSender.Words.{halt_word, count_word}
 use Rattle.dr_runs.specs.declared.look.Look.{Look}
 use Rattle.dr_runs.specs.Looks.{look, last_look}
 use Rattle.dr_runs.proofs.Looks.{last_look_more}
@@ -11,11 +11,10 @@ use Rattle.dr_meaning.specs.declared.refusal.Refusal.TheVariants.{NoRoom, Halted
 use Rattle.dr_meaning.specs.declared.command.Claimed.{Claimed}
 use Rattle.dr_meaning.specs.Meaning.Machine.{State}
 use Rattle.dr_meaning.specs.Meaning.Transcript.{Transcript, LeadsFrom, LeadsTo}
-use Rattle.dr_graph.specs.Meaning.Graph.{IsGraph}
-use Rattle.std.specs.Prelude.{◌<◌, ◌≤◌, List, slice_index}
+use Rattle.std.specs.Prelude.{◌≤◌, List, slice_index}
 use mathlib.Core.Option.{some}
 use lib.ListN.{get_elem?}
-use Rattle.dr_ring.specs.Meaning.Shape.{Shape, ring_setup}
+use Rattle.dr_ring.specs.Meaning.Shape.{Shape, IsShape, ring_setup}
 use Rattle.dr_ring.specs.Meaning.Rule.{World, KeepsRule}
 use Rattle.dr_ring.specs.declared.record.SenderRecord.{SenderRecord}
 use Rattle.dr_ring.specs.Calls.Sending.{gate_looks, LooksToClaim}
@@ -30,28 +29,28 @@ use Rattle.dr_ring.proofs.Later.{hands_what_was_there}
 use Rattle.dr_ring.proofs.Told.{look_tells, were_told}
 use Rattle.dr_ring.proofs.laws.moments.Goals as goal
 
-leads : (k : Shape) (steps : List Step) (entries : Transcript Event) (w : World) → IsGraph k.upstreams → 0 < k.size → Runs k steps entries (new_world k) w
+leads : (k : Shape) (steps : List Step) (entries : Transcript Event) (w : World) → IsShape k → Runs k steps entries (new_world k) w
     → LeadsTo (ring_setup k) entries (picture_of k w)
-leads k steps entries w graph some_slot runs =
+leads k steps entries w shape runs =
     subst (λ (m : State Event). LeadsFrom (ring_setup k) m entries (picture_of k w)) (opens k)
-    (lead_runs k steps entries (new_world k) w runs (kept_opening k graph some_slot))
+    (lead_runs k steps entries (new_world k) w runs (kept_opening k shape))
 
 pub returns-clause-rule : goal.returns-clause-rule
-returns-clause-rule c k steps entries w graph some_slot runs = keeps_runs k steps entries (new_world k) w runs (kept_opening k graph some_slot)
+returns-clause-rule c k steps entries w shape runs = keeps_runs k steps entries (new_world k) w runs (kept_opening k shape)
 
 pub returns-clause-leads : goal.returns-clause-leads
 returns-clause-leads c = leads
 
 pub returns-clause-told : goal.returns-clause-told
-returns-clause-told c k steps entries w graph some_slot runs = were_told k (look_tells k) steps entries w runs
+returns-clause-told c k steps entries w shape runs = were_told k (look_tells k) steps entries w runs
 
 pub returns-clause-laws : goal.returns-clause-laws
-returns-clause-laws c k steps entries w graph some_slot runs =
-    c.every_transcript_is_lawful.ensures (ring_setup k) entries (picture_of k w) (leads k steps entries w graph some_slot runs)
+returns-clause-laws c k steps entries w shape runs =
+    c.every_transcript_is_lawful.ensures (ring_setup k) entries (picture_of k w) (leads k steps entries w shape runs)
 
 pub returns-clause-progress : goal.returns-clause-progress
-returns-clause-progress c k steps entries w graph some_slot runs =
-    c.nobody_is_stuck.ensures (ring_setup k) entries (picture_of k w) graph (leads k steps entries w graph some_slot runs)
+returns-clause-progress c k steps entries w shape runs =
+    c.nobody_is_stuck.ensures (ring_setup k) entries (picture_of k w) shape.graph (leads k steps entries w shape runs)
 
 -- A claim, by where it looked.
 
@@ -74,8 +73,8 @@ decided k w K halted behind n r seen (Err other) same looks D = absurd looks
 decided k w K halted behind n r seen (Ok c) same looks D = (at_last w seen (look halt_word 0 ∷ gate_looks r looks.0) 0 D.0 looks.2, D.1, D.2)
 
 pub returns-clause-replies : goal.returns-clause-replies
-returns-clause-replies c k steps entries w graph some_slot runs =
-    let K = keeps_runs k steps entries (new_world k) w runs (kept_opening k graph some_slot) in
+returns-clause-replies c k steps entries w shape runs =
+    let K = keeps_runs k steps entries (new_world k) w runs (kept_opening k shape) in
     replies k w K (decided k w K
     (λ n r seen same looks D. ⊎_elim (λ one. at_last w seen [] 1 D one) (λ late. at_last w seen (look halt_word 0 ∷ gate_looks r late.counts) 1 D late.saw) looks)
     (λ n r seen same looks D.
@@ -84,13 +83,13 @@ returns-clause-replies c k steps entries w graph some_slot runs =
     (subst (λ (xs : List Look). (i : ℕ) (x : Look) → get_elem? xs i ≡ some x → slice_index w.words x.word ≤ x.value) looks.2 D)))
 
 pub returns-clause-hands : goal.returns-clause-hands
-returns-clause-hands c k steps more entries rest w u graph some_slot runs on =
-    hands_what_was_there k more rest w u on (keeps_runs k steps entries (new_world k) w runs (kept_opening k graph some_slot))
+returns-clause-hands c k steps more entries rest w u shape runs on =
+    hands_what_was_there k more rest w u on (keeps_runs k steps entries (new_world k) w runs (kept_opening k shape))
 
 pub returns-clause-rises : goal.returns-clause-rises
-returns-clause-rises c k steps more entries rest w u graph some_slot runs on f inside =
-    rises_runs (count_word f) k more rest w u (omega arith) on (keeps_runs k steps entries (new_world k) w runs (kept_opening k graph some_slot))
+returns-clause-rises c k steps more entries rest w u shape runs on f inside =
+    rises_runs (count_word f) k more rest w u (omega arith) on (keeps_runs k steps entries (new_world k) w runs (kept_opening k shape))
 
 pub returns-clause-halted : goal.returns-clause-halted
-returns-clause-halted c k steps more entries rest w u graph some_slot runs on halted =
-    (halted_runs k more rest w u (claimed w.sender) on (keeps_runs k steps entries (new_world k) w runs (kept_opening k graph some_slot)) (halted, refl)).1
+returns-clause-halted c k steps more entries rest w u shape runs on halted =
+    (halted_runs k more rest w u (claimed w.sender) on (keeps_runs k steps entries (new_world k) w runs (kept_opening k shape)) (halted, refl)).1

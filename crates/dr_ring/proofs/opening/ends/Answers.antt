@@ -7,7 +7,7 @@ use Rattle.dr_ring.proofs.opening.ends.Goals as goal
 pub of_words-requires : goal.of_words-requires
 of_words-requires c =
     ruled_new _ _ (c.as_slice.ensures.value ∙ c.in_ok-words.ensures.items_if_clones_equal (λ y same. same) ∙ ap (λ (n : ℕ). replicate n 0) c.words.ensures)
-    c.requires.graph (size_positive _ c.requires.size)
+    (record { graph = c.requires.graph; some_slot = size_positive _ c.requires.size })
 
 pub split_seat-second-requires : goal.split_seat-second-requires
 split_seat-second-requires c =

@@ -6,17 +6,19 @@ use Rattle.dr_runs.specs.declared.counts.HandlerCounts.{HandlerCounts}
 use Rattle.dr_runs.proofs.Lists.{map_there}
 use Rattle.dr_plain.specs.declared.record.SenderRecord.{SenderRecord}
 use Rattle.dr_plain.specs.declared.settled.Settled.{Settled}
-use Rattle.dr_plain.specs.Calls.Ends.{ReceiverEnd, SenderEnd, SenderPlace, received_of}
+use Rattle.dr_plain.specs.Calls.Ends.{ReceiverEnd, SenderEnd, SenderPlace}
 use Rattle.dr_plain.specs.Calls.Settling.{handler_counts}
-use Rattle.dr_plain.specs.Meaning.Records.{events_of}
+use Rattle.dr_lent.specs.Events.{events_of}
 use Rattle.dr_plain.specs.Meaning.Shape.{Shape, ring_setup}
 use Rattle.dr_disruptor.specs.Running.{AreSettled}
 use Rattle.dr_disruptor.proofs.laws.runs.what_a_settled_run_says.Goals as goal
+use Rattle.dr_disruptor.proofs.Unrefused.{not_halted}
+use Rattle.dr_disruptor.proofs.Ready.{received_by}
 
 -- each receiver took and completed all that was published, and so it is counted
 completes_all : {E : Type 0} (back : SenderEnd E) (settled : Settled E) (values : List E) → AreSettled back settled values → (h : ℕ) (e : ReceiverEnd E)
     → get_elem? settled.receivers.value.items h ≡ some e
-    → ((received_of e).events ≡ events_of back.knows.published) × (e.knows.completed ≡ settled.published)
+    → ((received_by e).events ≡ events_of back.knows.published) × (e.knows.completed ≡ settled.published)
     × (get_elem? settled.handlers.items h ≡ some (record { taken = settled.published; completed = settled.published }))
 completes_all {E} back settled values is h e at =
     let (took, done) = is.whole h e at in
@@ -51,3 +53,6 @@ returns-clause-runs g c send most shape events handlers ran is =
 
 pub returns-clause-events : goal.returns-clause-events
 returns-clause-events g c send most shape events handlers ran is = is.settled.events
+
+pub returns-clause-unrefused : goal.returns-clause-unrefused
+returns-clause-unrefused g c send most shape events handlers ran is n r old new before refused after = not_halted is n r old new before refused after

@@ -5,12 +5,12 @@ use Rattle.dr_meaning.specs.Meaning.Laws.{Laws}
 use Rattle.dr_runs.specs.declared.counts.HandlerCounts.{HandlerCounts}
 use Rattle.dr_runs.proofs.Lists.{map_there}
 use Rattle.dr_plain_senders.specs.declared.settled.Settled.{Settled}
-use Rattle.dr_plain_senders.specs.Calls.Ends.{HalterStand, ReceiverEnd, SenderEnd, receiver_place, received_of}
+use Rattle.dr_plain_senders.specs.Calls.Ends.{HalterEnd, ReceiverEnd, SenderEnd, receiver_place, received_of}
 use Rattle.dr_plain_senders.specs.Calls.InPlace.{SawSome, does_in_place}
-use Rattle.dr_plain_senders.specs.Calls.Making.{receiver_at}
+use Rattle.dr_plain_senders.specs.Calls.Making.{receiver_at_ring}
 use Rattle.dr_plain_senders.specs.Calls.Settling.{handler_counts}
 use Rattle.dr_plain_senders.specs.Meaning.Moments.{fresh_receiver}
-use Rattle.dr_plain_senders.specs.Meaning.Records.{events_of}
+use Rattle.dr_lent.specs.Events.{events_of}
 use Rattle.dr_plain_senders.specs.Meaning.Settling.{published_events}
 use Rattle.dr_plain_senders.specs.Meaning.Shape.{Shape, ring_setup}
 use Rattle.dr_disruptor.specs.Merging.{AreSettled, new_receivers}
@@ -33,7 +33,7 @@ pub returns-clause-merges : goal.returns-clause-merges
 returns-clause-merges g c most k feeds handlers ran is = (is.through.merge, is.through.through, is.claimed)
 
 -- each receiver took and completed all that was claimed, and so it is counted
-completes_all : {E : Type 0} (settled : Settled E) (ss : List (SenderEnd E)) (rs : List (ReceiverEnd E)) (t : HalterStand E) (ends : AreSettled settled ss rs t)
+completes_all : {E : Type 0} (settled : Settled E) (ss : List (SenderEnd E)) (rs : List (ReceiverEnd E)) (t : HalterEnd E) (ends : AreSettled settled ss rs t)
     → (events : List E) → events ≡ events_of (published_events ends.run.world) → settled.claimed ≡ length events
     → (h : ℕ) (e : ReceiverEnd E) → get_elem? rs h ≡ some e
     → ((received_of e.knows).events ≡ events) × (e.knows.completed ≡ settled.claimed)
@@ -57,7 +57,7 @@ returns-clause-completes g c most k feeds handlers ran is =
 pub returns-clause-serves : goal.returns-clause-serves
 returns-clause-serves g c most k feeds handlers ran is =
     shown_from_none receiver_place (λ e. received_of e.knows) (λ e. e.knows.told) SawSome does_in_place g.H.InPlaceHandler.goes most (new_receivers is.ring k)
-    (g.T.Team.listed handlers) is.receivers (g.T.Team.listed ran.handlers) (λ h. receiver_at is.ring k (fresh_receiver h))
+    (g.T.Team.listed handlers) is.receivers (g.T.Team.listed ran.handlers) (λ h. receiver_at_ring is.ring k (fresh_receiver h))
     (new_at is.ring k) (λ h. refl)
     (λ h e at n saw.
     let most = is.seen h e at n saw in

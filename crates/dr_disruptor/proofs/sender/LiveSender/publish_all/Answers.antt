@@ -11,4 +11,7 @@ returns-clause-sent g c =
 pub returns-clause-refused : goal.returns-clause-refused
 returns-clause-refused g c =
     IfErr-weaker c.publish_each.result _ _ (λ r. stops_list c.args.events.now _ _ (λ k shown left met below. met below) g.I.InPlaceInlet.kept
-    g.I.InPlaceInlet.sending g.I.InPlaceInlet.refuses _ c.args.cut r c.args.self.now c.publish_each.new.self refl) c.publish_each.ensures.refused
+    g.I.InPlaceInlet.sending g.I.InPlaceInlet.does _ c.args.cut r c.args.self.now c.publish_each.new.self refl) c.publish_each.ensures.refused
+
+pub returns-clause-called : goal.returns-clause-called
+returns-clause-called g c = c.publish_each.ensures.called

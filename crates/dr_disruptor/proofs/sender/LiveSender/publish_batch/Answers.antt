@@ -1,8 +1,9 @@
 use Rattle.std.proofs.Common.{arith, length, refl, subst, ◌∙◌}
 use Rattle.dr_meaning.specs.Calls.Filling.{FillsFrom}
-use Rattle.dr_disruptor.specs.Sending.{ClaimedAtOnce, FillsOn, SendsAll}
+use Rattle.dr_disruptor.specs.Sending.{ClaimedAtOnce, FillsOn, OnlyCalled, SendsAll}
 use Rattle.dr_disruptor.proofs.Claims.{claimed_at_once}
 use Rattle.dr_disruptor.proofs.Stretches.{counted_all, filled_none, is_whole, sends}
+use Rattle.dr_disruptor.proofs.Called.{called_more, called_on}
 use Rattle.dr_disruptor.proofs.sender.LiveSender.publish_batch.Goals as goal
 
 pub fill_by-requires-clause-within : goal.fill_by-requires-clause-within
@@ -50,3 +51,15 @@ returns-clause-claims g c =
 
 pub returns-clause-some : goal.returns-clause-some
 returns-clause-some g c = let (low, long, limit) = c.in_ok-lo.ensures.stretch in omega arith
+
+pub returns-in_err-lo-clause-called : goal.returns-in_err-lo-clause-called
+returns-in_err-lo-clause-called g c =
+    let does = g.I.InPlaceInlet.does in
+    subst (λ (e : g.row.I.Denot). OnlyCalled does e c.claim.new.end) c.self.view_is c.claim.ensures.called
+
+pub returns-clause-called : goal.returns-clause-called
+returns-clause-called g c =
+    let does = g.I.InPlaceInlet.does in
+    subst (λ (e : g.row.I.Denot). OnlyCalled does e c.publish.new.self) c.self.view_is
+    (called_more does c.self.inside.end c.fill_by.new.end c.publish.new.self _
+    (called_on does c.self.inside.end c.claim.new.end c.fill_by.new.end c.claim.ensures.called c.fill_by.ensures.called) c.publish.ensures.called)

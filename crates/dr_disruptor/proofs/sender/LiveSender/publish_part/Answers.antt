@@ -1,8 +1,9 @@
 use Rattle.std.proofs.Common.{length, subst, ◌∙◌}
 use Rattle.dr_meaning.specs.Calls.Filling.{FillsOne}
-use Rattle.dr_disruptor.specs.Sending.{ClaimedAtOnce, Fills, SendsAll}
+use Rattle.dr_disruptor.specs.Sending.{ClaimedAtOnce, Fills, OnlyCalled, SendsAll}
 use Rattle.dr_disruptor.proofs.Claims.{claimed_at_once}
 use Rattle.dr_disruptor.proofs.Stretches.{counted_all, filled_none, is_whole, sends}
+use Rattle.dr_disruptor.proofs.Called.{called_more, called_on}
 use Rattle.dr_disruptor.proofs.sender.LiveSender.publish_part.Goals as goal
 
 pub fill_each-requires-clause-within : goal.fill_each-requires-clause-within
@@ -46,3 +47,15 @@ returns-clause-claims g c =
     (claimed_at_once kept sending c.args.part c.in_ok-lo.field-0.lo c.self.inside.end c.claim.new.end c.publish.new.self fills c.in_ok-lo.ensures.kept c.in_ok-lo.ensures.opens
     (sends fills c.args.part c.in_ok-lo.field-0.lo (sending c.self.inside.end) (sending c.claim.new.end) (sending c.fill_each.new.end) (sending c.publish.new.self)
     c.in_ok-lo.ensures.opens c.fill_each.ensures.filled c.publish.ensures.publishes))
+
+pub returns-in_err-lo-clause-called : goal.returns-in_err-lo-clause-called
+returns-in_err-lo-clause-called g c =
+    let does = g.I.InPlaceInlet.does in
+    subst (λ (e : g.row.I.Denot). OnlyCalled does e c.claim.new.end) c.self.view_is c.claim.ensures.called
+
+pub returns-clause-called : goal.returns-clause-called
+returns-clause-called g c =
+    let does = g.I.InPlaceInlet.does in
+    subst (λ (e : g.row.I.Denot). OnlyCalled does e c.publish.new.self) c.self.view_is
+    (called_more does c.self.inside.end c.fill_each.new.end c.publish.new.self _
+    (called_on does c.self.inside.end c.claim.new.end c.fill_each.new.end c.claim.ensures.called c.fill_each.ensures.called) c.publish.ensures.called)

@@ -2,7 +2,7 @@ use Rattle.std.proofs.Common.{◌+◌, ◌<◌, rules, arith, length, ap}
 use Rattle.std.proofs.lemmas.List.{length-map}
 use Rattle.dr_lent.proofs.Lists.{drop_at}
 use Rattle.dr_lent.specs.declared.lent.Lent.{Lent}
-use Rattle.dr_plain.specs.Meaning.Records.{events_of}
+use Rattle.dr_lent.specs.Events.{events_of}
 use Rattle.dr_runs.proofs.Elements.{at_below}
 use Rattle.dr_plain.proofs.events.EventsIterator.next.Goals as goal
 

@@ -1,8 +1,7 @@
 use Rattle.std.proofs.Common.{subst}
-use mathlib.Core.Option.{none}
-use Rattle.atomic_table.specs.Table.{step, Allows}
+use Rattle.atomic_table.specs.Table.{Allows}
 use Rattle.dr_plain.specs.Meaning.Shape.{Shape}
-use Rattle.dr_runs.specs.Words.{cursor_word}
+use Rattle.dr_runs.specs.OneSender.Words.{cursor_word}
 use Rattle.dr_plain.specs.Inside.Seats.{Ruled}
 use Rattle.dr_plain.specs.Inside.Finishing.{TookAll}
 use Rattle.dr_plain.proofs.Ending.{takes_all}
@@ -13,6 +12,6 @@ load-requires g c =
     let words = c.args.words.now in let seat = c.args.seat.now in let ends = c.requires.ends in (
       c.requires.table.0,
       c.requires.table.1,
-      subst (λ (k : Shape). Allows (Ruled words.key) words.table_id.slots seat.id seat.me cursor_word (λ n. n) (TookAll k (step words.table_id.slots cursor_word 0 0 none) seat.me))
-          c.requires.plan (takes_all words.key _ _ _ _ ends.0 ends.1 ends.2 ends.3),
+      subst (λ (k : Shape). Allows (Ruled words.key) words.table_id.slots seat.id seat.me cursor_word (λ n. n) (TookAll k seat.me))
+          c.requires.plan (takes_all words.key words.table_id.slots seat.id cursor_word seat.me ends.0 ends.1 ends.2 ends.3),
     )

@@ -4,7 +4,7 @@ use lib.ListN.{get_elem?}
 use Rattle.dr_runs.proofs.Lists.{map_there}
 use Rattle.dr_lent.specs.declared.lent.Lent.{Lent}
 use Rattle.dr_lent.proofs.Copying.{copied_more}
-use Rattle.dr_plain.specs.Meaning.Records.{events_of}
+use Rattle.dr_lent.specs.Events.{events_of}
 use Rattle.dr_plain.specs.Calls.Ends.{ReceiverEnd}
 use Rattle.dr_runs.proofs.Elements.{there}
 use Rattle.dr_plain.proofs.receiver.Receiver.copy_events.Goals as goal

@@ -1,5 +1,5 @@
 use Rattle.std.proofs.Common.{◌≡◌, ◌+◌, take, drop}
-use Rattle.dr_plain.specs.Meaning.Records.{events_of}
+use Rattle.dr_lent.specs.Events.{events_of}
 use Rattle.dr_plain.proofs.receiver.Receiver.copy_events.Given as goal
 
 abbrev pub invariant-loop-event : goal.invariant-loop-event

@@ -6,7 +6,7 @@ use Rattle.dr_runs.specs.Runs.{IsBeginning}
 use Rattle.dr_plain.specs.declared.record.ReceiverRecord.{ReceiverRecord}
 use Rattle.dr_plain.specs.Calls.Ends.{ReceiverEnd, ReceiverStand}
 use Rattle.dr_plain.specs.Calls.Receiving.{AnswersAsSeen}
-use Rattle.dr_plain.proofs.Stations.{begins_on}
+use Rattle.dr_runs.proofs.Beginnings.{begins_on}
 use Rattle.dr_plain.proofs.Polls.{saw, seen_round, poll_nothing, poll_batch, fits_nothing, fits_batch, new_in_hand}
 use Rattle.dr_runs.proofs.Offers.{of_count}
 use Rattle.dr_plain.proofs.receiver.Receiver.poll.Goals as goal

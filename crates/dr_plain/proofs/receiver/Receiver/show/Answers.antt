@@ -6,7 +6,7 @@ use Rattle.dr_meaning.specs.Calls.Handling.{showings}
 use Rattle.dr_meaning.proofs.Showings.{shows_more, length-showings}
 use Rattle.dr_runs.proofs.Elements.{value_at}
 use Rattle.dr_lent.specs.declared.lent.Lent.{Lent}
-use Rattle.dr_plain.specs.Meaning.Records.{events_of}
+use Rattle.dr_lent.specs.Events.{events_of}
 use Rattle.dr_plain.proofs.receiver.Receiver.show.Goals as goal
 use Rattle.dr_plain.proofs.receiver.Receiver.show.Goals.{then-end, else-end}
 

@@ -1,6 +1,6 @@
 use Rattle.std.proofs.Common.{take, drop}
 use Rattle.dr_meaning.specs.Calls.Handling.{GoesThrough, showings}
-use Rattle.dr_plain.specs.Meaning.Records.{events_of}
+use Rattle.dr_lent.specs.Events.{events_of}
 use Rattle.dr_plain.proofs.receiver.Receiver.show.Given as goal
 
 abbrev pub invariant-loop-k : goal.invariant-loop-k

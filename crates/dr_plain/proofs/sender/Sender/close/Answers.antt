@@ -8,7 +8,7 @@ use Rattle.dr_plain.specs.Calls.Ends.{SenderEnd}
 use Rattle.dr_plain.specs.Calls.Sending.{CloseCall}
 use Rattle.dr_plain.specs.Inside.Noted.{writes_from}
 use Rattle.dr_plain.specs.Inside.Views.{sender_end}
-use Rattle.dr_plain.proofs.Stations.{begins_on}
+use Rattle.dr_runs.proofs.Beginnings.{begins_on}
 use Rattle.dr_plain.proofs.sender.Sender.close.Goals as goal
 
 pub returns : goal.returns

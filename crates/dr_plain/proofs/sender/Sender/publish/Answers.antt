@@ -2,7 +2,7 @@ use Rattle.std.proofs.Common.{◌≡◌, ℕ, ◌+◌, ◌-◌, ◌≤◌, ◌<�
 use Rattle.dr_seq.proofs.Sizes.{size_at_most}
 use Rattle.dr_runs.specs.Runs.{IsBeginning}
 use Rattle.dr_lent.specs.Rows.{cells_of}
-use Rattle.dr_plain.specs.Meaning.Records.{events_of}
+use Rattle.dr_lent.specs.Events.{events_of}
 use Rattle.dr_plain.specs.declared.record.Step.{Step}
 use Rattle.dr_plain.specs.declared.record.Step.TheVariants.{SenderPublishes}
 use Rattle.dr_plain.specs.Calls.Ends.{SenderEnd, SenderStand}
@@ -11,7 +11,7 @@ use Rattle.dr_runs.specs.declared.written.Written.{Written}
 use Rattle.dr_plain.specs.Inside.Lending.{lents_of}
 use Rattle.dr_plain.specs.Inside.Views.{sender_end}
 use Rattle.dr_plain.proofs.Claims.{collected_many}
-use Rattle.dr_plain.proofs.Stations.{begins_same}
+use Rattle.dr_runs.proofs.Beginnings.{begins_same}
 use Rattle.dr_plain.proofs.Publishing.{publish_none, publish_unclaimed, publish_early, publish_unwritten, publish_late, publish_done, publish_stores}
 use Rattle.dr_plain.proofs.Publishing.{lend_hand, turn_room, publish_order, publish_lents, publish_hand, published_knows, turned_knows, fits_publish}
 use Rattle.dr_plain.proofs.sender.Sender.publish.Goals as goal

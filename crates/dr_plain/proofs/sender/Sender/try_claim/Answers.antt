@@ -12,7 +12,7 @@ use Rattle.dr_plain.specs.Inside.Scans.{LooksAtFinals}
 use Rattle.dr_plain.specs.Inside.Views.{sender_end}
 use Rattle.dr_plain.specs.declared.record.Step.{Step}
 use Rattle.dr_runs.specs.Runs.{IsBeginning}
-use Rattle.dr_plain.proofs.Stations.{begins_same, begins_on}
+use Rattle.dr_runs.proofs.Beginnings.{begins_same, begins_on}
 use Rattle.dr_plain.proofs.Claims.{Tried, fits_saw, fits_halt, fits_room, fits_claim, collect_kept, collect_hand, collected_hand, collected_whole}
 use Rattle.dr_plain.proofs.Claims.{collected_same, collected_many, none_taken, claim_bad, claim_halted, claim_exhausted, claim_no_room}
 use Rattle.dr_plain.proofs.Claims.{claim_halted_late, claim_accepted, claim_call}

@@ -12,7 +12,7 @@ use Rattle.dr_cells.specs.Tokens.{token_at}
 use Rattle.dr_plain.specs.Calls.Ends.{SenderEnd}
 use Rattle.dr_plain.specs.Calls.Sending.{UpdateCall}
 use Rattle.dr_plain.specs.Inside.Views.{sender_end}
-use Rattle.dr_plain.proofs.Stations.{begins_same}
+use Rattle.dr_runs.proofs.Beginnings.{begins_same}
 use Rattle.dr_plain.proofs.Writing.{fits_write, write_done, answers_unclaimed, answers_published}
 use Rattle.dr_plain.proofs.sender.Sender.update_by.Goals as goal
 use Rattle.dr_plain.proofs.sender.Sender.update_by.Goals.{After-put_at}

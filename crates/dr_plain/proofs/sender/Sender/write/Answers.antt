@@ -7,7 +7,7 @@ use Rattle.dr_lent.specs.Rows.{cells_of}
 use Rattle.dr_plain.specs.Calls.Ends.{SenderEnd}
 use Rattle.dr_plain.specs.Calls.Sending.{WriteCall}
 use Rattle.dr_plain.specs.Inside.Views.{sender_end}
-use Rattle.dr_plain.proofs.Stations.{begins_same}
+use Rattle.dr_runs.proofs.Beginnings.{begins_same}
 use Rattle.dr_plain.proofs.Writing.{fits_write, write_done, write_unclaimed}
 use Rattle.dr_plain.proofs.sender.Sender.write.Goals as goal
 use Rattle.dr_plain.proofs.sender.Sender.write.Goals.{After-put_at}

@@ -1,10 +1,8 @@
-use Rattle.std.proofs.Common.{◌≡◌, ℕ, ◌+◌, sym, ap, ◌∙◌, subst, arith}
+use Rattle.std.proofs.Common.{◌≡◌, ℕ, ◌+◌, ap, ◌∙◌, arith}
 use Rattle.std.specs.Prelude.{min, max}
-use Rattle.dr_lent.specs.Rows.{cells_of}
 use Rattle.dr_runs.specs.declared.written.Written.{Written}
 use Rattle.dr_plain.specs.Calls.Ends.{SenderEnd}
-use Rattle.dr_plain.specs.Calls.Sending.{with_lying, AreWrittenBelow}
-use Rattle.dr_plain.specs.Inside.Views.{sender_end}
+use Rattle.dr_plain.specs.Calls.Sending.{with_lying}
 use Rattle.dr_plain.proofs.LyingWrites.{wrote_lying, written_lying}
 use Rattle.dr_plain.proofs.sender.Sender.write_lying.Goals as goal
 use Rattle.dr_plain.proofs.sender.Sender.write_lying.Goals.{After-max-self-inside, then-hi-self, else-hi-self}

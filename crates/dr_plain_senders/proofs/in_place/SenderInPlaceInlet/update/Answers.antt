@@ -11,3 +11,6 @@ pub returns-clause-changes : goal.returns-clause-changes
 returns-clause-changes g c =
     changes (λ was now. FnOnceReturnsAtMut g.F.FnOnce c.args.change was tt now) c.args.self.now c.update.new.self c.args.s c.in-Ok.ensures
     c.requires.within c.ranges.s.fits
+
+pub returns-clause-called : goal.returns-clause-called
+returns-clause-called g c = let call = c.in-Ok.ensures in (call.0, call.1, call.2, tt, call.4)

@@ -11,3 +11,6 @@ pub returns-clause-changes : goal.returns-clause-changes
 returns-clause-changes g c =
     changes (λ was now. FillsFrom g.F.FnMut c.args.fill.now c.args.number was c.update_by.new.fill now) c.args.self.now c.update_by.new.self c.args.s
     c.in-Ok.ensures.call c.requires.within c.ranges.s.fits
+
+pub returns-clause-called : goal.returns-clause-called
+returns-clause-called g c = let call = c.in-Ok.ensures.call in (call.0, call.1, call.2, tt, call.4)

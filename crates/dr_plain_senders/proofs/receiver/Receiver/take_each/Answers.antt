@@ -2,7 +2,7 @@ use Rattle.std.proofs.Common.{◌≡◌, ℕ, ◌-◌, refl, arith, ap, ◌∙�
 use Rattle.dr_plain_senders.specs.Meaning.Shape.{Shape}
 use Rattle.dr_plain_senders.specs.Meaning.Words.{in_word}
 use Rattle.dr_plain_senders.specs.Calls.Ends.{ReceiverEnd}
-use Rattle.dr_plain_senders.proofs.Stations.{begins_same}
+use Rattle.dr_runs.proofs.Beginnings.{begins_same}
 use Rattle.dr_plain_senders.proofs.Walking.{loads_more, walking_none, walking_more, walked_stop, walked_end, walked_to, same_upstreams}
 use Rattle.dr_plain_senders.proofs.receiver.Receiver.take_each.Goals as goal
 

@@ -1,4 +1,4 @@
-use Rattle.std.proofs.Common.{◌&&◌, not, ◌≡◌, ℕ, arith, sym, ap, ◌∙◌, subst, ◌<◌, set, Ok, Err, refl}
+use Rattle.std.proofs.Common.{◌&&◌, not, ◌≡◌, ℕ, arith, sym, ap, ◌∙◌, subst, ◌<◌, set, Ok, refl}
 use Rattle.std.specs.Fn.{FnOnceReturnsAtMut}
 use denote.RawPtr.{Ptr}
 use mathlib.Core.Option.{some}
@@ -12,17 +12,17 @@ use Rattle.dr_plain_senders.specs.Meaning.Shape.{Shape}
 use Rattle.dr_plain_senders.specs.Meaning.Words.{cell_of}
 use Rattle.dr_plain_senders.specs.declared.record.SenderRecord.{SenderRecord}
 use Rattle.dr_plain_senders.specs.Calls.Ends.{SenderEnd}
-use Rattle.dr_plain_senders.specs.Calls.Writing.{WriteCall, UpdateCall}
+use Rattle.dr_plain_senders.specs.Calls.Writing.{RefusedWrite, UpdateCall}
 use Rattle.dr_plain_senders.specs.Inside.Views.{sender_end}
 use Rattle.dr_plain_senders.proofs.Fitting.{fits_same}
 use Rattle.dr_plain_senders.proofs.Written.{fits_write, write_done, write_never, write_refused, write_late, lies_at}
 use Rattle.dr_plain_senders.proofs.sender.Sender.update.Goals as goal
 
 pub returns-then-sequence-limit : goal.returns-then-sequence-limit
-returns-then-sequence-limit g c event =
+returns-then-sequence-limit g c =
     let limit = c.limit.ensures.limit ∙ ap (λ (k : Shape g.row.T.Denot). k.limit) c.plan.ensures.plan in let over = c.if-sequence-limit.true in
-    subst (λ (x : SenderEnd g.row.T.Denot). WriteCall x c.args.sequence event x (Err NotClaimed)) c.self.view_is
-    (write_never (sender_end c.self.inside.station c.self.inside.owned c.self.inside.tokens.items) c.args.sequence event (omega arith))
+    subst (λ (x : SenderEnd g.row.T.Denot). RefusedWrite x c.args.sequence x NotClaimed) c.self.view_is
+    (write_never (sender_end c.self.inside.station c.self.inside.owned c.self.inside.tokens.items) c.args.sequence (omega arith))
 
 pub invariant_of-self : goal.invariant_of-self
 invariant_of-self g c =
@@ -34,18 +34,18 @@ invariant_of-self g c =
     )
 
 pub returns-then-not-has : goal.returns-then-not-has
-returns-then-not-has g c event =
+returns-then-not-has g c =
     let limit = c.limit.ensures.limit ∙ ap (λ (k : Shape g.row.T.Denot). k.limit) c.plan.ensures.plan in let below = c.if-sequence-limit.false in
     let o = c.self.inside.owned in let tokens = c.self.inside.tokens.items in
-    subst (λ (x : SenderEnd g.row.T.Denot). WriteCall x c.args.sequence event (sender_end c.refusal.new.self o tokens) (Err c.refusal.result)) c.self.view_is
-    (write_refused c.self.inside.station o _ c.args.sequence tokens event c.self.invariant
+    subst (λ (x : SenderEnd g.row.T.Denot). RefusedWrite x c.args.sequence (sender_end c.refusal.new.self o tokens) c.refusal.result) c.self.view_is
+    (write_refused c.self.inside.station o _ c.args.sequence tokens c.self.invariant
     c.refusal.new.self c.refusal.result (omega arith) (sym c.if-not-has.ensures) c.refusal.ensures)
 
 pub returns-then-is_published : goal.returns-then-is_published
-returns-then-is_published g c event =
-    subst (λ (x : SenderEnd g.row.T.Denot). WriteCall x c.args.sequence event x (Err AlreadyPublished)) c.self.view_is
+returns-then-is_published g c =
+    subst (λ (x : SenderEnd g.row.T.Denot). RefusedWrite x c.args.sequence x AlreadyPublished) c.self.view_is
     (write_late c.self.inside.station c.self.inside.owned _ c.args.sequence c.self.inside.tokens.items
-    event c.self.invariant (sym c.if-not-has.ensures) (sym c.if-is_published.ensures))
+    c.self.invariant (sym c.if-not-has.ensures) (sym c.if-is_published.ensures))
 
 pub write-requires-clause-opened : goal.write-requires-clause-opened
 write-requires-clause-opened g c = (λ i. sym c.if-not-has.ensures i && not (sym c.if-is_published.ensures i))

@@ -11,7 +11,7 @@ use Rattle.dr_plain_senders.specs.Calls.Ends.{SenderEnd}
 use Rattle.dr_plain_senders.specs.Calls.Writing.{WriteCall}
 use Rattle.dr_plain_senders.specs.Inside.Views.{sender_end}
 use Rattle.dr_plain_senders.proofs.Fitting.{fits_same}
-use Rattle.dr_plain_senders.proofs.Written.{fits_write, write_done, write_refused, write_late}
+use Rattle.dr_plain_senders.proofs.Written.{fits_write, refused_write, write_done, write_refused, write_late}
 use Rattle.dr_plain_senders.proofs.sender.Sender.write.Goals as goal
 
 pub invariant_of-self : goal.invariant_of-self
@@ -29,14 +29,17 @@ returns-then-not-has-clause-call g c =
     let o = c.self.inside.owned in let tokens = c.self.inside.tokens.items in
     subst (λ (x : SenderEnd g.row.T.Denot). WriteCall x c.args.sequence c.args.event (sender_end c.refusal.new.self o tokens) (Err c.refusal.result))
     c.self.view_is
-    (write_refused c.self.inside.station o _ c.args.sequence tokens c.args.event c.self.invariant
-    c.refusal.new.self c.refusal.result (omega arith) (sym c.if-not-has.ensures) c.refusal.ensures)
+    (refused_write (sender_end c.self.inside.station o tokens) (sender_end c.refusal.new.self o tokens) c.args.sequence c.args.event c.refusal.result
+    (write_refused c.self.inside.station o _ c.args.sequence tokens c.self.invariant
+    c.refusal.new.self c.refusal.result (omega arith) (sym c.if-not-has.ensures) c.refusal.ensures))
 
 pub returns-then-is_published-clause-call : goal.returns-then-is_published-clause-call
 returns-then-is_published-clause-call g c =
+    let e = sender_end c.self.inside.station c.self.inside.owned c.self.inside.tokens.items in
     subst (λ (x : SenderEnd g.row.T.Denot). WriteCall x c.args.sequence c.args.event x (Err AlreadyPublished)) c.self.view_is
+    (refused_write e e c.args.sequence c.args.event AlreadyPublished
     (write_late c.self.inside.station c.self.inside.owned _ c.args.sequence c.self.inside.tokens.items
-    c.args.event c.self.invariant (sym c.if-not-has.ensures) (sym c.if-is_published.ensures))
+    c.self.invariant (sym c.if-not-has.ensures) (sym c.if-is_published.ensures)))
 
 pub write-requires-clause-opened : goal.write-requires-clause-opened
 write-requires-clause-opened g c = (λ i. sym c.if-not-has.ensures i && not (sym c.if-is_published.ensures i))

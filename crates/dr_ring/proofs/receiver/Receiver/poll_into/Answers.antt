@@ -2,12 +2,12 @@ use Rattle.std.proofs.Common.{List, length, rules, arith, refl, ap, sym, subst, 
 use Rattle.std.proofs.lemmas.List.{take_at, drop_at}
 use Rattle.dr_seq.specs.declared.event.Event.{Event}
 use Rattle.dr_ring.specs.declared.record.ReceiverRecord.{ReceiverRecord}
-use Rattle.dr_runs.specs.Words.{closed_word}
+use Rattle.dr_runs.specs.OneSender.Words.{closed_word}
 use Rattle.dr_ring.specs.Meaning.Records.{receiver_looked}
 use Rattle.dr_ring.specs.Calls.Ends.{ReceiverEnd}
 use Rattle.dr_ring.specs.Calls.Receiving.{AnswersAsSeen, received_all}
 use Rattle.dr_runs.specs.Runs.{IsBeginning}
-use Rattle.dr_ring.proofs.Stations.{begins_on}
+use Rattle.dr_runs.proofs.Beginnings.{begins_on}
 use Rattle.dr_ring.proofs.Polls.{saw, seen_round, poll_nothing, poll_batch, offers}
 use Rattle.dr_runs.proofs.Offers.{of_count}
 use Rattle.dr_ring.proofs.receiver.Receiver.poll_into.Goals as goal

@@ -7,7 +7,7 @@ use Rattle.dr_ring.specs.declared.record.Step.{Step}
 use Rattle.dr_ring.specs.declared.record.Step.TheVariants.{SenderHalts, SenderCloses}
 use Rattle.dr_ring.specs.Meaning.Records.{seen_before, sender_closed, sender_halted}
 use Rattle.dr_ring.specs.Calls.Ends.{SenderEnd}
-use Rattle.dr_ring.proofs.Stations.{begins_same, begins_on}
+use Rattle.dr_runs.proofs.Beginnings.{begins_same, begins_on}
 use Rattle.dr_ring.proofs.sender.Sender.close.Goals as goal
 
 empty : {A : Type 0} (xs : List A) → length xs ≡ 0 → xs ≡ []

@@ -1,7 +1,7 @@
 use Rattle.std.proofs.Common.{rules, refl, ap, ◌+◌, arith}
 use Rattle.dr_ring.specs.Calls.Ends.{SenderEnd}
 use Rattle.dr_ring.proofs.Fronts.{fits_publish, raises}
-use Rattle.dr_ring.proofs.Stations.{begins_same, begins_on}
+use Rattle.dr_runs.proofs.Beginnings.{begins_same, begins_on}
 use Rattle.dr_ring.proofs.Publishing.{publish_ready, publish_unwritten, publish_done, publish_late}
 use Rattle.dr_ring.proofs.sender.Sender.publish.Goals as goal
 

@@ -3,9 +3,9 @@ use Rattle.dr_ring.specs.Meaning.Shape.{Shape}
 use Rattle.dr_runs.specs.declared.look.Look.{Look}
 use Rattle.dr_ring.specs.declared.record.SenderRecord.{SenderRecord}
 use Rattle.dr_ring.specs.Calls.Ends.{SenderEnd}
-use Rattle.dr_ring.specs.Inside.Parts.{LooksAtFinals}
+use Rattle.dr_ring.specs.Inside.Scans.{LooksAtFinals}
 use Rattle.dr_runs.specs.Runs.{IsBeginning}
-use Rattle.dr_ring.proofs.Stations.{begins_on}
+use Rattle.dr_runs.proofs.Beginnings.{begins_on}
 use Rattle.dr_ring.proofs.Claims.{Scanned, fits_saw, fits_halt, fits_room, fits_claim, claim_no_room, claim_halted_late, claim_accepted}
 use Rattle.dr_ring.proofs.sender.Sender.try_claim.Goals as goal
 use Rattle.dr_ring.proofs.sender.Sender.try_claim.Goals.{After-saturating_sub-need}

@@ -1,5 +1,5 @@
 use Rattle.std.specs.Prelude.{◌≡◌, ℕ, ◌<◌, ◌≤◌, true}
-use Rattle.dr_runs.specs.Noted.{is_noted}
+use Rattle.dr_runs.specs.OneSender.Noted.{is_noted}
 use Rattle.dr_runs.proofs.written.Written.has_all.Given as goal
 
 abbrev pub invariant-loop-sequence : goal.invariant-loop-sequence

@@ -3,7 +3,7 @@ use denote.Param.Send.{IsSync}
 use Rattle.dr_lock.proofs.SharedCrossing.{of_param}
 use Rattle.dr_disruptor_lock.specs.Serving.{given_job}
 use Rattle.dr_disruptor_lock.proofs.Crossing.{crosses, gives}
-use Rattle.dr_disruptor_lock.proofs.Kept.{are_joined}
+use Rattle.dr_disruptor_lock.proofs.Kept.{comes_back}
 use Rattle.dr_disruptor_lock.proofs.Listing.{all_moved, moved}
 use Rattle.dr_disruptor_lock.proofs.workers.fn.exchange.scope.Goals as goal
 
@@ -38,5 +38,5 @@ returns g c =
     let none : length rest.items ≡ 0 = omega arith in
     let given : map given_job workers ≡ c.captures.jobs.items =
     all_moved given_job workers rest.items c.captures.jobs.items (c.loop-job.invariant ∙ c.into_iter-job-iterator.ensures.into_iter_gives.0) none in
-    are_joined g.L.Exchange.begun c.captures.around.now.size g.H.InPlaceHandler.goes c.captures.halter workers c.captures.jobs.items c.captures.tasks.items c.served.result given
-    c.served.ensures.halted c.served.ensures.sent c.served.ensures.served
+    comes_back g.L.Exchange.begun c.captures.around.now.size g.H.InPlaceHandler.goes c.captures.halter workers c.captures.jobs.items c.captures.tasks.items c.served.result given
+    c.served.ensures.halted c.served.ensures.lacking c.served.ensures.sent c.served.ensures.served

@@ -1,7 +1,7 @@
 use Rattle.std.proofs.Common.{rules, ◌≡◌, length, ap, sym, subst, ◌∙◌}
 use Rattle.std.specs.Prelude.{Contains}
 use Rattle.dr_graph.specs.Meaning.Graph.{upstreams_of}
-use Rattle.dr_runs.specs.Words.{count_word as count_word_of}
+use Rattle.dr_runs.specs.OneSender.Words.{count_word as count_word_of}
 use Rattle.dr_plain.specs.Meaning.Records.{taken_at, receiver_looked}
 use Rattle.dr_plain.specs.Calls.Ends.{ReceiverStand}
 use Rattle.dr_plain.specs.Inside.Seats.{End, receiver_of}

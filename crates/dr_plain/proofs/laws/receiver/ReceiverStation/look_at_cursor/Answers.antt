@@ -1,5 +1,5 @@
 use Rattle.std.proofs.Common.{rules, sym, ◌≡◌, ◌∙◌, length}
-use Rattle.dr_runs.specs.Words.{cursor_word}
+use Rattle.dr_runs.specs.OneSender.Words.{cursor_word}
 use Rattle.dr_plain.specs.Meaning.Records.{taken_at}
 use Rattle.dr_plain.proofs.Allowed.{receiver_looks_at_cursor}
 use Rattle.dr_plain.proofs.laws.receiver.ReceiverStation.look_at_cursor.Goals as goal

@@ -2,7 +2,8 @@ use Rattle.std.proofs.Common.{◌≡◌, ℕ, ◌-◌, ◌++◌, List, arith, sy
 use Rattle.std.specs.List.Sorted.{IsStrictlyIncreasing}
 use Rattle.dr_plain.specs.declared.record.ReceiverRecord.{ReceiverRecord}
 use Rattle.dr_plain.specs.Calls.Ends.{ReceiverStand}
-use Rattle.dr_plain.specs.Inside.Polling.{ups_of, LooksAtFirst}
+use Rattle.dr_plain.specs.Inside.Polling.{LooksAtFirst}
+use Rattle.dr_plain.specs.Calls.Receiving.{ups_of}
 use Rattle.dr_plain.specs.Inside.Seats.{Hand, taken_by_poll}
 use Rattle.dr_plain.proofs.Offers.{round_last}
 use Rattle.dr_plain.proofs.laws.receiver.ReceiverStation.look_past_upstreams.Goals as goal

@@ -1,7 +1,7 @@
 use Rattle.std.proofs.Common.{ℕ, List, arith, refl, sym, ap, ◌∙◌, get_or}
 use Rattle.dr_plain.specs.declared.record.ReceiverRecord.{ReceiverRecord}
-use Rattle.dr_plain.specs.Inside.Polling.{ups_of}
-use Rattle.dr_plain.proofs.Stations.{begins_on}
+use Rattle.dr_plain.specs.Calls.Receiving.{ups_of}
+use Rattle.dr_runs.proofs.Beginnings.{begins_on}
 use Rattle.dr_plain.proofs.Offers.{first_more}
 use Rattle.dr_plain.proofs.laws.receiver.ReceiverStation.see_counts.Goals as goal
 

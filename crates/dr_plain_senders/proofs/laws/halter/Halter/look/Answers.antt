@@ -1,13 +1,13 @@
 use Rattle.std.proofs.Common.{rules, arith, sym, subst, ap, ◌∙◌, ◌<◌}
 use Rattle.dr_plain_senders.specs.Meaning.Shape.{Shape}
 use Rattle.dr_plain_senders.specs.Meaning.Words.{mark_start}
-use Rattle.dr_plain_senders.specs.Calls.Ends.{HalterStand}
+use Rattle.dr_plain_senders.specs.Calls.Ends.{HalterEnd}
 use Rattle.dr_plain_senders.proofs.Allowed.{halter_looks}
 use Rattle.dr_plain_senders.proofs.laws.halter.Halter.look.Goals as goal
 
 pub load-requires : goal.load-requires
 load-requires g c =
-    let inside = subst (λ (e : HalterStand g.row.T.Denot). c.args.word < mark_start e.plan) (sym c.self.view_is) c.requires in
+    let inside = subst (λ (e : HalterEnd g.row.T.Denot). c.args.word < mark_start e.plan) (sym c.self.view_is) c.requires in
     let key = ap (λ r. r.table.shared.key) c.deref.ensures ∙ c.self.invariant.keyed.key in
     let low = subst (λ (k : Shape g.row.T.Denot). c.args.word < mark_start k) (sym key) inside in let at = c.self.invariant.table.1 in (
       search rules,

@@ -3,7 +3,7 @@ use Rattle.dr_plain_senders.specs.Meaning.Shape.{Shape}
 use Rattle.dr_plain_senders.specs.Meaning.Words.{count_word}
 use Rattle.dr_plain_senders.specs.Calls.Finds.{FindsEvents}
 use Rattle.dr_plain_senders.specs.Calls.Receiving.{ups_of}
-use Rattle.dr_plain_senders.proofs.Stations.{begins_on}
+use Rattle.dr_runs.proofs.Beginnings.{begins_on}
 use Rattle.dr_plain_senders.proofs.Offers.{first_more}
 use Rattle.dr_plain_senders.proofs.laws.receiver.ReceiverStation.see_counts.Goals as goal
 

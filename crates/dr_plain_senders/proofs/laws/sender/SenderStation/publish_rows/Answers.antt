@@ -2,7 +2,8 @@ use Rattle.std.proofs.Common.{List, length, drop, ap, subst, ◌∙◌}
 use Rattle.dr_lent.specs.declared.lent.Lent.{Lent}
 use Rattle.dr_plain_senders.specs.declared.record.Step.TheVariants.{SenderPublishes}
 use Rattle.dr_plain_senders.specs.Meaning.Words.{lanes_of}
-use Rattle.dr_plain_senders.specs.Meaning.Records.{has_published, events_of}
+use Rattle.dr_plain_senders.specs.Meaning.Records.{has_published}
+use Rattle.dr_lent.specs.Events.{events_of}
 use Rattle.dr_plain_senders.specs.Calls.Ends.{HasStored}
 use Rattle.dr_plain_senders.specs.Inside.Seats.{Hand, given_by_publication}
 use Rattle.dr_plain_senders.proofs.LentRows.{lents_in, found_are, given_first, given_rest}
