@@ -59,6 +59,8 @@ PLANTED = {
     "dr_places/src/places.rt": "        shared.store::<Tells>(&mut seat, place, LEFT);",
     "dr_disruptor/src/running.rt": "    ring.table.shared.fetch_add::<Brand>(seat, 0, 1);",
     "dr_ring/src/sender.rt": "        self.words.load::<Brand>(&mut self.seat, 0);",
+    "dr_ring/src/receiver.rt": "impl Drop for Receiver {",
+    "dr_c/src/end.rt": "impl Drop for End {",
     "dr_plain/src/sender.rt": "        words.swap::<Brand>(&mut self.seat, 0, 1);",
     "dr_plain_senders/src/polling.rt": "    settling::unite(words, seat, other);",
     "dr_plain_senders/src/sender.rt": "    let one = words.fetch_max(seat, Ordering::Relaxed);",

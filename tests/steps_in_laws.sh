@@ -79,6 +79,12 @@ if [ "$ends" != 6 ] || [ "$left" != 6 ]; then
     echo "of six ends that may be dropped $ends are found, and $left that leave what they hold"
     exit 1
 fi
+# Ends of the ring over words, and what C holds, have no drop of their own, but for what frees a box.
+others=$(grep -rn '\bDrop for\b' crates/dr_ring/src crates/dr_c/src --include='*.rt' | grep -vE '^crates/dr_c/src/freed\.rt:[0-9]+:impl<T> Drop for Freed<T> [{]$')
+if [ -n "$others" ]; then
+    printf 'an end over words, or one that C holds, does something as it is dropped:\n%s\n' "$others"
+    exit 1
+fi
 # Nor if an end that C frees does. A clause says it of a handle; what frees handles does nothing else.
 body_of() { awk -v head=" fn $1[(]" '$0 ~ head { inside = 1 } inside && /^}/ { exit } at { print } inside && /^{/ { at = 1 }' "$2"; }
 freed=$(body_of free_all crates/dr_c/src/opening.rt; body_of disruptor_free_at crates/dr_c/src/lib.rt)

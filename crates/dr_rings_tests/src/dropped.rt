@@ -1,5 +1,5 @@
-//! An end of a ring over plain memory that is dropped does nothing more: a receiver completes nothing of what it has in hand, and
-//! a sender closes nothing. With the last end each event is dropped, once.
+//! An end of a ring that is dropped does nothing more: a receiver completes nothing of what it has in hand, a sender closes nothing,
+//! and a halter halts nothing. Over plain memory each event is dropped with the last end, once.
 
 use crate::calls::Answer::{Says, Shows};
 use crate::calls::Call::{Claim, Complete, Halt, Poll, Publish, Write};
@@ -9,7 +9,7 @@ use crate::counted::{Counted, Counting, none_alive, some_events};
 use crate::events::{ONE, TWO};
 use crate::graphs::Shape;
 use crate::playing::play;
-use crate::{plain, plain_senders};
+use crate::{plain, plain_senders, words};
 use dr_meaning::MAX_LIMIT;
 use dr_meaning::Refusal::NoRoom;
 use dr_meaning::Reply::{Claimed, Completed, Drained, Halting, Idle, Published, Refused, Written};
@@ -124,4 +124,35 @@ fn two_senders_that_are_dropped_close_nothing(rt: HostRuntime) {
     play(&rt, &mut ends, HALT, "halted");
     play(&rt, &mut ends, DRAINED, "drained");
     drop_all(&rt, ends, &alive);
+}
+
+#[test]
+fn a_receiver_of_words_that_is_dropped_completes_nothing(rt: HostRuntime) {
+    let mut ends = words::open(&rt, rt.alloc(), Shape::Alone, 2, MAX_LIMIT);
+    play(&rt, &mut ends, FILL, "filled");
+    play(&rt, &mut ends, TAKE_BOTH, "in hand");
+    ends.receivers.clear();
+    play(&rt, &mut ends, ONE_IS_FREE, "dropped");
+}
+
+#[test]
+fn a_sender_of_words_that_is_dropped_closes_nothing(rt: HostRuntime) {
+    let mut ends = words::open(&rt, rt.alloc(), Shape::Alone, 2, MAX_LIMIT);
+    play(&rt, &mut ends, FILL, "filled");
+    let mut other = words::open(&rt, rt.alloc(), Shape::Alone, 2, MAX_LIMIT);
+    swap(&mut ends.sender, &mut other.sender);
+    drop(other);
+    play(&rt, &mut ends, HALT, "halted");
+    play(&rt, &mut ends, RECEIVE_ALL, "dropped");
+}
+
+#[test]
+fn a_halter_of_words_that_is_dropped_halts_nothing(rt: HostRuntime) {
+    let mut ends = words::open(&rt, rt.alloc(), Shape::Alone, 2, MAX_LIMIT);
+    play(&rt, &mut ends, FILL, "filled");
+    let mut other = words::open(&rt, rt.alloc(), Shape::Alone, 2, MAX_LIMIT);
+    swap(&mut ends.halter, &mut other.halter);
+    drop(other);
+    play(&rt, &mut ends, TAKE_BOTH, "dropped");
+    play(&rt, &mut ends, ONE_IS_FREE, "claimed");
 }
