@@ -1,9 +1,9 @@
 #!/usr/bin/env bash
 # All that `make test` tries: every proof and every test's proof from nothing, but for what an earlier run on this machine kept, and each
 # program's run (`rt ci`), then the programs, as both compilers built them, from outside (`scripts.py`); and, on what processors that
-# leaves, the wrong bodies, over the libraries that `rt ci` proves. The last line, `N passed, M failed`, counts what `rt ci` counts,
-# each wrong body, and one failure more for each script that fails. Above it stands how much was done in this run. All that it starts
-# ends with it, also where it is killed or interrupted.
+# leaves, the wrong bodies, over the libraries that `rt ci` proves. Scripts that go by time come last. The last line, `N passed, M
+# failed`, counts what `rt ci` counts, each wrong body, and one failure more for each script that fails. Above it stands how much was
+# done in this run. All that it starts ends with it, also where it is killed or interrupted.
 set -u
 cd "$(dirname "$0")/.." || exit 2
 [ -n "${TEST_IS_HELD-}" ] || TEST_IS_HELD=yes exec tools/together.py tests/everything.sh "$@"
@@ -39,11 +39,14 @@ proofs=$(sed -n -E 's/^rt: ok;.*; (done in this run: .*|every proof .*)$/\1/p' "
 # Who waits for that line would wait for ever where the disk is full.
 echo '0 passed, 0 failed: rt ci ended' >> "$words" || kill "$trying"
 heard=/dev/null
-counted tests/scripts.py "$@"
+counted tests/scripts.py --busy "$@"
 wait "$trying"
 tried=$?
 counted sh -c 'cat "$1"; exit "$2"' - "$bodies" "$tried"
+refused=$(cat "$last")
+# What goes by time comes last, with nothing beside it.
+counted tests/scripts.py --quiet
 echo "proofs: ${proofs:-not all passed}"
-echo "wrong bodies: $(cat "$last")"
+echo "wrong bodies: $refused"
 echo "$passed passed, $failed failed"
 [ "$failed" = 0 ]

@@ -14,7 +14,7 @@ import tempfile
 
 sys.dont_write_bytecode = True
 HERE = os.path.dirname(os.path.abspath(__file__))
-sys.path += [HERE]
+sys.path += [HERE, os.path.join(HERE, "hostile")]
 from run import Bench  # noqa: E402
 from show import BROWSERS, told_by  # noqa: E402
 

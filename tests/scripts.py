@@ -1,11 +1,12 @@
 #!/usr/bin/env python3
 """Runs the scripts that look from outside at the programs that `rt ci` left, side by side, and shows what each says once it has ended.
 
-  tests/scripts.py [--anew]
+  tests/scripts.py [--anew]           all
+  tests/scripts.py --busy [--anew]    those that may run beside other work
+  tests/scripts.py --quiet            those that go by time, one by one, with nothing beside them
 
-Those of both compilers' builds come first, and then, one by one, those that go by time. A script passes where its last line says that
-it tried something, and that nothing failed, or that what it needs is not here. The last line is `0 passed, N failed`: so many
-scripts failed, each once a build. With `--anew` they keep nothing of earlier runs.
+A script passes where its last line says that it tried something, and that nothing failed, or that what it needs is not here. The last
+line is `0 passed, N failed`: so many scripts failed, each once a build. With `--anew` they keep nothing of earlier runs.
 """
 
 import os
@@ -103,12 +104,14 @@ def ran(words):
 
 
 def main():
-    is_anew = "--anew" in sys.argv[1:]
+    is_anew, is_quiet = "--anew" in sys.argv[1:], "--quiet" in sys.argv[1:]
     builds, failed = built()
     once = [words_of(it, "", is_anew) for it in (*(ONCE if "" in builds else ()), *OF_SCRIPTS)]
     each = [words_of(it, build) for it in EACH for build in builds]
     quiet = [words_of(it, build) for build in builds for it in QUIET]
-    for has_failed, said in chain(ran([*once, *each]), map(run, quiet)):
+    # (a build that is not there fails once, with those that may be busy)
+    busy, failed = ([], 0) if is_quiet else ([*once, *each], failed)
+    for has_failed, said in chain(ran(busy), map(run, [] if "--busy" in sys.argv[1:] else quiet)):
         failed += has_failed
         print(said, flush=True)
     print(f"0 passed, {failed} failed")
