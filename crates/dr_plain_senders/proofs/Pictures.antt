@@ -109,8 +109,8 @@ module _ {T : Type 0} where
       → picture_of k w ≡ picture_of k (receiver_knows w h q)
   same_picture k w h r q at same = ap (λ (t : List ℕ). shown k w.stages t (counts_of k w.words) (halted w.words)) (sym (same_taken w h r q at same))
 
-  pub is_receiver : (w : World T) (h : ℕ) (r : ReceiverRecord T) → get_elem? w.receivers h ≡ some r → receiver_at w h ≡ r
-  is_receiver w h r at = value_at w.receivers h r (fresh_receiver 0) at
+  pub is_receiver : (k : Shape T) (w : World T) (h : ℕ) (r : ReceiverRecord T) → get_elem? w.receivers h ≡ some r → receiver_at k w h ≡ r
+  is_receiver k w h r at = value_at w.receivers h r (fresh_receiver k h) at
 
   sender_inside : (k : Shape T) (w : World T) (p : ℕ) (r : SenderRecord T) → get_elem? w.senders p ≡ some r → KeepsRule k w → p < k.senders
   sender_inside k w p r at K = let b = at_below w.senders p r at in let e = K.inlets in omega arith
@@ -377,22 +377,22 @@ module _ {T : Type 0} where
   lead_step k (SenderHalts p) w u H K = subst (λ (x : World T). Leads k (entry Halt Halting []) (picture_of k w) (picture_of k x)) (sym H.2) (lead_halt k w K)
   lead_step k (ReceiverLooksAtClaims h) w u H K =
       let n = word_at w.words claim_word in
-      subst (λ (r : ReceiverRecord T). Leads k (drained_of h (tells_drained r n)) (picture_of k w) (picture_of k u)) (sym (is_receiver w h H.0 H.1))
+      subst (λ (r : ReceiverRecord T). Leads k (drained_of h (tells_drained r n)) (picture_of k w) (picture_of k u)) (sym (is_receiver k w h H.0 H.1))
       (subst (λ (x : State T). Leads k (drained_of h (tells_drained H.0 n)) (picture_of k w) x) (same_picture k w h H.0 (claims_looked H.0 n) H.1 refl
       ∙ ap (picture_of k) (sym H.2)) (lead_claims_look k w h H.0 H.1 K))
   lead_step k (ReceiverLooksAtMark h room) w u H K =
       let mark : ReceiverRecord T → ℕ = λ r. word_at w.words (mark_word k (length r.received)) in
-      let n = taken_at_mark k H.0 (mark H.0) room in let lents = H.2.1 in let q = mark_looked H.0 (mark H.0) lents in let m = picture_of k w in
-      subst (λ (r : ReceiverRecord T). Leads k (batch_of k w h r (taken_at_mark k r (mark r) room)) m (picture_of k u)) (sym (is_receiver w h H.0 H.1))
+      let n = taken_at_mark H.0 (mark H.0) room in let lents = H.2.1 in let q = mark_looked H.0 (mark H.0) lents in let m = picture_of k w in
+      subst (λ (r : ReceiverRecord T). Leads k (batch_of k w h r (taken_at_mark r (mark r) room)) m (picture_of k u)) (sym (is_receiver k w h H.0 H.1))
       (subst (λ (x : World T). Leads k (batch_of k w h H.0 n) m (picture_of k x)) (sym H.2.3)
       (lead_batch k w h n H.0 q H.1 (offers_at_mark k w h room H.0 H.1 H.2.0 K)
       (let c = H.2.2.count in let l = length-append H.0.received lents in omega arith) K))
   lead_step k (ReceiverLooksAtCount h c room) w u H K =
-      let found = word_at w.words (count_word c) in let n = taken_at_count k H.0 (count_word c) found room in let lents = H.2.1 in
+      let found = word_at w.words (count_word c) in let n = taken_at_count H.0 (count_word c) found room in let lents = H.2.1 in
       let q = receiver_looked H.0 (count_word c) found lents in let m = picture_of k w in
       let inside = upstream_inside k K.shape.graph h c (handler_inside k w h H.0 H.1 K) H.2.0 in
-      subst (λ (r : ReceiverRecord T). Leads k (batch_of k w h r (taken_at_count k r (count_word c) found room)) m (picture_of k u))
-      (sym (is_receiver w h H.0 H.1))
+      subst (λ (r : ReceiverRecord T). Leads k (batch_of k w h r (taken_at_count r (count_word c) found room)) m (picture_of k u))
+      (sym (is_receiver k w h H.0 H.1))
       (subst (λ (x : World T). Leads k (batch_of k w h H.0 n) m (picture_of k x)) (sym H.2.3)
       (lead_batch k w h n H.0 q H.1 (offers_at_count k w h (count_word c) room H.0 (omega arith) H.1 K)
       (let c = H.2.2.count in let l = length-append H.0.received lents in omega arith) K))

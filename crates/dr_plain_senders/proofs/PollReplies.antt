@@ -73,9 +73,11 @@ module _ {T : Type 0} (k : Shape T) (w : World T) (K : KeepsRule k w) where
 
   nothing_offered : (h : ℕ) (r : ReceiverRecord T) → get_elem? w.receivers h ≡ some r → OffersNothing k w r → available (ring_setup k) m h ≤ length r.received
   nothing_offered h r at (inl x) =
-      unmarked_offers k w h r at (subst (λ (n : ℕ). upstreams_of k.upstreams n ≡ []) (K.received h r at).number x.0) K x.1
+      let was = K.received h r at in
+      unmarked_offers k w h r at (subst (λ (e : Shape T × ℕ). upstreams_of e.0.upstreams e.1 ≡ []) (λ i. (was.plan i, was.number i)) x.0) K x.1
   nothing_offered h r at (inr x) =
-      behind_offers k w h x.0 r at (subst (λ (n : ℕ). Contains (upstreams_of k.upstreams n) x.0) (K.received h r at).number x.1) K
+      let was = K.received h r at in
+      behind_offers k w h x.0 r at (subst (λ (e : Shape T × ℕ). Contains (upstreams_of e.0.upstreams e.1) x.0) (λ i. (was.plan i, was.number i)) x.1) K
       (let same = x.2 in omega arith)
 
   nothing_taken : (h room : ℕ) (r : ReceiverRecord T) (polled : Polled) → get_elem? w.receivers h ≡ some r → DecidesPoll k w r (Ok polled)

@@ -32,7 +32,6 @@ pub use halter::Halter;
 pub use receiver::ReceiverStation;
 pub use sender::SenderStation;
 use std::alloc::Global;
-use std::marker::Brand;
 
 /// The rule that every step keeps.
 pub struct RingRule;
@@ -53,25 +52,6 @@ pub type RingTable<T> = Table<Token<T>, View<T>, Plan<T>, RingRule, Global>;
 
 /// What an end steps with.
 pub type RingSeat<T> = Seat<Token<T>, View<T>>;
-
-/// What a step names, for its proof alone: what the ring is made for, and a sequence or how many
-/// events there is room for.
-pub trait Names<T> {
-    ghost plan: { Shape T };
-
-    ghost number: { ℕ };
-
-    ghost use Rattle.std.specs.Prelude.{ℕ};
-    ghost use Rattle.dr_plain_senders.specs.Meaning.Shape.{Shape};
-}
-
-impl<T> Names<T> for Brand {
-    ghost use Rattle.dr_plain_senders.specs.Inside.Seats.{no_shape};
-
-    ghost plan = { no_shape };
-
-    ghost number = { 0 };
-}
 
 /// Whatever steps fall in whatever order: between any two of them the rule holds, the entries of
 /// their events lead the machine to the ring's picture, in which nobody is stuck, and the

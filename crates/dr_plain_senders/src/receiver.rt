@@ -17,8 +17,7 @@ use crate::plan::HALT_BIT;
 use dr_cells::Token;
 use dr_meaning::{Polled, Refusal};
 use std::alloc::Global;
-use std::marker::{Brand, Model};
-use std::snapshot::Snapshot;
+use std::marker::Model;
 use std::sync::Arc;
 
 /// The end of one handler, which receives every event after its upstreams. No call waits or takes
@@ -119,7 +118,7 @@ impl<T> Receiver<T> {
         self.station
             .give_back(self.completed, upto, &mut self.parts);
         self.station.turn_all(self.taken - upto);
-        self.station.complete::<Brand>(upto);
+        self.station.complete(upto);
         self.completed = upto;
         Ok(())
     }
@@ -166,10 +165,8 @@ impl<T> Receiver<T> {
             number,
             looks: _,
         } = station;
-        let plan = Snapshot::of(&ring.plan);
         let left = ReceiverLeft {
             seat,
-            plan,
             taken,
             completed,
             parts,

@@ -16,7 +16,6 @@ use dr_cells::Token;
 use dr_meaning::{ClaimFault, Claimed};
 use std::alloc::Global;
 use std::marker::Model;
-use std::snapshot::Snapshot;
 use std::sync::Arc;
 
 /// An end of one of a ring's senders, which claims, writes and publishes. No call waits or takes
@@ -124,10 +123,8 @@ impl<T> Sender<T> {
             number,
             looks: _,
         } = station;
-        let plan = Snapshot::of(&ring.plan);
         let left = SenderLeft {
             seat,
-            plan,
             owned,
             end,
             tokens,

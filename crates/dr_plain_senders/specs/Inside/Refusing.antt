@@ -23,4 +23,4 @@ pub record RefusesBy {T : Type 0} (e : SenderStand T) (s : ℕ) (e' : SenderStan
   pub loaded : HasLoaded e (refused_by e.knows s before mark after) e.hand e'
   pub first : FindsOwn e.knows before
   pub last : FindsOwn e.knows after
-  pub is : refusal ≡ (if is_out_by e.plan s before mark after then AlreadyPublished else NotClaimed)
+  pub is : refusal ≡ (if is_out_by e.knows.plan s before mark after then AlreadyPublished else NotClaimed)

@@ -97,12 +97,12 @@ module _ {T : Type 0} where
   -- a receiver without upstreams takes what the marks in the word let through, as far as it has room
   Happens k (ReceiverLooksAtMark h room) w w' =
       ByReceiver w h (λ r. let found : ℕ = slice_index w.words (mark_word k (length r.received)) in
-      (upstreams_of k.upstreams h ≡ []) × (lents : List (Lent T)) × AreNext w r (taken_at_mark k r found room) lents
+      (upstreams_of k.upstreams h ≡ []) × (lents : List (Lent T)) × AreNext w r (taken_at_mark r found room) lents
       × (w' ≡ receiver_knows w h (mark_looked r found lents)))
   -- and another what its upstreams let through
   Happens k (ReceiverLooksAtCount h u room) w w' =
       ByReceiver w h (λ r. let found : ℕ = slice_index w.words (count_word u) in
-      Contains (upstreams_of k.upstreams h) u × (lents : List (Lent T)) × AreNext w r (taken_at_count k r (count_word u) found room) lents
+      Contains (upstreams_of k.upstreams h) u × (lents : List (Lent T)) × AreNext w r (taken_at_count r (count_word u) found room) lents
       × (w' ≡ receiver_knows w h (receiver_looked r (count_word u) found lents)))
   Happens k (ReceiverCompletes h n) w w' =
       ByReceiver w h (λ r. (r.completed ≤ n) × (n ≤ length r.received)

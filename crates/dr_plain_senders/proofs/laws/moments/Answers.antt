@@ -89,7 +89,7 @@ returns-clause-rises g c k steps more entries rest w u shape runs on =
     ((λ f inside. rose.words (count_word f) (omega arith)), rose.claimed)
 
 pub returns-clause-told : goal.returns-clause-told
-returns-clause-told g c k steps entries w shape runs = were_told k look_tells steps entries w runs
+returns-clause-told g c k steps entries w shape runs = were_told k (look_tells k) steps entries w runs
 
 pub returns-clause-halted : goal.returns-clause-halted
 returns-clause-halted g c k steps more entries rest w u shape runs on halted =

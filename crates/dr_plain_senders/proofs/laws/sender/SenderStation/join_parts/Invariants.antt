@@ -10,7 +10,7 @@ use Rattle.dr_plain_senders.proofs.Tokens.{out}
 use Rattle.dr_plain_senders.proofs.laws.sender.SenderStation.join_parts.Given as goal
 
 abbrev pub invariant-loop-handler : goal.invariant-loop-handler
-invariant-loop-handler g l = let k = l.fn.self.plan in
+invariant-loop-handler g l = let k = l.fn.self.knows.plan in
     (m : Lent g.row.T.Denot)
     × (l.self ≡ with_hand l.fn.self (traded (parts_row k l.sequence (lent m)) (blank_parts k l.sequence) (drop (handlers_of k) l.fn.self.hand) (l.handler - 0)))
     × (l.kept ≡ out k l.sequence (handlers_of k - l.handler) m)
