@@ -126,7 +126,7 @@ PublishesSlotsBy lo hi number (SenderOfBytes w) end' =
 PublishesSlotsBy lo hi number (SenderOfSeveral s) end' =
     (s' : several.SenderEnd Event) × (answer : Result (Unit {0}) Refusal) × (end' ≡ SenderOfSeveral s') × (number ≡ told answer)
     × PublishesAsLeft LeavesOfSeveral (λ m m'. publications_of_several.PublishCall m lo hi m' answer) lo hi s s'
-    × (HasEachOnce s.knows.own → hi < s.plan.limit → hi < 2 ^ 62 → answer ≢ Err NotWritten)
+    × (HasEachOnce s.knows.own → hi < s.knows.plan.limit → hi < 2 ^ 62 → answer ≢ Err NotWritten)
 PublishesSlotsBy lo hi number other end' = (end' ≡ other) × (number ≡ wrong_end)
 
 -- only a ring of one sender is closed: one of several ends with its halt

@@ -30,9 +30,9 @@ TellsCursorBy count count' number other end' = (end' ≡ other) × (number ≡ w
 -- what a handler completed, if there is one of this number
 abbrev pub TellsCompletedOfSeveral : ℕ → ℕ → ℕ → ℕ → several.HalterEnd Event → several.HalterEnd Event → Type 0
 TellsCompletedOfSeveral handler count count' number h h' = let word : ℕ = words_of_several.count_word handler in
-    ((handler < shape_of_several.handlers_of h.plan) × (number ≡ 0) × several.HasLoaded h (records_of_several.halter_looked h.knows word count') h.hand h'
+    ((handler < shape_of_several.handlers_of h.knows.plan) × (number ≡ 0) × several.HasLoaded h (records_of_several.halter_looked h.knows word count') h.hand h'
     × FindsMore h.knows.looks word count')
-    ⊎ ((shape_of_several.handlers_of h.plan ≤ handler) × (number ≡ no_handler) × (count' ≡ count) × (h' ≡ h))
+    ⊎ ((shape_of_several.handlers_of h.knows.plan ≤ handler) × (number ≡ no_handler) × (count' ≡ count) × (h' ≡ h))
 
 abbrev pub TellsCompletedOfBytes : ℕ → ℕ → ℕ → ℕ → plain.HalterEnd (List ℕ) → plain.HalterEnd (List ℕ) → Type 0
 TellsCompletedOfBytes handler count count' number h h' = let word : ℕ = count_word handler in
