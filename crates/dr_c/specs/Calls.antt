@@ -14,6 +14,7 @@ use Rattle.dr_ring.specs.Calls.Receiving.{PollCall, CompleteCall}
 use Rattle.dr_meaning.specs.declared.claim_fault.ClaimFault.{ClaimFault}
 use Rattle.dr_plain_senders.specs.declared.record.Step.TheVariants as steps_of_several
 use Rattle.dr_plain_senders.specs.Meaning.Records as records_of_several
+use Rattle.dr_lent.specs.Ends as lent
 use Rattle.dr_plain_senders.specs.Calls.Ends as several
 use Rattle.dr_plain_senders.specs.Calls.Sending as claims_of_several
 use Rattle.dr_plain_senders.specs.Calls.Writing as writes_of_several
@@ -83,10 +84,10 @@ abbrev pub HaltsBy : End → End → ℕ → Type 0
 HaltsBy (Halter h) end' number = (h' : HalterEnd) × (end' ≡ Halter h') × (number ≡ 0) × HasStored h HalterHalts (halter_halted h.knows) h'
 HaltsBy (HalterOfSeveral h) end' number =
     (h' : several.HalterEnd Event) × (found : ℕ) × (end' ≡ HalterOfSeveral h') × (number ≡ 0)
-    × several.HasStored h steps_of_several.HalterHalts (records_of_several.halter_halted h.knows found) h.hand h'
+    × lent.HasStored h steps_of_several.HalterHalts (records_of_several.halter_halted h.knows found) h.hand h'
 HaltsBy (HalterOfBytes h) end' number =
     (h' : plain.HalterEnd (List ℕ)) × (end' ≡ HalterOfBytes h') × (number ≡ 0)
-    × plain.HasStored h steps_of_bytes.HalterHalts (records_of_bytes.halter_halted h.knows) h.hand h'
+    × lent.HasStored h steps_of_bytes.HalterHalts (records_of_bytes.halter_halted h.knows) h.hand h'
 HaltsBy other end' number = (end' ≡ other) × (number ≡ wrong_end)
 
 -- the first sequence of a claim; a refused one leaves the place as it was

@@ -27,7 +27,7 @@ use Rattle.dr_plain.specs.Calls.Ends.{ReceiverStand}
 use Rattle.dr_plain.specs.Calls.Receiving.{looked_round, received_all, AnswersAsSeen, ups_of}
 use Rattle.dr_runs.specs.OneSender.Polls.{PollLooks, nothing_offered}
 use Rattle.dr_plain.specs.Inside.Fits.{taken_slots, ReceiverFits}
-use Rattle.dr_plain.specs.Inside.Hands.{with_hand}
+use Rattle.dr_lent.specs.Ends.{with_hand}
 use Rattle.dr_plain.specs.Inside.Polling.{receiver_saw, cursor_seen, LooksRound}
 use Rattle.dr_plain.specs.Inside.Seats.{Hand, lent_all, taken_by_poll}
 use Rattle.dr_plain.specs.Inside.Trades.{parts_between, blanks_between}

@@ -30,7 +30,7 @@ use Rattle.dr_plain.specs.Calls.Ends.{SenderStand, SenderEnd, sent_of}
 use Rattle.dr_plain.specs.Calls.Sending.{TriesToPublish}
 use Rattle.dr_plain.specs.Inside.Fits.{Keeps, SenderFields, SenderFits, TokensFit, no_lents, open_slots}
 use Rattle.dr_plain.specs.Inside.Lending.{lanes, lents_of, AreLent, SameBut}
-use Rattle.dr_plain.specs.Inside.Hands.{with_hand}
+use Rattle.dr_lent.specs.Ends.{with_hand}
 use Rattle.dr_plain.specs.Inside.Noted.{Noted, writes_from}
 use Rattle.dr_runs.specs.OneSender.Noted.{AreNoted, HasUnnoted, is_noted}
 use Rattle.dr_plain.specs.Inside.Seats.{Hand, lent_all, given_by_publication}

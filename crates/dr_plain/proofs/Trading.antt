@@ -4,23 +4,15 @@ use Rattle.std.proofs.Common.{refl, ap, ◌∙◌, arith}
 use Rattle.std.proofs.lemmas.List.{length-map, length-take, length-drop, length-replicate}
 use mathlib.Core.Option.{some}
 use lib.ListN.{get_elem?}
-use Rattle.dr_cells.specs.declared.token.Token.{Token}
 use Rattle.dr_lent.proofs.Lists.{at_slice}
-use Rattle.dr_lent.proofs.Trading.{Holder}
 use Rattle.dr_lent.specs.declared.lent.Lent.{Lent}
 use Rattle.dr_runs.proofs.Lists.{map_there}
 use Rattle.dr_runs.proofs.Rows.{length_stretch, stretch_at, replicate_at}
 use Rattle.dr_plain.specs.Meaning.Lying.{placed}
 use Rattle.dr_plain.specs.declared.record.ReceiverRecord.{ReceiverRecord}
-use Rattle.dr_plain.specs.Calls.Ends.{EndOf}
 use Rattle.dr_plain.specs.Inside.Fits.{no_lents}
-use Rattle.dr_plain.specs.Inside.Hands.{with_hand}
 use Rattle.dr_plain.specs.Inside.Seats.{lent_all}
 use Rattle.dr_plain.specs.Inside.Trades.{parts_between, blanks_between}
-
--- an end as what has a hand
-abbrev pub holds : {T K : Type 0} → Holder (EndOf T K) (Token T)
-holds = record { hand_of = λ e. e.hand; with_hand = λ e hand. with_hand e hand; reads = λ e hand. refl; again = λ e hand next. refl; own = λ e. refl }
 
 -- a receiver's slots for some sequences
 module _ {T : Type 0} (r : ReceiverRecord T) (first upto : ℕ) (le : upto ≤ length r.received) where

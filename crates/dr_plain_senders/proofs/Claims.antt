@@ -20,7 +20,8 @@ use Rattle.dr_meaning.specs.declared.claim_fault.ClaimFault.TheVariants.{Refused
 use Rattle.dr_plain_senders.specs.Meaning.Records.{sender_looked, claimed_from, SeesRoom, Owns}
 use Rattle.dr_runs.specs.Runs.{IsBeginning}
 use Rattle.dr_runs.proofs.Beginnings.{begins_on}
-use Rattle.dr_plain_senders.specs.Calls.Ends.{SenderStand, HasLoaded, HasStored, count_looks}
+use Rattle.dr_lent.specs.Ends.{HasLoaded, HasStored}
+use Rattle.dr_plain_senders.specs.Calls.Ends.{SenderStand, count_looks}
 use Rattle.dr_plain_senders.specs.Calls.Sending.{gate_looks, FoundRoom, ClaimCall, knows_after, IsCount}
 use Rattle.dr_plain_senders.specs.Calls.Finds.{after_exchange, exchanged, IsEarlier}
 use Rattle.dr_plain_senders.specs.Inside.Scans.{sender_saw, IsEnough, Scans, ClaimsApart, ClaimTakes}

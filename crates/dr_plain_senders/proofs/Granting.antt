@@ -30,7 +30,7 @@ use Rattle.dr_plain_senders.specs.Calls.Finds.{IsEarlier}
 use Rattle.dr_plain_senders.specs.Calls.Sending.{GainsCells, ClaimCall}
 use Rattle.dr_plain_senders.specs.Inside.Fits.{SenderFits, written_in, writes_of}
 use Rattle.dr_plain_senders.specs.Inside.Owned.{Owned, after_claim, is_open}
-use Rattle.dr_plain_senders.specs.Inside.Hands.{with_hand}
+use Rattle.dr_lent.specs.Ends.{with_hand}
 use Rattle.dr_plain_senders.specs.Inside.Rows.{blank_rows, AreCollected}
 use Rattle.dr_plain_senders.specs.Inside.Seats.{Hand, LayIn, LayAsLent, IsOfRound, taken_by_claim}
 use Rattle.dr_plain_senders.specs.Inside.Finishing.{value_of}

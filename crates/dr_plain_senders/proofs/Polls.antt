@@ -21,7 +21,8 @@ use Rattle.dr_plain_senders.specs.Meaning.Records.{taken_at_mark}
 use Rattle.dr_plain_senders.specs.Calls.Ends.{ReceiverStand}
 use Rattle.dr_plain_senders.specs.Calls.Finds.{FindsNext}
 use Rattle.dr_plain_senders.specs.Inside.Fits.{ReceiverFits}
-use Rattle.dr_plain_senders.specs.Inside.Hands.{with_hand, blank_slots}
+use Rattle.dr_lent.specs.Ends.{with_hand}
+use Rattle.dr_plain_senders.specs.Inside.Hands.{blank_slots}
 use Rattle.dr_plain_senders.specs.Inside.Seats.{Hand, lent_all, taken_by_poll}
 use Rattle.dr_plain_senders.specs.Inside.Trades.{parts_between, blanks_between}
 use Rattle.dr_plain_senders.proofs.Trading.{parts_count}

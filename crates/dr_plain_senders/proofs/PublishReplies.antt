@@ -23,7 +23,8 @@ use Rattle.dr_lent.specs.Rows.{cells_of}
 use Rattle.dr_plain_senders.specs.Meaning.Shape.{Shape}
 use Rattle.dr_plain_senders.specs.Meaning.Words.{claimed_in, cell_of, is_out_by}
 use Rattle.dr_plain_senders.specs.declared.record.SenderRecord.{SenderRecord}
-use Rattle.dr_plain_senders.specs.Calls.Ends.{SenderStand, SenderEnd, HasLoaded}
+use Rattle.dr_lent.specs.Ends.{HasLoaded}
+use Rattle.dr_plain_senders.specs.Calls.Ends.{SenderStand, SenderEnd}
 use Rattle.dr_plain_senders.specs.Calls.Writing.{Sight, Has, Found, Unasked, IsSight, Holds, marks_of, claims_of, sight_tests}
 use Rattle.dr_runs.specs.declared.look.Look.{Look}
 use Rattle.dr_plain_senders.specs.Calls.Publishing.{Reach, Inside, Outside, Looked, IsReach, reach_looks, reach_unclaimed, IsReady, PublishLooks}

@@ -7,7 +7,8 @@ use Rattle.dr_runs.specs.Looks.{look}
 use Rattle.dr_plain_senders.specs.Meaning.Words.{claim_word, is_out_by}
 use Rattle.dr_plain_senders.specs.Meaning.Records.{sender_looked, mark_found}
 use Rattle.dr_plain_senders.specs.declared.record.SenderRecord.{SenderRecord}
-use Rattle.dr_plain_senders.specs.Calls.Ends.{SenderStand, HasLoaded}
+use Rattle.dr_lent.specs.Ends.{HasLoaded}
+use Rattle.dr_plain_senders.specs.Calls.Ends.{SenderStand}
 use Rattle.dr_plain_senders.specs.Calls.Finds.{FindsOwn}
 use Rattle.dr_plain_senders.specs.Inside.Refusing.{refused_by, RefusesBy}
 use Rattle.dr_plain_senders.proofs.Fitting.{owns_same}

@@ -24,10 +24,10 @@ use Rattle.dr_lent.specs.Events.{events_of}
 use Rattle.dr_plain_senders.specs.declared.record.Stage.{Stage}
 use Rattle.dr_plain_senders.specs.declared.record.SenderRecord.{SenderRecord}
 use Rattle.dr_plain_senders.specs.declared.record.Step.TheVariants.{SenderPublishes}
-use Rattle.dr_plain_senders.specs.Calls.Ends.{SenderStand, HasStored}
+use Rattle.dr_lent.specs.Ends.{HasStored, with_hand}
+use Rattle.dr_plain_senders.specs.Calls.Ends.{SenderStand}
 use Rattle.dr_plain_senders.specs.Inside.Fits.{SenderFits, open_count, open_rows}
 use Rattle.dr_plain_senders.specs.Inside.Owned.{Owned, is_open, is_ready}
-use Rattle.dr_plain_senders.specs.Inside.Hands.{with_hand}
 use Rattle.dr_plain_senders.specs.Inside.Publishing.{ArePublic, HasPublishedRun, LendsCells, AreWhole, cleared}
 use Rattle.dr_plain_senders.specs.Inside.Rows.{blank_rows}
 use Rattle.dr_plain_senders.specs.Inside.Seats.{Hand, given_by_publication}

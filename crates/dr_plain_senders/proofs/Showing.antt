@@ -21,7 +21,7 @@ use Rattle.dr_plain_senders.specs.declared.record.SenderRecord.{SenderRecord}
 use Rattle.dr_plain_senders.specs.Calls.Ends.{SenderStand}
 use Rattle.dr_plain_senders.specs.Inside.Fits.{MarksFit, SenderFits, open_rows}
 use Rattle.dr_plain_senders.specs.Inside.Owned.{Owned, is_open}
-use Rattle.dr_plain_senders.specs.Inside.Hands.{with_hand}
+use Rattle.dr_lent.specs.Ends.{with_hand}
 use Rattle.dr_plain_senders.specs.Inside.Rows.{row, blank_row}
 use Rattle.dr_plain_senders.specs.Inside.Seats.{Hand}
 use Rattle.dr_plain_senders.proofs.Fitting.{no_lent}

@@ -13,9 +13,10 @@ use Rattle.dr_plain_senders.specs.Meaning.Words.{cell_of, lane_of}
 use Rattle.dr_plain_senders.specs.Meaning.Records.{completed_to}
 use Rattle.dr_plain_senders.specs.declared.record.ReceiverRecord.{ReceiverRecord}
 use Rattle.dr_plain_senders.specs.declared.record.Step.{Step}
-use Rattle.dr_plain_senders.specs.Calls.Ends.{ReceiverStand, HasStored}
+use Rattle.dr_lent.specs.Ends.{HasStored, with_hand}
+use Rattle.dr_plain_senders.specs.Calls.Ends.{ReceiverStand}
 use Rattle.dr_plain_senders.specs.Inside.Fits.{ReceiverFits}
-use Rattle.dr_plain_senders.specs.Inside.Hands.{nothings, with_hand, blank_slot}
+use Rattle.dr_plain_senders.specs.Inside.Hands.{nothings, blank_slot}
 use Rattle.dr_plain_senders.specs.Inside.Seats.{Hand, given_by_completion}
 use Rattle.dr_plain_senders.specs.Inside.Trades.{parts_between, blanks_between}
 use Rattle.dr_runs.proofs.Elements.{at_below}

@@ -1,7 +1,7 @@
 //! What a claim is made of.
 
 ghost use Rattle.std.specs.Prelude.{◌≡◌, ◌+◌, ◌^◌, ◌≤◌, IfOk};
-ghost use Rattle.dr_plain_senders.specs.Calls.Ends.{HasLoaded};
+ghost use Rattle.dr_lent.specs.Ends.{HasLoaded};
 ghost use Rattle.dr_plain_senders.specs.Calls.Sending.{ClaimCall, IsCount};
 ghost use Rattle.dr_plain_senders.specs.Inside.Scans.{Scans, ClaimsApart, ClaimTakes};
 

@@ -8,7 +8,7 @@ ghost use Rattle.dr_lent.specs.declared.lent.Lent.{Lent};
 ghost use Rattle.dr_plain_senders.specs.Meaning.Shape.{handlers_of};
 ghost use Rattle.dr_plain_senders.specs.Meaning.Words.{cell_of, lanes_of, slot_of};
 ghost use Rattle.dr_plain_senders.specs.Meaning.Lying.{Laid, lent, kept_of};
-ghost use Rattle.dr_plain_senders.specs.Inside.Hands.{with_hand};
+ghost use Rattle.dr_lent.specs.Ends.{with_hand};
 ghost use Rattle.dr_plain_senders.specs.Inside.Rows.{row, blank_row, parts_row, blank_parts, blank_rows, IsWholeOf, AreCollected, first_in, HaveThoseOf};
 ghost use Rattle.dr_plain_senders.specs.Inside.Publishing.{cleared, LendsCells, AreWhole};
 ghost use Rattle.dr_plain_senders.specs.Inside.Seats.{Hand, IsOfRound, LayIn, taken_by_claim, given_by_publication};

@@ -3,7 +3,7 @@
 ghost use Rattle.std.specs.Prelude.{◌≡◌, ◌<◌, ◌≤◌, [], ◌∷◌, length, Contains};
 ghost use Rattle.dr_plain_senders.specs.Meaning.Words.{count_word as count_word_of};
 ghost use Rattle.dr_runs.specs.Looks.{look};
-ghost use Rattle.dr_plain_senders.specs.Calls.Ends.{HasLoaded};
+ghost use Rattle.dr_lent.specs.Ends.{HasLoaded};
 ghost use Rattle.dr_plain_senders.specs.Calls.Finds.{FindsEvents};
 ghost use Rattle.dr_plain_senders.specs.Calls.Receiving.{ups_of};
 ghost use Rattle.dr_plain_senders.specs.Inside.Polling.{receiver_saw, LooksAtFirst, LooksPast};

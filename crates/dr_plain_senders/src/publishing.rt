@@ -8,7 +8,7 @@ ghost use Rattle.dr_plain_senders.specs.declared.record.Step.TheVariants.{Sender
 ghost use Rattle.dr_plain_senders.specs.Meaning.Words.{in_word};
 ghost use Rattle.dr_plain_senders.specs.Meaning.Records.{Owns, has_published};
 ghost use Rattle.dr_lent.specs.Events.{events_of};
-ghost use Rattle.dr_plain_senders.specs.Calls.Ends.{HasStored};
+ghost use Rattle.dr_lent.specs.Ends.{HasStored};
 ghost use Rattle.dr_plain_senders.specs.Calls.Publishing.{PublishCall};
 ghost use Rattle.dr_plain_senders.specs.Inside.Fits.{SenderFits};
 ghost use Rattle.dr_plain_senders.specs.Inside.Owned.{is_ready};

@@ -5,13 +5,9 @@ use Rattle.dr_runs.specs.Stretches.{stretch}
 use Rattle.dr_lent.specs.declared.lent.Lent.{Lent}
 use Rattle.dr_plain.specs.Meaning.Shape.{Shape, handlers_of}
 use Rattle.dr_plain.specs.Meaning.Lying.{placed}
-use Rattle.dr_plain.specs.Calls.Ends.{EndOf}
 use Rattle.dr_plain.specs.Inside.Seats.{Hand}
 
 module _ {T : Type 0} where
-  abbrev pub with_hand : {K : Type 0} → EndOf T K → Hand T → EndOf T K
-  with_hand e hand = record e { hand = hand }
-
   -- every handler's slot for a sequence, with its part of this
   abbrev pub row : Shape → ℕ → Option (Lent T) → Hand T
   row k s l = stretch (λ h b. placed k h s b) 0 (replicate (handlers_of k) l)

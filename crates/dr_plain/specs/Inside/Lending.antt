@@ -16,7 +16,8 @@ use Rattle.dr_plain.specs.Meaning.Records.{laid, published_more}
 use Rattle.dr_lent.specs.Events.{events_of}
 use Rattle.dr_plain.specs.declared.record.SenderRecord.{SenderRecord}
 use Rattle.dr_plain.specs.declared.record.Step.TheVariants.{SenderPublishes}
-use Rattle.dr_plain.specs.Calls.Ends.{SenderStand, HasStored}
+use Rattle.dr_lent.specs.Ends.{HasStored}
+use Rattle.dr_plain.specs.Calls.Ends.{SenderStand}
 use Rattle.dr_plain.specs.Inside.Fits.{Keeps}
 use Rattle.dr_plain.specs.Inside.Seats.{Hand, given_by_publication}
 

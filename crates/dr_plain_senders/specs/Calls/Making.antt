@@ -9,10 +9,11 @@ use Rattle.dr_plain_senders.specs.Meaning.Shape.{Shape, handlers_of}
 use Rattle.dr_plain_senders.specs.declared.record.SenderRecord.{SenderRecord}
 use Rattle.dr_plain_senders.specs.declared.record.ReceiverRecord.{ReceiverRecord}
 use Rattle.dr_plain_senders.specs.Meaning.Moments.{fresh_senders, fresh_receivers, fresh_halter}
-use Rattle.dr_plain_senders.specs.Calls.Ends.{EndOf, SenderEnd, ReceiverEnd, HalterEnd}
+use Rattle.dr_lent.specs.Ends.{EndOf}
+use Rattle.dr_plain_senders.specs.Calls.Ends.{SenderEnd, ReceiverEnd, HalterEnd}
 
 -- an end of a new ring, which has stored nothing
-abbrev pub at_ring : {T K : Type 0} → TableId → K → EndOf T K
+abbrev pub at_ring : {T S K : Type 0} → TableId → K → EndOf T S K
 at_ring ring knows = record { ring = ring; knows = knows; hand = []; past = []; stored = [] }
 
 module _ {T : Type 0} where

@@ -15,7 +15,8 @@ use Rattle.dr_lent.specs.Events.{events_of}
 use Rattle.dr_plain_senders.specs.declared.record.SenderRecord.{SenderRecord}
 use Rattle.dr_plain_senders.specs.declared.record.Step.{Step}
 use Rattle.dr_plain_senders.specs.declared.record.Step.TheVariants.{SenderPublishes}
-use Rattle.dr_plain_senders.specs.Calls.Ends.{SenderStand, HasLoaded}
+use Rattle.dr_lent.specs.Ends.{HasLoaded}
+use Rattle.dr_plain_senders.specs.Calls.Ends.{SenderStand}
 use Rattle.dr_plain_senders.specs.Calls.Publishing.{is_between, LosesCells, ArePublished}
 use Rattle.dr_plain_senders.specs.Inside.Rows.{IsWholeOf}
 use Rattle.dr_plain_senders.specs.Inside.Fits.{written_in}

@@ -6,7 +6,8 @@ use Rattle.dr_runs.specs.Looks.{look}
 use Rattle.dr_plain_senders.specs.Meaning.Words.{claim_word, is_out_by}
 use Rattle.dr_plain_senders.specs.Meaning.Records.{mark_look}
 use Rattle.dr_plain_senders.specs.declared.record.SenderRecord.{SenderRecord}
-use Rattle.dr_plain_senders.specs.Calls.Ends.{SenderStand, HasLoaded}
+use Rattle.dr_lent.specs.Ends.{HasLoaded}
+use Rattle.dr_plain_senders.specs.Calls.Ends.{SenderStand}
 use Rattle.dr_plain_senders.specs.Calls.Finds.{FindsOwn}
 
 -- what a sender knows after these looks

@@ -9,7 +9,7 @@ ghost use Rattle.dr_plain_senders.specs.Meaning.Shape.{handlers_of};
 ghost use Rattle.dr_plain_senders.specs.Meaning.Words.{claim_word, claimed_in as claimed_in_word, count_word as count_word_of, mark_start};
 ghost use Rattle.dr_plain_senders.specs.Meaning.Records.{halter_halted, halter_looked};
 ghost use Rattle.dr_plain_senders.specs.declared.record.Step.TheVariants.{HalterHalts};
-ghost use Rattle.dr_plain_senders.specs.Calls.Ends.{HasLoaded, HasStored};
+ghost use Rattle.dr_lent.specs.Ends.{HasLoaded, HasStored};
 ghost use Rattle.dr_plain_senders.specs.Inside.Leaving.{BelongsHalter};
 ghost use Rattle.dr_plain_senders.specs.Inside.Stations.{halter_end, HalterSits};
 

@@ -9,7 +9,7 @@ ghost use Rattle.dr_plain_senders.specs.declared.record.Step.TheVariants.{Receiv
 ghost use Rattle.dr_plain_senders.specs.Meaning.Words.{count_word as count_word_of};
 ghost use Rattle.dr_plain_senders.specs.Meaning.Records.{claims_looked, taken_at_mark, mark_looked, taken_at_count, receiver_looked, completed_to};
 ghost use Rattle.dr_plain_senders.specs.Calls.Finds.{FindsClaims, FindsNext, FindsEvents};
-ghost use Rattle.dr_plain_senders.specs.Calls.Ends.{HasLoaded, HasStored};
+ghost use Rattle.dr_lent.specs.Ends.{HasLoaded, HasStored};
 ghost use Rattle.dr_plain_senders.specs.Inside.Seats.{taken_by_poll, given_by_completion};
 
 use super::RingSeat;

@@ -13,7 +13,7 @@ ghost use Rattle.dr_plain_senders.specs.Meaning.Lying.{Laid};
 ghost use Rattle.dr_plain_senders.specs.declared.record.Step.TheVariants.{SenderClaims, SenderPublishes, SenderHalts};
 ghost use Rattle.dr_plain_senders.specs.Calls.Finds.{FindsOwn, IsEarlier, exchanged, after_exchange};
 ghost use Rattle.dr_runs.specs.Looks.{FindsMore};
-ghost use Rattle.dr_plain_senders.specs.Calls.Ends.{HasLoaded, HasStored};
+ghost use Rattle.dr_lent.specs.Ends.{HasLoaded, HasStored};
 ghost use Rattle.dr_plain_senders.specs.Inside.Seats.{LayIn, LayAsLent, taken_by_claim, given_by_publication};
 
 use super::RingSeat;

@@ -4,7 +4,7 @@ use Rattle.dr_seq.proofs.Sizes.{size_positive, size_at_most}
 use Rattle.dr_plain_senders.specs.Meaning.Shape.{Shape}
 use Rattle.dr_plain_senders.specs.Calls.Ends.{SenderStand}
 use Rattle.dr_plain_senders.specs.Inside.Fits.{SenderFits}
-use Rattle.dr_plain_senders.specs.Inside.Hands.{with_hand}
+use Rattle.dr_lent.specs.Ends.{with_hand}
 use Rattle.dr_plain_senders.specs.Inside.Publishing.{HasPublishedRun, LendsCells, AreWhole, cleared}
 use Rattle.dr_plain_senders.specs.Inside.Seats.{given_by_publication}
 use Rattle.dr_plain_senders.proofs.Bits.{few_in_word}

@@ -3,7 +3,8 @@ use Rattle.std.proofs.lemmas.List.{length-append}
 use Rattle.dr_lent.specs.declared.lent.Lent.{Lent}
 use Rattle.dr_plain.specs.Meaning.Shape.{Shape, handlers_of}
 use Rattle.dr_plain.specs.Inside.Fits.{Keeps}
-use Rattle.dr_plain.specs.Inside.Hands.{row, with_hand, lent_by}
+use Rattle.dr_lent.specs.Ends.{with_hand}
+use Rattle.dr_plain.specs.Inside.Hands.{row, lent_by}
 use Rattle.dr_plain.specs.Inside.Seats.{Hand}
 use Rattle.dr_plain.proofs.Collecting.{keeps_by, laid_first, laid_later}
 use Rattle.dr_plain.proofs.Rowing.{row_count, taken}

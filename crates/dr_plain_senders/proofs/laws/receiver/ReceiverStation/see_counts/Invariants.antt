@@ -1,5 +1,5 @@
 use Rattle.std.proofs.Common.{◌≡◌}
-use Rattle.dr_plain_senders.specs.Calls.Ends.{HasLoaded}
+use Rattle.dr_lent.specs.Ends.{HasLoaded}
 use Rattle.dr_plain_senders.specs.Calls.Receiving.{ups_of}
 use Rattle.dr_plain_senders.specs.Inside.Polling.{LooksAtFirst}
 use Rattle.dr_plain_senders.proofs.laws.receiver.ReceiverStation.see_counts.Given as goal

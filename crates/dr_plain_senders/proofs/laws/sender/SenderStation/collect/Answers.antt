@@ -2,7 +2,7 @@ use Rattle.std.proofs.Common.{◌≡◌, ◌++◌, ◌-◌, ℕ, arith, ap, sym,
 use Rattle.dr_plain_senders.specs.Meaning.Shape.{Shape}
 use Rattle.dr_plain_senders.specs.Meaning.Words.{cell_of, lanes_of}
 use Rattle.dr_plain_senders.specs.Calls.Ends.{SenderStand}
-use Rattle.dr_plain_senders.specs.Inside.Hands.{with_hand}
+use Rattle.dr_lent.specs.Ends.{with_hand}
 use Rattle.dr_plain_senders.specs.Inside.Rows.{row, blank_row, IsWholeOf, AreCollected}
 use Rattle.dr_plain_senders.specs.Inside.Seats.{IsOfRound}
 use Rattle.dr_plain_senders.proofs.Collecting.{collecting_none, row_next, collecting_next, collecting_all, collected_none, collected_more, row_event}

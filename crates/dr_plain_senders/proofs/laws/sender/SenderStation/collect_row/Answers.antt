@@ -6,7 +6,7 @@ use Rattle.dr_cells.specs.Tokens.{no_token}
 use Rattle.dr_plain_senders.specs.Meaning.Shape.{Shape, handlers_of}
 use Rattle.dr_plain_senders.specs.Meaning.Lying.{Laid, kept_of}
 use Rattle.dr_plain_senders.specs.Calls.Ends.{SenderStand}
-use Rattle.dr_plain_senders.specs.Inside.Hands.{with_hand}
+use Rattle.dr_lent.specs.Ends.{with_hand}
 use Rattle.dr_plain_senders.specs.Inside.Rows.{parts_row, blank_parts, first_in}
 use Rattle.dr_plain_senders.specs.Inside.Seats.{Hand}
 use Rattle.dr_plain_senders.proofs.Rowing.{first_slot, first_kept, parts_first, room_left, turned_parts, row_taken, unlent_of, lent_of}

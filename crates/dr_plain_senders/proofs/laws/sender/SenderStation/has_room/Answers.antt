@@ -2,7 +2,7 @@ use Rattle.std.proofs.Common.{rules, ℕ, List, arith, ◌∙◌, sym, ap, lengt
 use Rattle.dr_graph.specs.Meaning.Graph.{finals}
 use Rattle.dr_plain_senders.specs.Meaning.Shape.{Shape}
 use Rattle.dr_plain_senders.specs.declared.record.SenderRecord.{SenderRecord}
-use Rattle.dr_plain_senders.proofs.Stations.{loaded_more}
+use Rattle.dr_lent.proofs.Stations.{loaded_more}
 use Rattle.dr_plain_senders.proofs.Scanning.{scanned_more, scanned_low, scanned_all}
 use Rattle.dr_plain_senders.proofs.laws.sender.SenderStation.has_room.Goals as goal
 

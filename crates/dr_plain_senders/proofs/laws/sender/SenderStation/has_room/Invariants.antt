@@ -1,5 +1,5 @@
 use Rattle.dr_graph.specs.Meaning.Graph.{finals}
-use Rattle.dr_plain_senders.specs.Calls.Ends.{HasLoaded}
+use Rattle.dr_lent.specs.Ends.{HasLoaded}
 use Rattle.dr_plain_senders.proofs.Scanning.{Scanned}
 use Rattle.dr_plain_senders.proofs.laws.sender.SenderStation.has_room.Given as goal
 

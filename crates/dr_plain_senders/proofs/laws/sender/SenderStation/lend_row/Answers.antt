@@ -3,7 +3,8 @@ use Rattle.dr_plain_senders.specs.Meaning.Shape.{Shape, handlers_of}
 use Rattle.dr_plain_senders.specs.Meaning.Words.{slot_of}
 use Rattle.dr_plain_senders.specs.Meaning.Lying.{lent, kept_of}
 use Rattle.dr_plain_senders.specs.Calls.Ends.{SenderStand}
-use Rattle.dr_plain_senders.specs.Inside.Hands.{with_hand, blank_slot}
+use Rattle.dr_lent.specs.Ends.{with_hand}
+use Rattle.dr_plain_senders.specs.Inside.Hands.{blank_slot}
 use Rattle.dr_plain_senders.specs.Inside.Rows.{parts_row, blank_parts}
 use Rattle.dr_plain_senders.specs.Inside.Seats.{Hand}
 use Rattle.dr_plain_senders.proofs.Rowing.{turned_first, may_turn, front_slot, row_lent}

@@ -3,7 +3,7 @@ use Rattle.dr_plain_senders.specs.Meaning.Shape.{Shape}
 use Rattle.dr_plain_senders.specs.Meaning.Words.{cell_of, lanes_of}
 use Rattle.dr_plain_senders.specs.Meaning.Lying.{lent}
 use Rattle.dr_plain_senders.specs.Calls.Ends.{SenderStand}
-use Rattle.dr_plain_senders.specs.Inside.Hands.{with_hand}
+use Rattle.dr_lent.specs.Ends.{with_hand}
 use Rattle.dr_plain_senders.specs.Inside.Rows.{row, blank_row, blank_rows, IsWholeOf}
 use Rattle.dr_plain_senders.specs.Inside.Seats.{Hand, given_by_publication}
 use Rattle.dr_plain_senders.proofs.RowsLent.{cleared_count, others_count, lending_none, row_next, rest_count, lending_more, next_whole, lent_room}

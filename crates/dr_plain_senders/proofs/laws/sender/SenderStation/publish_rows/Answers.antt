@@ -4,7 +4,7 @@ use Rattle.dr_plain_senders.specs.declared.record.Step.TheVariants.{SenderPublis
 use Rattle.dr_plain_senders.specs.Meaning.Words.{lanes_of}
 use Rattle.dr_plain_senders.specs.Meaning.Records.{has_published}
 use Rattle.dr_lent.specs.Events.{events_of}
-use Rattle.dr_plain_senders.specs.Calls.Ends.{HasStored}
+use Rattle.dr_lent.specs.Ends.{HasStored}
 use Rattle.dr_plain_senders.specs.Inside.Seats.{Hand, given_by_publication}
 use Rattle.dr_plain_senders.proofs.LentRows.{lents_in, found_are, given_first, given_rest}
 use Rattle.dr_plain_senders.proofs.laws.sender.SenderStation.publish_rows.Goals as goal

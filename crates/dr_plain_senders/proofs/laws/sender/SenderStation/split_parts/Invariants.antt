@@ -4,7 +4,7 @@ use Rattle.dr_lent.proofs.Trading.{traded}
 use Rattle.dr_lent.specs.declared.lent.Lent.{Lent}
 use Rattle.dr_plain_senders.specs.Meaning.Shape.{handlers_of}
 use Rattle.dr_plain_senders.specs.Meaning.Lying.{lent}
-use Rattle.dr_plain_senders.specs.Inside.Hands.{with_hand}
+use Rattle.dr_lent.specs.Ends.{with_hand}
 use Rattle.dr_plain_senders.specs.Inside.Rows.{parts_row, blank_parts}
 use Rattle.dr_plain_senders.proofs.Tokens.{out}
 use Rattle.dr_plain_senders.proofs.laws.sender.SenderStation.split_parts.Given as goal
