@@ -24,7 +24,7 @@ use Rattle.dr_plain.specs.declared.record.HalterRecord.{HalterRecord}
 use Rattle.dr_plain.specs.declared.record.Step.{Step}
 use Rattle.dr_plain.specs.declared.record.Step.TheVariants.{SenderLooksAtCount, SenderLooksAtHalt, SenderPublishes, SenderHalts, SenderCloses}
 use Rattle.dr_plain.specs.declared.record.Step.TheVariants.{ReceiverLooksAtClosed, ReceiverLooksAtCursor, ReceiverLooksAtCount, ReceiverCompletes, HalterHalts, HalterLooks}
-use Rattle.dr_plain.specs.Meaning.Records.{claimed, laid, sender_looked, halt_looked, published_more, sender_halted, sender_closed}
+use Rattle.dr_plain.specs.Meaning.Records.{claimed, laid, sender_looked, halt_looked, published_more, sender_halted, sender_closed, Laid}
 use Rattle.dr_lent.specs.Events.{events_of}
 use Rattle.dr_plain.specs.Meaning.Records.{closed_looked, receiver_looked, taken_at, cursor_looked, completed_to, halter_halted, halter_looked, SeesRoom}
 use Rattle.dr_plain.specs.Meaning.Rule.{World, KeepsRule}
@@ -158,7 +158,7 @@ module _ {T : Type 0} where
         hand_after = rest;
         moves = subst (λ (q : SenderRecord T). length lents ≤ q.pending → laid u.sender ≡ laid q ++ lent_all lents → claimed u.sender ≡ claimed q → MovesTo k u (given_by_publication q lents ++ rest) homes rest) e
             (λ within same_laid same_claims. publication_moves k w.sender.plan w u lents rest homes K.sender_plan within K lies refl same_laid same_claims)
-            within (ap (λ (xs : List (Option (Lent T))). replicate r.plan.size None ++ xs) (map-append (λ (l : Lent T). Some l) r.published lents) ∙ sym (append_assoc (replicate r.plan.size None) (lent_all r.published) (lent_all lents))) (let a = length-append r.published lents in omega arith);
+            within (ap (λ (xs : List (Laid T)). replicate r.plan.size None ++ xs) (map-append (λ (l : Lent T). Some l) r.published lents) ∙ sym (append_assoc (replicate r.plan.size None) (lent_all r.published) (lent_all lents))) (let a = length-append r.published lents in omega arith);
         tells = ap (λ (c : Hand T). as_sender (published_more r lents) c) (sym (drop-append_seam given rest));
       })))
 

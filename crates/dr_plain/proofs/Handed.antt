@@ -1,6 +1,6 @@
 -- What is lent when all ends are together, and where its parts are.
 use Rattle.std.proofs.Common.{◌≡◌, ℕ, zero, suc, ◌+◌, ◌-◌, ◌%◌, ◌<◌, ◌≤◌, inl, inr, List, [], ◌∷◌, ◌++◌, map, length, set, drop, replicate}
-use Rattle.std.proofs.Common.{Option, None, Some, sym, refl, ap, ◌∙◌, subst, arith, length-set}
+use Rattle.std.proofs.Common.{None, Some, sym, refl, ap, ◌∙◌, subst, arith, length-set}
 use Rattle.std.proofs.Math.Nat.{mod-lt, mod-eq_of_lt, add-mod_left}
 use Rattle.std.proofs.lemmas.Bool.{cases_eq, cases_lt}
 use Rattle.std.proofs.lemmas.List.{length-map, length-replicate}
@@ -19,7 +19,7 @@ use Rattle.dr_lent.proofs.InHand.{held_of}
 use Rattle.dr_plain.specs.Meaning.Shape.{Shape, handlers_of}
 use Rattle.dr_plain.specs.Meaning.Words.{cell_of}
 use Rattle.dr_plain.specs.Meaning.Lying.{part_of}
-use Rattle.dr_plain.specs.Meaning.Records.{claimed, laid}
+use Rattle.dr_plain.specs.Meaning.Records.{claimed, laid, Laid}
 use Rattle.dr_plain.specs.Meaning.Rule.{World}
 use Rattle.dr_plain.specs.declared.record.SenderRecord.{SenderRecord}
 use Rattle.dr_plain.specs.declared.record.ReceiverRecord.{ReceiverRecord}
@@ -45,9 +45,9 @@ window n (suc c) i lt = let w = window n c i lt in let low = w.1 in let high = w
 
 module _ {T : Type 0} where
   lent_later : (r : SenderRecord T) (s : ℕ) (l : Lent T) → get_elem? r.published s ≡ some l
-      → (let o : Option (Lent T) = Some l in get_elem? (laid r) (r.plan.size + s) ≡ some o)
+      → (let o : Laid T = Some l in get_elem? (laid r) (r.plan.size + s) ≡ some o)
   lent_later r s l at =
-      let nothing : Option (Lent T) = None in let count : length (replicate r.plan.size nothing) ≡ r.plan.size = length-replicate r.plan.size nothing in
+      let nothing : Laid T = None in let count : length (replicate r.plan.size nothing) ≡ r.plan.size = length-replicate r.plan.size nothing in
       ap (λ (n : ℕ). get_elem? (laid r) (n + s)) (sym count)
       ∙ at_behind (replicate r.plan.size nothing) (map (λ (m : Lent T). Some m) r.published) s (Some l) (map_there (λ (m : Lent T). Some m) r.published s l at)
 
@@ -73,7 +73,7 @@ module _ {T : Type 0} where
           | inl laid_there ↦ (
               let l = there (laid r) q (omega arith) in
               elim (cases_lt q size) [
-                | inl first ↦ of q cell (subst (λ (o : Option (Lent T)). Keeps k q o t) (laid_first r q l.0 first l.1) (F.others q l.0 t low l.1 here))
+                | inl first ↦ of q cell (subst (λ (o : Laid T). Keeps k q o t) (laid_first r q l.0 first l.1) (F.others q l.0 t low l.1 here))
                 | inr past ↦ (let e : size + (q - size) ≡ q = omega arith in
                     absurd (none (q - size) (omega arith) (omega arith) (sym (cell_later k.size (q - size)) ∙ ap (λ (n : ℕ). cell_of k n) e ∙ cell)))
               ])

@@ -1,5 +1,5 @@
 -- The slots of a receiver that are first in hand, with its parts in them and with nothing.
-use Rattle.std.proofs.Common.{◌≡◌, ℕ, ◌+◌, ◌-◌, ◌<◌, ◌≤◌, length, take, drop, Option, Some, None}
+use Rattle.std.proofs.Common.{◌≡◌, ℕ, ◌+◌, ◌-◌, ◌<◌, ◌≤◌, length, take, drop, Some, None}
 use Rattle.std.proofs.Common.{refl, ap, ◌∙◌, arith}
 use Rattle.std.proofs.lemmas.List.{length-map, length-take, length-drop, length-replicate}
 use mathlib.Core.Option.{some}
@@ -9,6 +9,7 @@ use Rattle.dr_lent.specs.declared.lent.Lent.{Lent}
 use Rattle.dr_runs.proofs.Lists.{map_there}
 use Rattle.dr_runs.proofs.Rows.{length_stretch, stretch_at, replicate_at}
 use Rattle.dr_plain.specs.Meaning.Lying.{placed}
+use Rattle.dr_plain.specs.Meaning.Records.{Laid}
 use Rattle.dr_plain.specs.declared.record.ReceiverRecord.{ReceiverRecord}
 use Rattle.dr_plain.specs.Inside.Fits.{no_lents}
 use Rattle.dr_plain.specs.Inside.Seats.{lent_all}
@@ -22,7 +23,7 @@ module _ {T : Type 0} (r : ReceiverRecord T) (first upto : ℕ) (le : upto ≤ l
       ∙ omega (arith, length-map few (λ (l : Lent T). Some l), length-take (upto - first) (drop first r.received), length-drop first r.received)
 
   pub blanks_count : length (blanks_between r first upto) ≡ upto - first
-  blanks_count = let nothing : Option (Lent T) = None in
+  blanks_count = let nothing : Laid T = None in
       length_stretch (placed r.plan r.number) first (no_lents (upto - first)) ∙ length-replicate (upto - first) nothing
 
   pub part_at : (s : ℕ) (l : Lent T) → first ≤ s → s < upto → get_elem? r.received s ≡ some l
@@ -33,6 +34,6 @@ module _ {T : Type 0} (r : ReceiverRecord T) (first upto : ℕ) (le : upto ≤ l
       ∙ ap (λ (m : ℕ). some (placed r.plan r.number m (Some l))) e
 
   pub blank_at : (s : ℕ) → first ≤ s → s < upto → get_elem? (blanks_between r first upto) (s - first) ≡ some (placed r.plan r.number s None)
-  blank_at s low lt = let e : first + (s - first) ≡ s = omega arith in let nothing : Option (Lent T) = None in
+  blank_at s low lt = let e : first + (s - first) ≡ s = omega arith in let nothing : Laid T = None in
       stretch_at (placed r.plan r.number) first (no_lents (upto - first)) (s - first) nothing (replicate_at (upto - first) (s - first) nothing (omega arith))
       ∙ ap (λ (m : ℕ). some (placed r.plan r.number m nothing)) e

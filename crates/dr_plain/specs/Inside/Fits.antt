@@ -1,5 +1,5 @@
 -- What the fields of an end have to do with what it knows.
-use Rattle.std.specs.Prelude.{◌≡◌, ℕ, ◌+◌, ◌-◌, ◌<◌, ◌≤◌, List, length, replicate, Option, Some, None, Contains}
+use Rattle.std.specs.Prelude.{◌≡◌, ℕ, ◌+◌, ◌-◌, ◌<◌, ◌≤◌, List, length, replicate, Some, None, Contains}
 use mathlib.Core.Option.{some}
 use lib.ListN.{get_elem?}
 use denote.RawPtr.{Ptr}
@@ -14,7 +14,7 @@ use Rattle.dr_plain.specs.Meaning.Shape.{Shape, handlers_of}
 use Rattle.dr_plain.specs.Meaning.Words.{cell_of}
 use Rattle.dr_runs.specs.OneSender.Words.{count_word}
 use Rattle.dr_plain.specs.Meaning.Lying.{part_of, placed}
-use Rattle.dr_plain.specs.Meaning.Records.{claimed, laid}
+use Rattle.dr_plain.specs.Meaning.Records.{claimed, laid, Laid}
 use Rattle.dr_runs.specs.Looks.{last_look}
 use Rattle.dr_plain.specs.Calls.Plans.{IsPlan}
 use Rattle.dr_plain.specs.Calls.Ends.{SenderStand, ReceiverStand}
@@ -43,7 +43,7 @@ module _ {T : Type 0} where
   IsSeenLeast r least = (f : ℕ) → Contains (finals r.plan.upstreams) f → least ≤ last_look 0 r.looks (count_word f)
 
   -- what the sender keeps of the cell of a sequence: all of it where nothing is lent there, and else what all handlers have no part of
-  abbrev pub Keeps : Shape → ℕ → Option (Lent T) → Token T → Type 0
+  abbrev pub Keeps : Shape → ℕ → Laid T → Token T → Type 0
   Keeps k s None t = (x : T) × (t ≡ token_at k.strip (cell_of k s) (whole x))
   Keeps k s (Some l) t = t ≡ token_at k.strip (cell_of k s) (kept l.round (handlers_of k) l.event)
 
@@ -51,10 +51,10 @@ module _ {T : Type 0} where
   pub record TokensFit (r : SenderRecord T) (tokens : List (Token T)) : Type 0 where
     pub count : length tokens ≡ r.plan.size
     pub opened : (s : ℕ) (t : Token T) → length r.published ≤ s → s < claimed r → get_elem? tokens (cell_of r.plan s) ≡ some t → Keeps r.plan s None t
-    pub others : (s : ℕ) (l : Option (Lent T)) (t : Token T) → claimed r ≤ s → get_elem? (laid r) s ≡ some l → get_elem? tokens (cell_of r.plan s) ≡ some t
+    pub others : (s : ℕ) (l : Laid T) (t : Token T) → claimed r ≤ s → get_elem? (laid r) s ≡ some l → get_elem? tokens (cell_of r.plan s) ≡ some t
         → Keeps r.plan s l t
 
-  abbrev pub no_lents : ℕ → List (Option (Lent T))
+  abbrev pub no_lents : ℕ → List (Laid T)
   no_lents n = replicate n None
 
   -- it has the slots of the open sequences in hand, with nothing in them

@@ -1,12 +1,12 @@
-use Rattle.std.proofs.Common.{◌++◌, Option, None, Some, arith, ap, sym, ◌∙◌}
+use Rattle.std.proofs.Common.{◌++◌, None, Some, arith, ap, sym, ◌∙◌}
 use Rattle.dr_cells.specs.Hold.{held}
 use Rattle.dr_cells.specs.declared.token.Token.{Token}
 use Rattle.dr_lent.proofs.Trading.{trade_begins, trade_first, trade_slot, trade_next, trade_ends, was_there}
-use Rattle.dr_lent.specs.declared.lent.Lent.{Lent}
 use Rattle.dr_lent.proofs.Tokens.{held_by, out_is, can_join, joined_is, is_back, regained_is}
 use Rattle.dr_plain.specs.Meaning.Shape.{handlers_of}
 use Rattle.dr_plain.specs.Meaning.Words.{slot_of, cell_of}
 use Rattle.dr_plain.specs.Meaning.Lying.{placed}
+use Rattle.dr_plain.specs.Meaning.Records.{Laid}
 use Rattle.dr_plain.specs.Calls.Ends.{SenderStand}
 use Rattle.dr_plain.specs.Inside.Hands.{row}
 use Rattle.dr_plain.proofs.Tokens.{lending_by}
@@ -19,7 +19,7 @@ loop-handler-init g c =
       m,
       is,
       trade_begins c.args.self.now 0 (handlers_of k) (row k s (Some m)) (row k s None) c.requires.hand.0
-          (c.requires.hand.1 ∙ ap (λ (l : Option (Lent g.row.T.Denot)). row k s l ++ c.requires.hand.0) (lending_by k s _ _ m is)) (row_count k s (Some m)),
+          (c.requires.hand.1 ∙ ap (λ (l : Laid g.row.T.Denot). row k s l ++ c.requires.hand.0) (lending_by k s _ _ m is)) (row_count k s (Some m)),
       out_is k.strip (cell_of k s) _ _ _ m is (omega arith),
     )
 

@@ -1,4 +1,4 @@
-use Rattle.std.proofs.Common.{◌++◌, drop, Option, None, Some, arith, ap, sym, ◌∙◌}
+use Rattle.std.proofs.Common.{◌++◌, drop, None, Some, arith, ap, sym, ◌∙◌}
 use Rattle.dr_cells.specs.Hold.{held}
 use Rattle.dr_cells.specs.declared.token.Token.{Token}
 use Rattle.dr_lent.proofs.Trading.{trade_begins, trade_slot, trade_next, trade_ends}
@@ -7,6 +7,7 @@ use Rattle.dr_lent.proofs.Tokens.{held_by, out_is, is_whole, lent_is, can_split,
 use Rattle.dr_plain.specs.Meaning.Shape.{handlers_of}
 use Rattle.dr_plain.specs.Meaning.Words.{slot_of, cell_of}
 use Rattle.dr_plain.specs.Meaning.Lying.{placed}
+use Rattle.dr_plain.specs.Meaning.Records.{Laid}
 use Rattle.dr_plain.specs.Calls.Ends.{SenderStand}
 use Rattle.dr_lent.specs.Ends.{with_hand}
 use Rattle.dr_plain.specs.Inside.Hands.{row}
@@ -58,7 +59,7 @@ returns-clause-hand g c =
     let inv = c.loop-handler.invariant in let k = c.args.self.now.knows.plan in let s = c.args.sequence in let over = c.loop-handler-test.false in
     trade_ends c.args.self.now 0 (handlers_of k) (row k s None) (row k s (Some inv.0)) c.loop-handler.handler _ (omega arith) inv.2
     (row_count k s None) (row_count k s (Some inv.0))
-    ∙ ap (λ (l : Option (Lent g.row.T.Denot)). let hand : Hand g.row.T.Denot = c.args.self.now.hand in with_hand c.args.self.now (drop (handlers_of k) hand ++ row k s l))
+    ∙ ap (λ (l : Laid g.row.T.Denot). let hand : Hand g.row.T.Denot = c.args.self.now.hand in with_hand c.args.self.now (drop (handlers_of k) hand ++ row k s l))
     (sym (lending_by k s _ _ inv.0 inv.3))
 
 pub returns-clause-lent : goal.returns-clause-lent
