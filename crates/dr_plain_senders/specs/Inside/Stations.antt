@@ -47,6 +47,6 @@ module _ {T : Type 0} where
     pub made : IsPlan (halter_of me.0).plan
     pub end : IsHalter me
     pub plan : (halter_of me.0).plan ≡ k
-    pub strip : k.strip ≡ start
-    pub cells : k.size ≡ len
-    pub places : HasPlaces (handlers_of k) k.size gathered
+    pub strip : (halter_of me.0).plan.strip ≡ start
+    pub cells : (halter_of me.0).plan.size ≡ len
+    pub places : HasPlaces (handlers_of (halter_of me.0).plan) (halter_of me.0).plan.size gathered
