@@ -14,6 +14,7 @@ use Rattle.dr_workers.specs.Meaning.Merge.{IsMerge}
 use Rattle.dr_runs.proofs.Elements.{there, at_below, value_at}
 use Rattle.dr_runs.proofs.Lists.{map_there}
 use Rattle.dr_runs.proofs.Lists as lists
+use Rattle.dr_lent.specs.Ends.{at_ring}
 use Rattle.dr_lent.specs.declared.lent.Lent.{Lent}
 use Rattle.dr_plain_senders.specs.declared.record.Stage.{Stage}
 use Rattle.dr_plain_senders.specs.declared.record.SenderRecord.{SenderRecord}
@@ -28,7 +29,7 @@ use Rattle.dr_plain_senders.specs.Meaning.Settling.{Settles, published_events}
 use Rattle.dr_plain_senders.specs.Meaning.Shape.{IsShape, Shape, handlers_of}
 use Rattle.dr_plain_senders.specs.Calls.Ends.{EndPlace, HalterEnd, ReceiverEnd, SenderEnd, receiver_place, received_of}
 use Rattle.dr_plain_senders.specs.Calls.Settling.{GivesBack}
-use Rattle.dr_plain_senders.specs.Calls.Making.{AreFreshEnds, at_ring, receiver_at_ring, sender_at_ring}
+use Rattle.dr_plain_senders.specs.Calls.Making.{AreFreshEnds, receiver_at_ring, sender_at_ring}
 use Rattle.dr_plain_senders.proofs.Beginning.{kept_new_world, receiver_fresh, receivers_count, sender_fresh, senders_count}
 use Rattle.dr_plain_senders.proofs.Keeps.{keeps_runs}
 use Rattle.dr_plain_senders.proofs.Places.{one_value}

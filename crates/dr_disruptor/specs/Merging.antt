@@ -17,9 +17,9 @@ use Rattle.dr_lent.specs.Events.{events_of}
 use Rattle.dr_plain_senders.specs.Meaning.Rule.{World}
 use Rattle.dr_plain_senders.specs.Meaning.Settling.{published_events}
 use Rattle.dr_plain_senders.specs.Meaning.Shape.{Shape, handlers_of}
-use Rattle.dr_lent.specs.Ends.{HasStored}
+use Rattle.dr_lent.specs.Ends.{HasStored, at_ring}
 use Rattle.dr_plain_senders.specs.Calls.Ends.{HalterEnd, ReceiverEnd, SenderEnd, receiver_place, received_of, sender_place}
-use Rattle.dr_plain_senders.specs.Calls.Making.{at_ring, receiver_at_ring, sender_at_ring}
+use Rattle.dr_plain_senders.specs.Calls.Making.{receiver_at_ring, sender_at_ring}
 use Rattle.dr_plain_senders.specs.Calls.Settling.{GivesBack, HasRun, handler_counts}
 use Rattle.dr_disruptor.specs.declared.fault.RunFault.{RunFault}
 use Rattle.dr_disruptor.specs.declared.fault.RunFault.TheVariants.{Handlers, Memory, Senders}

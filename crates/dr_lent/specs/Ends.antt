@@ -33,6 +33,10 @@ pub record ReceivingEnd (S K : Type 0) : Type 0 where
   pub stored : List S
 
 module _ {T S K : Type 0} where
+  -- an end of a new ring, which has stored nothing
+  abbrev pub at_ring : TableId → K → EndOf T S K
+  at_ring ring knows = record { ring = ring; knows = knows; hand = []; past = []; stored = [] }
+
   abbrev pub with_hand : EndOf T S K → List (ℕ × Token T) → EndOf T S K
   with_hand e hand = record e { hand = hand }
 

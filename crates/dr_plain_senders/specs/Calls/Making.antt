@@ -9,12 +9,8 @@ use Rattle.dr_plain_senders.specs.Meaning.Shape.{Shape, handlers_of}
 use Rattle.dr_plain_senders.specs.declared.record.SenderRecord.{SenderRecord}
 use Rattle.dr_plain_senders.specs.declared.record.ReceiverRecord.{ReceiverRecord}
 use Rattle.dr_plain_senders.specs.Meaning.Moments.{fresh_senders, fresh_receivers, fresh_halter}
-use Rattle.dr_lent.specs.Ends.{EndOf}
+use Rattle.dr_lent.specs.Ends.{at_ring}
 use Rattle.dr_plain_senders.specs.Calls.Ends.{SenderEnd, ReceiverEnd, HalterEnd}
-
--- an end of a new ring, which has stored nothing
-abbrev pub at_ring : {T S K : Type 0} → TableId → K → EndOf T S K
-at_ring ring knows = record { ring = ring; knows = knows; hand = []; past = []; stored = [] }
 
 module _ {T : Type 0} where
   -- a sender, which has no cell
