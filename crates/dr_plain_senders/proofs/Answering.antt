@@ -1,17 +1,18 @@
 -- What a poll is offered, and what it answers.
-use Rattle.std.proofs.Common.{◌≡◌, ◌≢◌, ℕ, ◌+◌, ◌-◌, ◌<◌, ◌≤◌, inl, inr, Bool, true, false, ◌==◌, ◌&&◌, ◌||◌, min, List, [], ◌∷◌, ◌++◌, length, sym}
+use Rattle.std.proofs.Common.{◌≡◌, ◌≢◌, ℕ, ◌+◌, ◌-◌, ◌<◌, ◌≤◌, inl, inr, Bool, true, ◌==◌, ◌&&◌, ◌||◌, min, List, [], ◌∷◌, ◌++◌, length, sym}
 use Rattle.std.proofs.Common.{refl, ap, ◌∙◌, subst, arith, append_assoc}
 use Rattle.std.specs.Prelude.{IsTrue, ◌↔◌}
-use Rattle.std.proofs.lemmas.Bool.{cases_lt, cases_Bool, eq-eqb, lt-ltb, le-ltb}
+use Rattle.std.proofs.lemmas.Bool.{cases_lt, cases_Bool, eq-eqb}
 use Rattle.std.proofs.lemmas.List.{append-nil}
 use Rattle.dr_cells.specs.declared.token.Token.{Token}
 use Rattle.dr_meaning.specs.declared.command.Polled.{Polled}
-use Rattle.dr_meaning.specs.declared.command.Polled.TheVariants.{Batch, Drained, Gating, Idle}
+use Rattle.dr_meaning.specs.declared.command.Polled.TheVariants.{Batch}
 use Rattle.dr_runs.specs.declared.look.Look.{Look}
 use Rattle.dr_runs.specs.Looks.{look, offered_by}
 use Rattle.dr_runs.proofs.Lists.{no_elements}
 use Rattle.dr_runs.proofs.Looks.{no_looks_at}
-use Rattle.dr_runs.proofs.Offers.{not_true, or_true}
+use Rattle.dr_runs.specs.Polls.{nothing_offered}
+use Rattle.dr_runs.proofs.Offers.{drains, gates, idles, not_true, or_true}
 use Rattle.dr_lent.specs.declared.lent.Lent.{Lent}
 use Rattle.dr_plain_senders.specs.Meaning.Shape.{Shape}
 use Rattle.dr_plain_senders.specs.Meaning.Words.{claim_word, claimed_in, count_word, is_halted, marked_from}
@@ -21,7 +22,7 @@ use Rattle.dr_plain_senders.specs.Meaning.Records.{claims_looked}
 use Rattle.dr_plain_senders.specs.Calls.Ends.{ReceiverStand, count_looks}
 use Rattle.dr_plain_senders.specs.Calls.Receiving.{ups_of, WalksTo, walk_end, PollLooks, offer, LooksInOrder, looked_round, received_all, AnswersAsSeen}
 use Rattle.dr_plain_senders.specs.Inside.Fits.{ReceiverFits}
-use Rattle.dr_plain_senders.specs.Inside.Polling.{walked, TakesMarked, TakesPast, TakesOffered, nothing_offered}
+use Rattle.dr_plain_senders.specs.Inside.Polling.{walked, TakesMarked, TakesPast, TakesOffered}
 
 -- a walk ends no earlier than it begins
 pub walks_low : {T : Type 0} (k : Shape T) (end s upto : ℕ) (ms : List ℕ) → WalksTo k end s ms upto → s ≤ upto
@@ -34,15 +35,6 @@ walks_low k end s upto (m ∷ ms) W = elim W.1 [
 offered_some : (a b : ℕ) (counts : List ℕ) → counts ≢ [] → offered_by a counts ≡ offered_by b counts
 offered_some a b [] some = absurd (some refl)
 offered_some a b (n ∷ counts) some = refl
-
-gates : (halted : Bool) (claimed taken : ℕ) → taken < claimed → nothing_offered halted claimed taken ≡ Gating
-gates halted claimed taken more = rw (lt-ltb taken claimed more) refl
-
-drains : (halted : Bool) (claimed taken : ℕ) → halted ≡ true → claimed ≤ taken → nothing_offered halted claimed taken ≡ Drained
-drains halted claimed taken on all = rw (le-ltb taken claimed all, on) refl
-
-idles : (halted : Bool) (claimed taken : ℕ) → halted ≡ false → claimed ≤ taken → nothing_offered halted claimed taken ≡ Idle
-idles halted claimed taken off all = rw (le-ltb taken claimed all, off) refl
 
 module _ {T : Type 0} where
   pub offered_marked : (r s : ReceiverRecord T) (claimed room available : ℕ) → ups_of r ≡ [] → TakesMarked r claimed room available s

@@ -9,13 +9,14 @@ ghost use Rattle.dr_plain_senders.specs.Inside.Fits.{ReceiverFits};
 ghost use Rattle.dr_plain_senders.specs.Inside.Leaving.{BelongsReceiver};
 ghost use Rattle.dr_plain_senders.specs.Inside.Views.{receiver_end};
 
-use crate::answers::{claimed_in, nothing_offered};
+use crate::answers::claimed_in;
 use crate::body::RingBody;
 use crate::laws::ReceiverStation;
 use crate::left::ReceiverLeft;
 use crate::plan::HALT_BIT;
 use dr_cells::Token;
 use dr_meaning::{Polled, Refusal};
+use dr_runs::nothing_offered;
 use std::alloc::Global;
 use std::marker::Model;
 use std::sync::Arc;

@@ -1,7 +1,5 @@
 -- What the looks of a poll come to.
-use Rattle.std.specs.Prelude.{◌≡◌, ℕ, ◌+◌, ◌-◌, ◌<◌, ◌≤◌, ◌≢◌, Bool, true, nat_lt, if◌then◌else◌, min, List, [], ◌∷◌, ◌++◌, length, take, Contains}
-use Rattle.dr_meaning.specs.declared.command.Polled.{Polled}
-use Rattle.dr_meaning.specs.declared.command.Polled.TheVariants.{Drained, Gating, Idle}
+use Rattle.std.specs.Prelude.{◌≡◌, ℕ, ◌+◌, ◌-◌, ◌<◌, ◌≤◌, ◌≢◌, true, min, List, [], ◌∷◌, ◌++◌, length, take, Contains}
 use Rattle.dr_runs.specs.declared.look.Look.{Look}
 use Rattle.dr_runs.specs.Looks.{offered_by}
 use Rattle.dr_lent.specs.declared.lent.Lent.{Lent}
@@ -116,7 +114,3 @@ module _ {T : Type 0} where
     pub taken : length r.received ≤ available
     pub many : length lents ≡ min room (available - length r.received)
     pub told : r.told ≡ true → available ≤ length r.received
-
--- what a poll answers where nothing is offered
-abbrev pub nothing_offered : Bool → ℕ → ℕ → Polled
-nothing_offered halted claimed taken = if nat_lt taken claimed then Gating else if halted then Drained else Idle

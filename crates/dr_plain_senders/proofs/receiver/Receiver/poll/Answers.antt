@@ -5,7 +5,7 @@ use Rattle.dr_plain_senders.specs.Meaning.Words.{is_halted}
 use Rattle.dr_plain_senders.specs.declared.record.ReceiverRecord.{ReceiverRecord}
 use Rattle.dr_plain_senders.specs.Calls.Ends.{ReceiverEnd}
 use Rattle.dr_plain_senders.specs.Calls.Receiving.{AnswersAsSeen}
-use Rattle.dr_plain_senders.specs.Inside.Polling.{nothing_offered}
+use Rattle.dr_runs.specs.Polls.{nothing_offered}
 use Rattle.dr_runs.proofs.Beginnings.{begins_on}
 use Rattle.dr_plain_senders.proofs.Answering.{seen_round, seen, in_order, round_of, poll_nothing, poll_batch}
 use Rattle.dr_plain_senders.proofs.receiver.Receiver.poll.Goals as goal
