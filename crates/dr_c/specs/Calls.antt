@@ -8,7 +8,8 @@ use Rattle.dr_meaning.specs.declared.refusal.Refusal.{Refusal}
 use Rattle.dr_meaning.specs.declared.refusal.Refusal.TheVariants.{NotWritten}
 use Rattle.dr_ring.specs.declared.record.Step.TheVariants.{HalterHalts}
 use Rattle.dr_ring.specs.Meaning.Records.{claimed, halter_halted}
-use Rattle.dr_ring.specs.Calls.Ends.{SenderEnd, ReceiverEnd, HalterEnd, HasStored}
+use Rattle.dr_runs.specs.Ends.{HasStored}
+use Rattle.dr_ring.specs.Calls.Ends.{SenderEnd, ReceiverEnd, HalterEnd}
 use Rattle.dr_ring.specs.Calls.Sending.{ClaimCall, WriteCall, PublishCall, CloseCall, ClosesOnceDone}
 use Rattle.dr_ring.specs.Calls.Receiving.{PollCall, CompleteCall}
 use Rattle.dr_meaning.specs.declared.claim_fault.ClaimFault.{ClaimFault}

@@ -7,7 +7,7 @@ use Rattle.atomic_table.specs.Table.{rest, turned}
 use Rattle.dr_runs.proofs.Elements.{there}
 use Rattle.dr_runs.proofs.Lists.{take_whole, past_end}
 use Rattle.dr_cells.specs.declared.token.Token.{Token}
-use Rattle.dr_lent.specs.Ends.{EndOf, with_hand}
+use Rattle.dr_lent.specs.Ends.{StandOf, with_hand}
 use Rattle.dr_lent.proofs.Lists.{drop_at, take_more, drop_seam}
 
 -- the first of all goes behind the others
@@ -53,8 +53,8 @@ module _ {C : Type 0} where
   was_there hand slot x c a b = ap (first_value c) (sym b ∙ a)
 
 -- a loop over the slots from one sequence on, of an end that began as e
-module _ {T S K : Type 0} (e : EndOf T S K) (first n : ℕ) (xs ys : List (ℕ × Token T)) where
-  abbrev pub Traded : ℕ → EndOf T S K → Type 0
+module _ {T S K : Type 0} (e : StandOf T S K) (first n : ℕ) (xs ys : List (ℕ × Token T)) where
+  abbrev pub Traded : ℕ → StandOf T S K → Type 0
   Traded s now = now ≡ with_hand e (traded xs ys (drop n e.hand) (s - first))
 
   pub trade_begins : (o : List (ℕ × Token T)) → e.hand ≡ xs ++ o → length xs ≡ n → Traded first e
@@ -65,28 +65,28 @@ module _ {T S K : Type 0} (e : EndOf T S K) (first n : ℕ) (xs ys : List (ℕ �
       (is ∙ ap (λ (h : List (ℕ × Token T)). xs ++ h) (sym others) ∙ sym (traded_none xs ys (drop n e.hand))
       ∙ ap (λ (m : ℕ). traded xs ys (drop n e.hand) m) none)
 
-  hand_is : (s : ℕ) (now : EndOf T S K) → Traded s now → now.hand ≡ traded xs ys (drop n e.hand) (s - first)
-  hand_is s now is = ap (λ (x : EndOf T S K). x.hand) is
+  hand_is : (s : ℕ) (now : StandOf T S K) → Traded s now → now.hand ≡ traded xs ys (drop n e.hand) (s - first)
+  hand_is s now is = ap (λ (x : StandOf T S K). x.hand) is
 
-  pub trade_first : (s : ℕ) (now : EndOf T S K) (x : ℕ × Token T) → Traded s now → get_elem? xs (s - first) ≡ some x → now.hand ≡ x ∷ rest now.hand
+  pub trade_first : (s : ℕ) (now : StandOf T S K) (x : ℕ × Token T) → Traded s now → get_elem? xs (s - first) ≡ some x → now.hand ≡ x ∷ rest now.hand
   trade_first s now x is at = traded_first xs ys (drop n e.hand) now.hand (s - first) x at (hand_is s now is)
 
-  pub trade_slot : (s slot : ℕ) (now : EndOf T S K) (x : ℕ × Token T) → Traded s now → get_elem? xs (s - first) ≡ some x → slot ≡ x.0
+  pub trade_slot : (s slot : ℕ) (now : StandOf T S K) (x : ℕ × Token T) → Traded s now → get_elem? xs (s - first) ≡ some x → slot ≡ x.0
       → (t : Token T) × (now.hand ≡ (slot, t) ∷ rest now.hand)
   trade_slot s slot now x is at same = (x.1, trade_first s now x is at ∙ ap (λ (m : ℕ). (m, x.1) ∷ rest now.hand) (sym same))
 
-  pub trade_next : (s slot : ℕ) (new : Token T) (now next : EndOf T S K) (x y : ℕ × Token T) → first ≤ s → Traded s now → get_elem? xs (s - first) ≡ some x
+  pub trade_next : (s slot : ℕ) (new : Token T) (now next : StandOf T S K) (x y : ℕ × Token T) → first ≤ s → Traded s now → get_elem? xs (s - first) ≡ some x
       → get_elem? ys (s - first) ≡ some y → slot ≡ y.0 → new ≡ y.1 → next ≡ with_hand now (rest now.hand ++ (slot, new) ∷ [])
       → Traded (s + 1) next
   trade_next s slot new now next x y low is at_x at_y same put is_next =
       let later : s - first + 1 ≡ s + 1 - first = omega arith in let others = drop n e.hand in
       let hand : List (ℕ × Token T) = rest now.hand ++ (slot, new) ∷ [] in
-      is_next ∙ ap (λ (q : EndOf T S K). with_hand q hand) is
+      is_next ∙ ap (λ (q : StandOf T S K). with_hand q hand) is
       ∙ ap (λ (h : List (ℕ × Token T)). with_hand e h)
       ((λ i. rest now.hand ++ (same i, put i) ∷ []) ∙ traded_next xs ys others now.hand (s - first) x y at_x at_y (hand_is s now is)
       ∙ ap (λ (m : ℕ). traded xs ys others m) later)
 
-  pub trade_ends : (s : ℕ) (now : EndOf T S K) → s - first ≡ n → Traded s now → length xs ≡ n → length ys ≡ n → now ≡ with_hand e (drop n e.hand ++ ys)
+  pub trade_ends : (s : ℕ) (now : StandOf T S K) → s - first ≡ n → Traded s now → length xs ≡ n → length ys ≡ n → now ≡ with_hand e (drop n e.hand ++ ys)
   trade_ends s now all is x y =
       is ∙ ap (λ (h : List (ℕ × Token T)). with_hand e h)
       (ap (λ (m : ℕ). traded xs ys (drop n e.hand) m) all ∙ traded_all xs ys (drop n e.hand) n x y)

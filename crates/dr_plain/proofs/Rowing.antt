@@ -10,7 +10,7 @@ use Rattle.dr_runs.proofs.Rows.{length_stretch, stretch_at, replicate_at}
 use Rattle.dr_plain.specs.Meaning.Shape.{Shape, handlers_of}
 use Rattle.dr_plain.specs.Meaning.Lying.{placed}
 use Rattle.dr_plain.specs.Meaning.Records.{Laid}
-use Rattle.dr_lent.specs.Ends.{EndOf, with_hand}
+use Rattle.dr_lent.specs.Ends.{StandOf, with_hand}
 use Rattle.dr_plain.specs.Inside.Hands.{row}
 use Rattle.dr_plain.specs.Inside.Lending.{lanes}
 use Rattle.dr_plain.specs.Inside.Seats.{Hand}
@@ -79,8 +79,8 @@ pub row_count : {T : Type 0} (k : Shape) (s : ℕ) (l : Laid T) → length (row 
 row_count k s l = length_row (placed k) (handlers_of k) s l
 
 -- A loop of the sender over rows, where it began with e: those of xs that are left stand in front, and those that were traded behind the others.
-module _ {T S K : Type 0} (e : EndOf T S K) (k : Shape) (first : ℕ) (xs : List (Laid T)) (others : Hand T) where
-  abbrev pub Rowed : ℕ → List (Laid T) → EndOf T S K → Type 0
+module _ {T S K : Type 0} (e : StandOf T S K) (k : Shape) (first : ℕ) (xs : List (Laid T)) (others : Hand T) where
+  abbrev pub Rowed : ℕ → List (Laid T) → StandOf T S K → Type 0
   Rowed s ys now = now ≡ with_hand e (lanes k s (drop (s - first) xs) ++ (others ++ lanes k first ys))
 
   pub rowed_none : e.hand ≡ lanes k first xs ++ others → Rowed first [] e
@@ -88,12 +88,12 @@ module _ {T S K : Type 0} (e : EndOf T S K) (k : Shape) (first : ℕ) (xs : List
       ap (λ (h : Hand T). with_hand e h)
       (is ∙ (λ i. lanes k first (drop (none i) xs) ++ sym (append-nil others) i))
 
-  hand_of : (s : ℕ) (ys : List (Laid T)) (now : EndOf T S K) → Rowed s ys now
+  hand_of : (s : ℕ) (ys : List (Laid T)) (now : StandOf T S K) → Rowed s ys now
       → now.hand ≡ lanes k s (drop (s - first) xs) ++ (others ++ lanes k first ys)
-  hand_of s ys now is = ap (λ (x : EndOf T S K). x.hand) is
+  hand_of s ys now is = ap (λ (x : StandOf T S K). x.hand) is
 
   -- the next row stands in front
-  pub rowed_row : (s : ℕ) (ys : List (Laid T)) (now : EndOf T S K) (l : Laid T) → Rowed s ys now → get_elem? xs (s - first) ≡ some l
+  pub rowed_row : (s : ℕ) (ys : List (Laid T)) (now : StandOf T S K) (l : Laid T) → Rowed s ys now → get_elem? xs (s - first) ≡ some l
       → (o : Hand T) × (now.hand ≡ row k s l ++ o)
   rowed_row s ys now l is at =
       let left = lanes k (s + 1) (drop (s - first + 1) xs) in (
@@ -102,7 +102,7 @@ module _ {T S K : Type 0} (e : EndOf T S K) (k : Shape) (first : ℕ) (xs : List
             ∙ append_assoc (row k s l) left (others ++ lanes k first ys),
       )
 
-  pub rowed_next : (s : ℕ) (ys : List (Laid T)) (now next : EndOf T S K) (l m : Laid T) → first ≤ s → Rowed s ys now
+  pub rowed_next : (s : ℕ) (ys : List (Laid T)) (now next : StandOf T S K) (l m : Laid T) → first ≤ s → Rowed s ys now
       → get_elem? xs (s - first) ≡ some l
       → length ys ≡ s - first → next ≡ with_hand now (drop (handlers_of k) now.hand ++ row k s m) → Rowed (s + 1) (ys ++ m ∷ []) next
   unfolding rowed_row
@@ -116,16 +116,16 @@ module _ {T S K : Type 0} (e : EndOf T S K) (k : Shape) (first : ℕ) (xs : List
       ∙ ap (λ (h : Hand T). left ++ h) (append_assoc others (lanes k first ys) (row k s m))
       ∙ ap (λ (h : Hand T). left ++ (others ++ h)) (rows_more (placed k) (handlers_of k) first s ys m (omega arith))
       ∙ ap (λ (n : ℕ). lanes k (s + 1) (drop n xs) ++ (others ++ lanes k first (ys ++ m ∷ []))) later in
-      new ∙ ap (λ (q : EndOf T S K). with_hand q (drop (handlers_of k) now.hand ++ row k s m)) is ∙ ap (λ (h : Hand T). with_hand e h) hand
+      new ∙ ap (λ (q : StandOf T S K). with_hand q (drop (handlers_of k) now.hand ++ row k s m)) is ∙ ap (λ (h : Hand T). with_hand e h) hand
 
-  pub rowed_all : (s : ℕ) (ys : List (Laid T)) (now : EndOf T S K) → Rowed s ys now → s - first ≡ length xs
+  pub rowed_all : (s : ℕ) (ys : List (Laid T)) (now : StandOf T S K) → Rowed s ys now → s - first ≡ length xs
       → now ≡ with_hand e (others ++ lanes k first ys)
   rowed_all s ys now is all =
       is ∙ ap (λ (zs : List (Laid T)). with_hand e (lanes k s zs ++ (others ++ lanes k first ys)))
       (ap (λ (n : ℕ). drop n xs) all ∙ ap (λ (zs : List (Laid T)). drop (length xs) zs) (sym (append-nil xs)) ∙ dropped xs [] (length xs) refl)
 
 -- the others, once so many rows are in front of them
-pub others_of : {T S K : Type 0} (e : EndOf T S K) (k : Shape) (first n : ℕ) (xs : List (Laid T)) (o : Hand T) → e.hand ≡ lanes k first xs ++ o
+pub others_of : {T S K : Type 0} (e : StandOf T S K) (k : Shape) (first n : ℕ) (xs : List (Laid T)) (o : Hand T) → e.hand ≡ lanes k first xs ++ o
     → length xs ≡ n
     → o ≡ drop (handlers_of k * n) e.hand
 others_of e k first n xs o is count =

@@ -3,7 +3,8 @@ use Rattle.std.specs.Prelude.{ℕ}
 use Rattle.atomic_table.specs.Seated.{TableId}
 use Rattle.dr_meaning.specs.Calls.Ends.{Sent, Received}
 use Rattle.dr_plain.specs.Meaning.Shape.{Shape}
-use Rattle.dr_lent.specs.Ends.{EndOf, SendingEnd, ReceivingEnd}
+use Rattle.dr_runs.specs.Ends.{EndOf}
+use Rattle.dr_lent.specs.Ends.{StandOf, SendingEnd}
 use Rattle.dr_lent.specs.Events.{events_of}
 use Rattle.dr_plain.specs.declared.record.Step.{Step}
 use Rattle.dr_plain.specs.declared.record.SenderRecord.{SenderRecord}
@@ -12,21 +13,21 @@ use Rattle.dr_plain.specs.declared.record.HalterRecord.{HalterRecord}
 
 -- the ends at their stations, with the slots that each has in hand
 abbrev pub SenderStand : Type 0 → Type 0
-SenderStand T = EndOf T (Step T) (SenderRecord T)
+SenderStand T = StandOf T (Step T) (SenderRecord T)
 
 abbrev pub ReceiverStand : Type 0 → Type 0
-ReceiverStand T = EndOf T (Step T) (ReceiverRecord T)
+ReceiverStand T = StandOf T (Step T) (ReceiverRecord T)
 
 -- the halter is to its caller what it is at its station
 abbrev pub HalterEnd : Type 0 → Type 0
-HalterEnd T = EndOf T (Step T) (HalterRecord T)
+HalterEnd T = StandOf T (Step T) (HalterRecord T)
 
 -- the others as their callers see them: the sender with what lies in each cell
 abbrev pub SenderEnd : Type 0 → Type 0
 SenderEnd T = SendingEnd T (Step T) (SenderRecord T)
 
 abbrev pub ReceiverEnd : Type 0 → Type 0
-ReceiverEnd T = ReceivingEnd (Step T) (ReceiverRecord T)
+ReceiverEnd T = EndOf (Step T) (ReceiverRecord T)
 
 -- which end it is: of which ring, made for what, and a receiver's number
 abbrev pub SenderPlace : Type 0

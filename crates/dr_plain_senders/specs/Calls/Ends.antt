@@ -12,26 +12,27 @@ use Rattle.dr_plain_senders.specs.declared.record.ReceiverRecord.{ReceiverRecord
 use Rattle.dr_plain_senders.specs.declared.record.HalterRecord.{HalterRecord}
 use Rattle.dr_plain_senders.specs.declared.record.MarkLook.{MarkLook}
 use Rattle.dr_plain_senders.specs.Meaning.Records.{mark_look}
-use Rattle.dr_lent.specs.Ends.{EndOf, SendingEnd, ReceivingEnd, HasStored}
+use Rattle.dr_runs.specs.Ends.{EndOf}
+use Rattle.dr_lent.specs.Ends.{StandOf, SendingEnd, HasStored}
 use Rattle.dr_lent.specs.Events.{events_of}
 
 -- the ends at their stations, with the slots that each has in hand
 abbrev pub SenderStand : Type 0 → Type 0
-SenderStand T = EndOf T (Step T) (SenderRecord T)
+SenderStand T = StandOf T (Step T) (SenderRecord T)
 
 abbrev pub ReceiverStand : Type 0 → Type 0
-ReceiverStand T = EndOf T (Step T) (ReceiverRecord T)
+ReceiverStand T = StandOf T (Step T) (ReceiverRecord T)
 
 -- the halter is to its caller what it is at its station
 abbrev pub HalterEnd : Type 0 → Type 0
-HalterEnd T = EndOf T (Step T) (HalterRecord T)
+HalterEnd T = StandOf T (Step T) (HalterRecord T)
 
 -- the others as their callers see them: a sender with what it has in the cells
 abbrev pub SenderEnd : Type 0 → Type 0
 SenderEnd T = SendingEnd T (Step T) (SenderRecord T)
 
 abbrev pub ReceiverEnd : Type 0 → Type 0
-ReceiverEnd T = ReceivingEnd (Step T) (ReceiverRecord T)
+ReceiverEnd T = EndOf (Step T) (ReceiverRecord T)
 
 -- looks at the counts of some handlers
 abbrev pub count_looks : List ℕ → List ℕ → List Look
