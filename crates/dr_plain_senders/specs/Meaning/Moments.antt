@@ -14,7 +14,7 @@ use Rattle.dr_runs.specs.Runs as runs
 use Rattle.dr_runs.specs.Entries.{entry, told_drained, poll_of}
 use Rattle.dr_lent.specs.declared.lent.Lent.{Lent}
 use Rattle.dr_plain_senders.specs.Meaning.Shape.{Shape, handlers_of, ring_setup}
-use Rattle.dr_plain_senders.specs.Meaning.Words.{claim_word, is_halted, count_word, mark_word, is_out_by, words_of}
+use Rattle.dr_plain_senders.specs.Meaning.Words.{claim_word, is_halted, count_word, mark_start, mark_word, is_out_by, words_of}
 use Rattle.dr_plain_senders.specs.declared.record.Stage.{Stage}
 use Rattle.dr_plain_senders.specs.declared.record.SenderRecord.{SenderRecord}
 use Rattle.dr_plain_senders.specs.declared.record.ReceiverRecord.{ReceiverRecord}
@@ -142,8 +142,8 @@ module _ {T : Type 0} where
       let said : Bool = is_out_by k s (slice_index w.words claim_word) (slice_index u.words (mark_word k s)) (slice_index v.words claim_word) in
       ((picture_of k w).published s ≡ said) ⊎ ((picture_of k u).published s ≡ said) ⊎ ((picture_of k v).published s ≡ said)
 
-  -- No handler's count falls, and no claim is taken back: so what the last look of a
+  -- No word falls but those with marks, and no claim is taken back: so what the last look of a
   -- claim without room finds was so already at its first, and what is claimed stays so.
   abbrev pub NothingFalls : Shape T → World T → World T → Type 0
   NothingFalls k w u =
-      ((f : ℕ) → f < handlers_of k → slice_index w.words (count_word f) ≤ slice_index u.words (count_word f)) × (length w.stages ≤ length u.stages)
+      ((word : ℕ) → word < mark_start k → slice_index w.words word ≤ slice_index u.words word) × (length w.stages ≤ length u.stages)
