@@ -1,5 +1,5 @@
 -- What came of a run with several senders: what each handler went through, and the run of the ring.
-use Rattle.std.specs.Prelude.{◌≡◌, ℕ, ◌≤◌, ◌==◌, ◌^◌, if◌then◌else◌, List, [], length, map}
+use Rattle.std.specs.Prelude.{◌≡◌, ℕ, ◌≤◌, ◌==◌, ◌^◌, if◌then◌else◌, List, length, map}
 use denote.RawPtr.{Ptr}
 use mathlib.Core.Option.{some}
 use lib.ListN.{get_elem?}

@@ -8,7 +8,6 @@ use Rattle.dr_runs.specs.Stretches.{stretch}
 use Rattle.dr_runs.proofs.Rows.{stretch_both}
 use Rattle.dr_lent.proofs.Lists.{drop_seam, take_seam}
 use Rattle.dr_lent.specs.Trades.{SamePlaces, ArePartsBetween}
-use Rattle.dr_plain_senders.specs.Meaning.Shape.{Shape}
 use Rattle.dr_plain_senders.specs.Meaning.Words.{cell_of, lane_of}
 use Rattle.dr_plain_senders.specs.Meaning.Records.{completed_to}
 use Rattle.dr_plain_senders.specs.declared.record.ReceiverRecord.{ReceiverRecord}

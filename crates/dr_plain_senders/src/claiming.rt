@@ -1,6 +1,6 @@
 //! What a claim is made of.
 
-ghost use Rattle.std.specs.Prelude.{◌≡◌, ◌+◌, ◌^◌, ◌≤◌, IfOk};
+ghost use Rattle.std.specs.Prelude.{◌+◌, ◌^◌, ◌≤◌, IfOk};
 ghost use Rattle.dr_lent.specs.Ends.{HasLoaded};
 ghost use Rattle.dr_plain_senders.specs.Calls.Sending.{ClaimCall, IsCount};
 ghost use Rattle.dr_plain_senders.specs.Inside.Scans.{Scans, ClaimsApart, ClaimTakes};

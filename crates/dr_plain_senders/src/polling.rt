@@ -1,6 +1,6 @@
 //! What a poll of a handler with upstreams is made of: the looks, at the last of which it takes.
 
-ghost use Rattle.std.specs.Prelude.{◌≡◌, ◌<◌, ◌≤◌, [], ◌∷◌, length, Contains};
+ghost use Rattle.std.specs.Prelude.{◌<◌, ◌≤◌, [], ◌∷◌, length, Contains};
 ghost use Rattle.dr_plain_senders.specs.Meaning.Words.{count_word as count_word_of};
 ghost use Rattle.dr_runs.specs.Looks.{look};
 ghost use Rattle.dr_lent.specs.Ends.{HasLoaded};

@@ -1,7 +1,7 @@
 //! An end that claims, writes and publishes.
 
 ghost use Rattle.std.specs.Arc.{arc_value};
-ghost use Rattle.std.specs.Prelude.{◌≡◌, ◌<◌, ℕ};
+ghost use Rattle.std.specs.Prelude.{◌≡◌, ◌<◌};
 ghost use Rattle.dr_runs.specs.Looks.{looks_counted};
 ghost use Rattle.dr_plain_senders.specs.Calls.Sending.{HaltCall, SenderClaimCall};
 ghost use Rattle.dr_plain_senders.specs.Inside.Fits.{SenderFits};

@@ -1,6 +1,6 @@
 //! A receiver's steps.
 
-ghost use Rattle.std.specs.Prelude.{◌≡◌, ◌≤◌, ◌^◌, ◌<◌, ◌++◌, [], List, ℕ, length, drop, Contains};
+ghost use Rattle.std.specs.Prelude.{◌≡◌, ◌≤◌, ◌<◌, ◌++◌, [], List, ℕ, length, drop, Contains};
 ghost use Rattle.dr_cells.specs.declared.token.Token.{Token};
 ghost use Rattle.dr_graph.specs.Meaning.Graph.{upstreams_of};
 ghost use Rattle.dr_lent.specs.declared.lent.Lent.{Lent};

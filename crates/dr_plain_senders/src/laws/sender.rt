@@ -1,9 +1,8 @@
 //! A sender's steps.
 
-ghost use Rattle.std.specs.Prelude.{◌≡◌, ◌+◌, ◌^◌, ◌<◌, ◌≤◌, ◌++◌, None, List, ℕ, length, drop, Contains};
+ghost use Rattle.std.specs.Prelude.{◌≡◌, ◌+◌, ◌<◌, ◌≤◌, ◌++◌, None, List, ℕ, length, drop, Contains};
 ghost use Rattle.dr_graph.specs.Meaning.Graph.{finals};
 ghost use Rattle.dr_cells.specs.declared.token.Token.{Token};
-ghost use Rattle.dr_lent.specs.declared.lent.Lent.{Lent};
 ghost use Rattle.dr_plain_senders.specs.Calls.Plans.{IsPlan};
 ghost use Rattle.dr_plain_senders.specs.declared.record.Stage.{Stage};
 ghost use Rattle.dr_plain_senders.specs.Meaning.Words.{claim_word, halted_from, count_word as count_word_of, in_word};

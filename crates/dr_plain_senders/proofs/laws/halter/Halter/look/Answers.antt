@@ -1,4 +1,4 @@
-use Rattle.std.proofs.Common.{rules, arith, sym, subst, ap, ◌<◌}
+use Rattle.std.proofs.Common.{rules, arith, sym, subst, ◌<◌}
 use Rattle.dr_plain_senders.specs.Meaning.Shape.{Shape}
 use Rattle.dr_plain_senders.specs.Meaning.Words.{mark_start}
 use Rattle.dr_plain_senders.specs.Calls.Ends.{HalterEnd}

@@ -1,4 +1,4 @@
-use Rattle.std.proofs.Common.{Bool, true, arith, refl, sym, ap, ◌∙◌, subst}
+use Rattle.std.proofs.Common.{Bool, true, arith, refl, ap, ◌∙◌, subst}
 use Rattle.dr_seq.specs.Size.{IsSize}
 use Rattle.dr_plain_senders.specs.Meaning.Shape.{Shape}
 use Rattle.dr_plain_senders.specs.Inside.Scans.{Scans}
