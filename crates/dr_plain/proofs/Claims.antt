@@ -38,7 +38,8 @@ use Rattle.dr_plain.specs.Inside.Seats.{Hand, taken_by_claim}
 use Rattle.dr_plain.specs.Inside.Views.{sender_end}
 use Rattle.dr_plain.proofs.Collecting.{between_count, blanks_count, laid_count}
 use Rattle.dr_runs.proofs.Answering.{bad_count_fails}
-use Rattle.dr_runs.proofs.Scans.{Rises, rises_then, rises_at_halt}
+use Rattle.dr_runs.specs.OneSender.Scans.{Rises}
+use Rattle.dr_runs.proofs.Scans.{rises_then, rises_at_halt}
 use Rattle.dr_runs.proofs.Looks.{last_look_else}
 use Rattle.dr_runs.proofs.Elements.{at_below, there}
 use Rattle.dr_plain.proofs.Noting.{noted_more, unclaimed, writes_both, writes_none, writes_count}
