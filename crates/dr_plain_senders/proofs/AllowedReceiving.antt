@@ -17,7 +17,7 @@ use Rattle.dr_plain_senders.specs.declared.record.ReceiverRecord.{ReceiverRecord
 use Rattle.dr_plain_senders.specs.declared.record.EndRecord.TheVariants.{Receives}
 use Rattle.dr_plain_senders.specs.declared.record.Step.{Step}
 use Rattle.dr_plain_senders.specs.declared.record.Step.TheVariants.{ReceiverLooksAtClaims, ReceiverLooksAtMark, ReceiverLooksAtCount, ReceiverCompletes}
-use Rattle.dr_plain_senders.specs.Meaning.Records.{claims_looked, taken_at_mark, mark_looked, taken_at_count, receiver_looked, completed_to}
+use Rattle.dr_plain_senders.specs.Meaning.Records.{claims_looked, taken_at_mark, mark_looked, taken_at, receiver_looked, completed_to}
 use Rattle.dr_plain_senders.specs.Meaning.Rule.{World, KeepsRule}
 use Rattle.dr_plain_senders.specs.Meaning.Steps.{Happens, receiver_knows}
 use Rattle.dr_plain_senders.specs.Calls.Finds.{FindsClaims, FindsEvents, FindsNext}
@@ -134,7 +134,7 @@ module _ {T : Type 0} where
       along_receiver (λ m. MayLoad key slots id m i (ReceiverLookedAtCount room)) me is
       (by_end key slots id kind (λ xs. xs) me.0.pasts (Receives r) me.1 i (λ n. n) (ReceiverLookedAtCount room (step slots i 0 0 none) (as_receiver r me.1))
       (adds_nothing ring_ends _ kind (λ n. refl))
-      (λ w at K small homes lies. let found = word_at w.words i in let n = taken_at_count r i found room in
+      (λ w at K small homes lies. let found = word_at w.words i in let n = taken_at r i found room in
       let inside = upstream_inside k K.shape.graph r.number u (handler_inside k w r.number r at K) has in
       let next = next_of k w r.number n r (offers_at_count k w r.number i room r (omega arith) at K) in let q = receiver_looked r i found next.0 in record {
         mine = Receives q;

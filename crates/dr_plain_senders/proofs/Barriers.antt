@@ -13,7 +13,7 @@ use Rattle.dr_lent.specs.declared.lent.Lent.{Lent}
 use Rattle.dr_plain_senders.specs.Meaning.Shape.{Shape, handlers_of}
 use Rattle.dr_plain_senders.specs.Meaning.Words.{count_word, mark_start, mark_word, in_word, is_there, marked_from}
 use Rattle.dr_plain_senders.specs.declared.record.ReceiverRecord.{ReceiverRecord}
-use Rattle.dr_plain_senders.specs.Meaning.Records.{barrier_seen, marked_next, taken_at_mark, taken_at_count}
+use Rattle.dr_plain_senders.specs.Meaning.Records.{barrier_seen, marked_next, taken_at_mark, taken_at}
 use Rattle.dr_plain_senders.specs.Meaning.Rule.{World, ArePast, IsOut, IsOutWith, has_mark, KeepsRule}
 use Rattle.dr_plain_senders.specs.Meaning.Steps.{AreNext}
 use Rattle.dr_plain_senders.proofs.Facts.{receiver_of_handler, handler_inside, upstream_inside, above, taken_out, taken_claimed}
@@ -54,9 +54,9 @@ module _ {T : Type 0} where
       let o = receiver_of_handler k w K u up in let a = o.2.count in let b = o.2.completed in let c = below u has in taken_out k w u s o.0 o.1 (omega arith) K
 
   pub offers_at_count : (k : Shape T) (w : World T) (h i room : ℕ) (r : ReceiverRecord T) → i < mark_start k → get_elem? w.receivers h ≡ some r → KeepsRule k w
-      → Offers k w h r (taken_at_count r i (word_at w.words i) room)
+      → Offers k w h r (taken_at r i (word_at w.words i) room)
   offers_at_count k w h i room r low at K =
-      let was = K.received h r at in let found = word_at w.words i in let looks = r.looks ++ look i found ∷ [] in let n = taken_at_count r i found room in
+      let was = K.received h r at in let found = word_at w.words i in let looks = r.looks ++ look i found ∷ [] in let n = taken_at r i found room in
       let past : ArePast k w.words looks = past_more (mark_start k) w.words i found r.looks low (omega arith) was.looks in
       let inside = handler_inside k w h r at K in
       let seen : barrier_seen r.plan r.number looks ≡ barrier_seen k h looks = (λ j. barrier_seen (was.plan j) (was.number j) looks) in

@@ -16,7 +16,7 @@ use Rattle.dr_plain_senders.specs.Meaning.Words.{claim_word, claimed_in, is_halt
 use Rattle.dr_plain_senders.specs.declared.record.MarkLook.{MarkLook}
 use Rattle.dr_plain_senders.specs.declared.record.ReceiverRecord.{ReceiverRecord}
 use Rattle.dr_plain_senders.specs.Meaning.Records.{mark_look, receiver_looked, tells_drained, claims_looked, taken_at_mark, mark_looked}
-use Rattle.dr_plain_senders.specs.Meaning.Records.{taken_at_count, completed_to}
+use Rattle.dr_plain_senders.specs.Meaning.Records.{taken_at, completed_to}
 use Rattle.dr_plain_senders.specs.Meaning.Rule.{World, ArePast, IsOutWith, ReceiverKept, KeepsRule}
 use Rattle.dr_plain_senders.specs.Meaning.Steps.{receiver_knows, AreNext}
 use Rattle.dr_plain_senders.proofs.Places.{more_cases, Rises, rises_set, past_rises}
@@ -102,10 +102,10 @@ module _ {T : Type 0} where
 
   pub keeps_count_look : (k : Shape T) (w : World T) (h i room : ℕ) (r : ReceiverRecord T) (lents : List (Lent T))
       → 0 < i → i < mark_start k → get_elem? w.receivers h ≡ some r
-      → AreNext w r (taken_at_count r i (word_at w.words i) room) lents → KeepsRule k w
+      → AreNext w r (taken_at r i (word_at w.words i) room) lents → KeepsRule k w
       → KeepsRule k (receiver_knows w h (receiver_looked r i (word_at w.words i) lents))
   keeps_count_look k w h i room r lents pos low at N K = let found = word_at w.words i in let was = K.received h r at in
-      takes_kept k w h (taken_at_count r i found room) r lents r.marks (r.looks ++ look i found ∷ []) at (offers_at_count k w h i room r low at K) N
+      takes_kept k w h (taken_at r i found room) r lents r.marks (r.looks ++ look i found ∷ []) at (offers_at_count k w h i room r low at K) N
       (past_more (mark_start k) w.words i found r.looks low (omega arith) was.looks)
       (ap claimed_in (last_look_else 0 r.looks i claim_word found (λ (e : i ≡ claim_word). omega arith))) K
 

@@ -11,7 +11,7 @@ use Rattle.dr_plain_senders.specs.Meaning.Shape.{Shape}
 use Rattle.dr_plain_senders.specs.Meaning.Words.{count_word}
 use Rattle.dr_runs.specs.declared.look.Look.{Look}
 use Rattle.dr_plain_senders.specs.declared.record.ReceiverRecord.{ReceiverRecord}
-use Rattle.dr_plain_senders.specs.Meaning.Records.{barrier_seen, taken_at_count, receiver_looked}
+use Rattle.dr_plain_senders.specs.Meaning.Records.{barrier_seen, taken_at, receiver_looked}
 use Rattle.dr_runs.specs.Looks.{look, offered_by, lesser_of}
 use Rattle.dr_plain_senders.specs.Calls.Ends.{count_looks}
 use Rattle.dr_plain_senders.specs.Calls.Finds.{FindsEvents}
@@ -75,7 +75,7 @@ module _ {T : Type 0} where
   pub round_last : (r s s' : ReceiverRecord T) (room claimed least available i u v : ℕ) (hand hand' : Hand T) (lents : List (Lent T))
       → IsStrictlyIncreasing (ups_of r)
       → LooksAtFirst r claimed i s least → i + 1 ≡ length (ups_of r) → get_or (ups_of r) i 0 ≡ u
-      → length lents ≡ taken_at_count s (count_word u) v room → s' ≡ receiver_looked s (count_word u) v lents → hand' ≡ taken_by_poll s lents ++ hand
+      → length lents ≡ taken_at s (count_word u) v room → s' ≡ receiver_looked s (count_word u) v lents → hand' ≡ taken_by_poll s lents ++ hand
       → FindsEvents s (count_word u) v → available ≡ lesser_of (i == 0) v least → LooksPast r claimed room available hand s' hand'
   round_last r s s' room claimed least available i u v hand hand' lents rising L last at many is in_hand finds new =
       let ups = ups_of r in let x = receiver_saw s (look (count_word u) v ∷ []) in

@@ -24,7 +24,7 @@ use Rattle.dr_plain_senders.specs.declared.record.EndRecord.{EndRecord}
 use Rattle.dr_plain_senders.specs.declared.record.EndRecord.TheVariants.{Sends, Receives, Halts}
 use Rattle.dr_plain_senders.specs.declared.record.Step.{Step}
 use Rattle.dr_plain_senders.specs.Meaning.Records.{Owns, has_published, sender_looked, mark_found, claims_looked, taken_at_mark, mark_looked}
-use Rattle.dr_plain_senders.specs.Meaning.Records.{taken_at_count, receiver_looked, completed_to, halter_halted, halter_looked}
+use Rattle.dr_plain_senders.specs.Meaning.Records.{taken_at, receiver_looked, completed_to, halter_halted, halter_looked}
 use Rattle.dr_plain_senders.specs.Meaning.Rule.{World}
 use Rattle.dr_plain_senders.specs.Meaning.Lying.{Laid, unlent, lent, placed, Lies}
 use Rattle.dr_plain_senders.specs.Meaning.Steps.{Happens}
@@ -218,7 +218,7 @@ module _ {T : Type 0} where
 
   abbrev pub ReceiverLookedAtCount : ℕ → Tells T
   ReceiverLookedAtCount room s me n me' = let r : ReceiverRecord T = receiver_of me.0 in
-      (lents : List (Lent T)) × (length lents ≡ taken_at_count r s.word n room)
+      (lents : List (Lent T)) × (length lents ≡ taken_at r s.word n room)
       × (me' ≡ as_receiver (receiver_looked r s.word n lents) (taken_by_poll r lents ++ me.1)) × FindsEvents r s.word n
 
   abbrev pub ReceiverCompleted : Tells T

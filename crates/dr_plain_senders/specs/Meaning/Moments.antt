@@ -24,7 +24,7 @@ use Rattle.dr_plain_senders.specs.declared.record.Step.TheVariants.{SenderLooksA
 use Rattle.dr_plain_senders.specs.declared.record.Step.TheVariants.{SenderLooksAtMark, SenderHalts}
 use Rattle.dr_plain_senders.specs.declared.record.Step.TheVariants.{ReceiverLooksAtClaims, ReceiverLooksAtMark, ReceiverLooksAtCount}
 use Rattle.dr_plain_senders.specs.declared.record.Step.TheVariants.{ReceiverCompletes, HalterHalts, HalterLooks}
-use Rattle.dr_plain_senders.specs.Meaning.Records.{fresh_stage, is_published, tells_drained, taken_at_mark, taken_at_count}
+use Rattle.dr_plain_senders.specs.Meaning.Records.{fresh_stage, is_published, tells_drained, taken_at_mark, taken_at}
 use Rattle.dr_plain_senders.specs.Meaning.Rule.{World, is_out_now}
 use Rattle.dr_plain_senders.specs.Meaning.Steps.{Happens}
 
@@ -113,7 +113,7 @@ module _ {T : Type 0} where
   entries_of k (ReceiverLooksAtMark h room) w =
       let r : ReceiverRecord T = receiver_at k w h in batch_of k w h r (taken_at_mark r (slice_index w.words (mark_word k (length r.received))) room)
   entries_of k (ReceiverLooksAtCount h u room) w =
-      let r : ReceiverRecord T = receiver_at k w h in batch_of k w h r (taken_at_count r (count_word u) (slice_index w.words (count_word u)) room)
+      let r : ReceiverRecord T = receiver_at k w h in batch_of k w h r (taken_at r (count_word u) (slice_index w.words (count_word u)) room)
   entries_of k (ReceiverCompletes h n) w = entry (Complete h n) Completed []
   entries_of k HalterHalts w = entry Halt Halting []
   entries_of k (HalterLooks word) w = []

@@ -91,9 +91,9 @@ module _ {T : Type 0} where
   abbrev pub mark_looked : ReceiverRecord T → ℕ → List (Lent T) → ReceiverRecord T
   mark_looked r found lents = record r { received = r.received ++ lents; marks = r.marks ++ mark_look r.looks (length r.received) found ∷ [] }
 
-  -- how many events it takes at a look at an upstream's count, where it has room for so many: what its upstreams then let through, as far as it saw
-  abbrev pub taken_at_count : ReceiverRecord T → ℕ → ℕ → ℕ → ℕ
-  taken_at_count r word found room = min room (barrier_seen r.plan r.number (r.looks ++ look word found ∷ []) - length r.received)
+  -- how many it takes at a look at an upstream's count, of which it has room for so many: what its upstreams then let through, as far as it saw
+  abbrev pub taken_at : ReceiverRecord T → ℕ → ℕ → ℕ → ℕ
+  taken_at r word found room = min room (barrier_seen r.plan r.number (r.looks ++ look word found ∷ []) - length r.received)
 
   -- a receiver has looked at a word, and taken these
   abbrev pub receiver_looked : ReceiverRecord T → ℕ → ℕ → List (Lent T) → ReceiverRecord T

@@ -16,7 +16,7 @@ use Rattle.dr_plain_senders.specs.declared.record.SenderRecord.{SenderRecord}
 use Rattle.dr_plain_senders.specs.declared.record.ReceiverRecord.{ReceiverRecord}
 use Rattle.dr_plain_senders.specs.Meaning.Records.{fresh_stage, published, Owns, brought, sender_looked, mark_found, claimed_from, receiver_looked}
 use Rattle.dr_plain_senders.specs.Meaning.Records.{claims_looked}
-use Rattle.dr_plain_senders.specs.Meaning.Records.{taken_at_mark, mark_looked, taken_at_count, completed_to, halter_halted, halter_looked, SeesRoom}
+use Rattle.dr_plain_senders.specs.Meaning.Records.{taken_at_mark, mark_looked, taken_at, completed_to, halter_halted, halter_looked, SeesRoom}
 use Rattle.dr_plain_senders.specs.Meaning.Rule.{World, IsOutWith}
 
 module _ {T : Type 0} where
@@ -102,7 +102,7 @@ module _ {T : Type 0} where
   -- and another what its upstreams let through
   Happens k (ReceiverLooksAtCount h u room) w w' =
       ByReceiver w h (λ r. let found : ℕ = slice_index w.words (count_word u) in
-      Contains (upstreams_of k.upstreams h) u × (lents : List (Lent T)) × AreNext w r (taken_at_count r (count_word u) found room) lents
+      Contains (upstreams_of k.upstreams h) u × (lents : List (Lent T)) × AreNext w r (taken_at r (count_word u) found room) lents
       × (w' ≡ receiver_knows w h (receiver_looked r (count_word u) found lents)))
   Happens k (ReceiverCompletes h n) w w' =
       ByReceiver w h (λ r. (r.completed ≤ n) × (n ≤ length r.received)

@@ -7,7 +7,7 @@ ghost use Rattle.dr_lent.specs.declared.lent.Lent.{Lent};
 ghost use Rattle.dr_plain_senders.specs.Calls.Plans.{IsPlan};
 ghost use Rattle.dr_plain_senders.specs.declared.record.Step.TheVariants.{ReceiverCompletes};
 ghost use Rattle.dr_plain_senders.specs.Meaning.Words.{count_word as count_word_of};
-ghost use Rattle.dr_plain_senders.specs.Meaning.Records.{claims_looked, taken_at_mark, mark_looked, taken_at_count, receiver_looked, completed_to};
+ghost use Rattle.dr_plain_senders.specs.Meaning.Records.{claims_looked, taken_at_mark, mark_looked, taken_at, receiver_looked, completed_to};
 ghost use Rattle.dr_plain_senders.specs.Calls.Finds.{FindsClaims, FindsNext, FindsEvents};
 ghost use Rattle.dr_lent.specs.Ends.{HasLoaded, HasStored};
 ghost use Rattle.dr_plain_senders.specs.Inside.Seats.{taken_by_poll, given_by_completion};
@@ -95,7 +95,7 @@ impl<T> ReceiverStation<T> {
         requires named { room ≡ J.number }
         requires upstream { Contains (upstreams_of self.old.knows.plan.upstreams self.old.knows.number) upstream }
         // It has looked once, and took what all upstreams and `room` let through, which is first in hand.
-        ensures step { (lents : List (Lent T)) × (length lents ≡ taken_at_count self.old.knows (count_word_of upstream) result room) × HasLoaded self.old (receiver_looked self.old.knows (count_word_of upstream) result lents) (taken_by_poll self.old.knows lents ++ self.old.hand) self.new }
+        ensures step { (lents : List (Lent T)) × (length lents ≡ taken_at self.old.knows (count_word_of upstream) result room) × HasLoaded self.old (receiver_looked self.old.knows (count_word_of upstream) result lents) (taken_by_poll self.old.knows lents ++ self.old.hand) self.new }
         // It finds no less than before or than it took, and at most a round beyond what it completed; no more
         // than it took if it was told `Drained`.
         ensures finds { FindsEvents self.old.knows (count_word_of upstream) result }
