@@ -77,7 +77,7 @@ module _ {T : Type 0} where
   sender_plan k w r e K = ap (λ (q : SenderRecord T). q.plan) (sym e) ∙ K.sender_plan
 
   inside_of : (k : Shape) (w : World T) (h : ℕ) (r : ReceiverRecord T) → get_elem? w.receivers h ≡ some r → KeepsRule k w → h < handlers_of k
-  inside_of k w h r at K = let b = at_below w.receivers h r at in let e = K.ends in omega arith
+  inside_of k w h r at K = let b = at_below w.receivers h r at in let e = K.outlets in omega arith
 
   -- nothing moves
   stays : (k : Shape) (u : World T) (hand : Hand T) (homes : List (maybe.Option (Token T))) → Lies k u homes → MovesTo k u hand homes hand
@@ -262,7 +262,7 @@ module _ {T : Type 0} where
       → Contains (upstreams_of k.upstreams r.number) u → KeepsRule k w
       → (u < handlers_of k) × FindsEvents r (count_word u) (get_or w.words (count_word u) 0)
   tells_count k w r u at has K =
-      let was = K.received r.number r at in let inside = upstream_inside k.upstreams K.graph r.number u (inside_of k w r.number r at K) has in
+      let was = K.received r.number r at in let inside = upstream_inside k.upstreams K.shape.graph r.number u (inside_of k w r.number r at K) has in
       let t = receiver_of_handler k w K u inside in let a = t.2.count in let b = t.2.completed in let c = t.2.taken in
       (inside, (last_look_le (words_of k) w.words 0 r.looks (count_word u) (omega arith) was.looks, was.after u has, λ told. (let d = (was.told told).1 in omega arith), (let near = round_ahead k w r at K in omega arith)))
 
@@ -322,6 +322,6 @@ module _ {T : Type 0} where
             (same_words k (HalterLooks i) w i w.sender w.receivers (halter_looked w.halter i n) (lt, refl)),
         (
           refl,
-          subst (λ (q : HalterRecord T). FindsMore q.looks i n) e (last_look_le (words_of k) w.words 0 w.halter.looks i (omega arith) K.watched),
+          subst (λ (q : HalterRecord T). FindsMore q.looks i n) e (last_look_le (words_of k) w.words 0 w.halter.looks i (omega arith) K.halter),
         ),
       )))

@@ -97,7 +97,7 @@ module _ {T : Type 0} where
       λ h parts at. (let b = at_below hands h parts at in let n = H.count in there es h (omega arith)) in record {
         handlers = ap length counted ∙ length-map es (λ (e : ReceiverEnd T). handler_counts e.knows) ∙ E.all;
         many = H.count ∙ E.all;
-        out = out_begins s.knows tokens (subst (λ (q : Shape). 0 < q.size) plan A.rule.some_slot) close F;
+        out = out_begins s.knows tokens (subst (λ (q : Shape). 0 < q.size) plan A.rule.shape.some_slot) close F;
         places = λ h parts at. (let e = end_of h parts at in (H.each h e.0 parts e.1 at).count ∙ ap (λ (q : Shape). q.size) (plan_of h e.0 e.1));
         held = λ h c parts at_c at_h i l low yes at. (
             let m = at_map (λ (e : ReceiverEnd T). handler_counts e.knows) es h c (ap (λ (cs : List HandlerCounts). get_elem? cs h) (sym counted) ∙ at_c) in

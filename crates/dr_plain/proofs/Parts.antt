@@ -105,8 +105,8 @@ module _ {T : Type 0} where
           | inr none ↦ (let z = claims_none found more (λ _. omega arith) in subst (Room k w.words) (let e : c ≡ c + n = omega arith in e) K.room)
         ]
       ] in
-      let t = claims_take k K.some_slot w.receivers ls fresh c n homes lies K.ends (omega arith)
-      (λ h r at. (let inside : h < handlers_of k = (let b = at_below w.receivers h r at in let e = K.ends in omega arith) in
+      let t = claims_take k K.shape.some_slot w.receivers ls fresh c n homes lies K.outlets (omega arith)
+      (λ h r at. (let inside : h < handlers_of k = (let b = at_below w.receivers h r at in let e = K.outlets in omega arith) in
       let a = ahead_of_all k w (c + n) K rises h inside in let d = (K.received h r at).count in omega arith))
       (λ i l at. slice_at ls c n i l at) in
       subst (λ (q : Shape). MovesTo k u hand homes (rows (placed q) (handlers_of q) c fresh ++ hand)) (sym plan)
@@ -125,13 +125,13 @@ module _ {T : Type 0} where
       (gives_moves k u rest (rows (placed k) (handlers_of k) s more) homes
       (subst (λ (x : List (ReceiverRecord T) × (List (Laid T) × ℕ)). LiesBy k x.0 x.1.0 x.1.1 (filled homes (rows (placed k) (handlers_of k) s more)))
       (λ i. (sym same_receivers i, (sym same_laid i, sym same_claims i)))
-      (publishes_give k K.some_slot w.receivers (laid w.sender) more s (claimed w.sender) homes lies K.ends count (omega arith) close)))
+      (publishes_give k K.shape.some_slot w.receivers (laid w.sender) more s (claimed w.sender) homes lies K.outlets count (omega arith) close)))
 
   stretches_of : (k : Shape) (w : World T) (h : ℕ) (r : ReceiverRecord T) → get_elem? w.receivers h ≡ some r → KeepsRule k w
       → Stretches k (laid w.sender) (claimed w.sender) r
   stretches_of k w h r at K =
       let was = K.received h r at in let count = laid_count k w K in let done = was.count in let taken = was.taken in
-      let inside : h < handlers_of k = (let b = at_below w.receivers h r at in let e = K.ends in omega arith) in let a = above k w K h inside in record {
+      let inside : h < handlers_of k = (let b = at_below w.receivers h r at in let e = K.outlets in omega arith) in let a = above k w K h inside in record {
         held = was.completed;
         sent = omega arith;
         near = omega arith;
@@ -145,7 +145,7 @@ module _ {T : Type 0} where
       → MovesTo k u hand homes (stretch (placed p g) (length r.received) (lent_all (next_of w r n)) ++ hand)
   poll_moves k p w u h g n r r' hand homes plan number at K lies same_receivers same_sender same longer =
       let s = length r.received in let more = lent_all (next_of w r n) in let len = length-map (next_of w r n) (λ (l : Lent T). Some l) in
-      let t = receiver_takes k K.some_slot w.receivers (laid w.sender) more (claimed w.sender) h r r' homes lies (stretches_of k w h r at K) at
+      let t = receiver_takes k K.shape.some_slot w.receivers (laid w.sender) more (claimed w.sender) h r r' homes lies (stretches_of k w h r at K) at
       (λ i l at_i. (let q = slice_at (lent_all w.sender.published) s n i l (ap (λ (xs : List (Laid T)). get_elem? xs i) (slice_lent w.sender.published s n) ∙ at_i) in let e : k.size + (s + i) ≡ k.size + s + i = omega arith in
       ap (λ (m : ℕ). get_elem? (laid w.sender) m) (sym e) ∙ laid_later k w (s + i) l K q.1)) same (omega arith) in
       subst (λ (q : Shape × ℕ). MovesTo k u hand homes (stretch (placed q.0 q.1) s more ++ hand)) (λ i. (sym plan i, sym number i))
@@ -166,7 +166,7 @@ module _ {T : Type 0} where
       (gives_moves k u rest (stretch (placed k h) s done) homes
       (subst (λ (x : List (ReceiverRecord T) × SenderRecord T). LiesBy k x.0 (laid x.1) (claimed x.1) (filled homes (stretch (placed k h) s done)))
       (λ i. (sym same_receivers i, sym same_sender i))
-      (receiver_gives k K.some_slot w.receivers (laid w.sender) done (claimed w.sender) h r r' homes lies (stretches_of k w h r at K) at K.ends
+      (receiver_gives k K.shape.some_slot w.receivers (laid w.sender) done (claimed w.sender) h r r' homes lies (stretches_of k w h r at K) at K.outlets
       (λ i l at_i lt. (let e : k.size + s + i ≡ k.size + (s + i) = omega arith in
       let sent = laid_earlier k w (s + i) l K (ap (λ (m : ℕ). get_elem? (laid w.sender) m) (sym e) ∙ at_i) in
       ap (λ (xs : List (Laid T)). get_elem? xs i) (sym (slice_lent r.received s (n - s)))

@@ -61,7 +61,7 @@ module _ {T : Type 0} (k : Shape) (w : World T) (K : KeepsRule k w) where
 
   kept : (writes : List (Option T)) → IsKept (with_writes writes)
   kept writes = record {
-    graph = K.graph;
+    graph = K.shape.graph;
     cursor = K.counts.cursor;
     completed = λ h lt. (let o = receiver_of_handler k w K h lt in let a = o.2.count in let b = o.2.completed in let e = o.2.taken in omega arith);
     closed = K.flags.complete;
