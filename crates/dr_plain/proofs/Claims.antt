@@ -30,7 +30,8 @@ use Rattle.dr_plain.specs.Calls.Ends.{SenderStand, SenderEnd, sent_of}
 use Rattle.dr_plain.specs.Calls.Plans.{IsPlan}
 use Rattle.dr_plain.specs.Calls.Sending.{gate_looks, FoundRoom, LooksToClaim, TriesToClaim, ClaimCall, tests_of_claim}
 use Rattle.dr_plain.specs.Inside.Scans.{sender_saw, more_claimed, LooksAtFinals, IsEnough, IsShort}
-use Rattle.dr_plain.specs.Inside.Fits.{IsSeenLeast, SenderFields, SenderFits, TokensFit, no_lents, open_slots}
+use Rattle.dr_plain.specs.Inside.Fits.{IsSeenLeast, SenderFields, SenderFits, TokensFit, open_slots}
+use Rattle.dr_plain.specs.Inside.Hands.{no_lents}
 use Rattle.dr_lent.specs.Ends.{with_hand}
 use Rattle.dr_plain.specs.Inside.Lending.{lanes, laid_between, TokensFitBetween, AreWhole, SameBut}
 use Rattle.dr_plain.specs.Inside.Noted.{Noted, writes_from}

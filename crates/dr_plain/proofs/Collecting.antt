@@ -19,8 +19,8 @@ use Rattle.dr_plain.specs.Meaning.Shape.{Shape, handlers_of}
 use Rattle.dr_plain.specs.Meaning.Words.{cell_of}
 use Rattle.dr_plain.specs.Meaning.Records.{laid, Laid}
 use Rattle.dr_plain.specs.declared.record.SenderRecord.{SenderRecord}
-use Rattle.dr_plain.specs.Inside.Fits.{Keeps, no_lents}
-use Rattle.dr_plain.specs.Inside.Hands.{lent_by}
+use Rattle.dr_plain.specs.Inside.Fits.{Keeps}
+use Rattle.dr_plain.specs.Inside.Hands.{lent_by, no_lents}
 use Rattle.dr_plain.specs.Inside.Lending.{laid_between, AreLent, AreWhole, SameBut, lents_of, lent_at}
 use Rattle.dr_plain.proofs.Tokens.{out}
 use Rattle.dr_runs.proofs.Elements.{at_below}

@@ -27,7 +27,7 @@ use Rattle.dr_plain.specs.Calls.Ends.{ReceiverStand}
 use Rattle.dr_plain.specs.Calls.Receiving.{looked_round, received_all, AnswersAsSeen, ups_of}
 use Rattle.dr_runs.specs.OneSender.Polls.{PollLooks}
 use Rattle.dr_runs.specs.Polls.{nothing_offered}
-use Rattle.dr_plain.specs.Inside.Fits.{taken_slots, ReceiverFits}
+use Rattle.dr_plain.specs.Inside.Fits.{ReceiverFits}
 use Rattle.dr_lent.specs.Ends.{with_hand}
 use Rattle.dr_plain.specs.Inside.Polling.{receiver_saw, cursor_seen, LooksRound}
 use Rattle.dr_plain.specs.Inside.Seats.{Hand, lent_all, taken_by_poll}
@@ -165,7 +165,7 @@ module _ {T : Type 0} (e e' : ReceiverStand T) (t c room closed cursor available
         let knows : s.knows ≡ K = ap (λ (x : ReceiverStand T). x.knows) is ∙ knows_is in
         let old : drop (upto - t) e'.hand ≡ e.hand =
         ap (λ (h : Hand T). drop (upto - t) h) new_in_hand ∙ drop_seam (parts_between e'.knows t upto) e.hand (upto - t) (parts_count e'.knows t upto may.1) in
-        let hand : s.hand ≡ taken_slots K =
+        let hand : s.hand ≡ blanks_between K K.completed (length K.received) =
         ap (λ (x : ReceiverStand T). x.hand) is
         ∙ (λ i. (old ∙ F.hand ∙ ap (λ (n : ℕ). blanks_between K e.knows.completed n) (sym F.taken)) i ++ blanks_between (knows_is i) t upto)
         ∙ sym (blanks_both K e.knows.completed t upto (omega arith) (omega arith)) ∙ ap (λ (n : ℕ). blanks_between K e.knows.completed n) (sym long) in

@@ -15,7 +15,8 @@ use Rattle.dr_plain.specs.declared.record.ReceiverRecord.{ReceiverRecord}
 use Rattle.dr_plain.specs.declared.record.Step.{Step}
 use Rattle.dr_lent.specs.Ends.{HasStored, with_hand}
 use Rattle.dr_plain.specs.Calls.Ends.{ReceiverStand}
-use Rattle.dr_plain.specs.Inside.Fits.{no_lents, ReceiverFits}
+use Rattle.dr_plain.specs.Inside.Fits.{ReceiverFits}
+use Rattle.dr_plain.specs.Inside.Hands.{no_lents}
 use Rattle.dr_plain.specs.Inside.Seats.{Hand, given_by_completion}
 use Rattle.dr_plain.specs.Inside.Trades.{parts_between, blanks_between}
 use Rattle.dr_runs.proofs.Elements.{at_below}

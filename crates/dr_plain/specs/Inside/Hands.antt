@@ -8,6 +8,10 @@ use Rattle.dr_plain.specs.Meaning.Records.{Laid}
 use Rattle.dr_plain.specs.Inside.Seats.{Hand}
 
 module _ {T : Type 0} where
+  -- nothing lent, for n sequences
+  abbrev pub no_lents : ℕ → List (Laid T)
+  no_lents n = replicate n None
+
   -- every handler's slot for a sequence, with its part of this
   abbrev pub row : Shape → ℕ → Laid T → Hand T
   row k s l = stretch (λ h b. placed k h s b) 0 (replicate (handlers_of k) l)

@@ -4,9 +4,9 @@ use Rattle.dr_plain.specs.Meaning.Shape.{Shape, handlers_of}
 use Rattle.dr_plain.specs.Meaning.Words.{cell_of}
 use Rattle.dr_plain.specs.Meaning.Records.{Laid}
 use Rattle.dr_plain.specs.Calls.Ends.{SenderStand}
-use Rattle.dr_plain.specs.Inside.Fits.{no_lents, Keeps}
+use Rattle.dr_plain.specs.Inside.Fits.{Keeps}
 use Rattle.dr_lent.specs.Ends.{with_hand}
-use Rattle.dr_plain.specs.Inside.Hands.{row}
+use Rattle.dr_plain.specs.Inside.Hands.{row, no_lents}
 use Rattle.dr_plain.specs.Inside.Lending.{laid_between, lanes, TokenFits}
 use Rattle.dr_plain.specs.Inside.Seats.{Hand}
 use Rattle.dr_plain.proofs.Collecting.{between_count, between_at, blanks_count, blanks_more, keeps_by, same_none, same_more, same_next, whole_none, whole_more}

@@ -6,9 +6,9 @@ use Rattle.dr_plain.specs.Meaning.Shape.{Shape, handlers_of}
 use Rattle.dr_plain.specs.Meaning.Words.{cell_of}
 use Rattle.dr_plain.specs.Meaning.Records.{Laid}
 use Rattle.dr_plain.specs.Calls.Ends.{SenderStand}
-use Rattle.dr_plain.specs.Inside.Fits.{no_lents, Keeps}
+use Rattle.dr_plain.specs.Inside.Fits.{Keeps}
 use Rattle.dr_lent.specs.Ends.{with_hand}
-use Rattle.dr_plain.specs.Inside.Hands.{row, lent_by}
+use Rattle.dr_plain.specs.Inside.Hands.{row, lent_by, no_lents}
 use Rattle.dr_plain.specs.Inside.Lending.{lanes, IsLending}
 use Rattle.dr_plain.specs.Inside.Seats.{Hand, lent_all}
 use Rattle.dr_plain.proofs.Collecting.{blanks_at, blanks_count, same_none, same_more, same_next, lent_none, lent_more, lents_told, lent_told}
