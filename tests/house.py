@@ -39,7 +39,6 @@ ONE_MEANING = {
     "Exchange": "what brings events from producers to handlers",
     "Joined": "what came back of an exchange's workers",
     "Journal": "what keeps each event that came, in order",
-    "Names": "what a step names, for its proof alone",
     "OpenFault": "why an exchange or a file is not opened",
     "RecordFault": "why a record is not taken",
     "RunOutcome": "what came of a run in one call",

@@ -3,7 +3,6 @@
 use dr_graph::GraphFault;
 use dr_lock::AuditFault;
 use dr_meaning::{OpenFault, Refusal, Trouble};
-use dr_ring::RingFault;
 use std::alloc::{AllocError, AllocFailed};
 use std::{fmt, io};
 
@@ -15,7 +14,6 @@ pub enum Fault {
     Outside,
     Thread,
     Graph(GraphFault),
-    Ring(RingFault),
     Open(OpenFault),
     /// An end is missing.
     Ends,
@@ -40,7 +38,7 @@ impl Fault {
     pub fn status(self) -> u8 {
         match self {
             Fault::Usage => 1,
-            Fault::Memory | Fault::Graph(_) | Fault::Ring(_) | Fault::Open(_) => 3,
+            Fault::Memory | Fault::Graph(_) | Fault::Open(_) => 3,
             Fault::Outside | Fault::Thread => 4,
             _ => 5,
         }
@@ -53,7 +51,6 @@ impl Fault {
             Fault::Outside => "cannot write",
             Fault::Thread => "no thread",
             Fault::Graph(fault) => fault.name(),
-            Fault::Ring(fault) => fault.name(),
             Fault::Open(fault) => fault.name(),
             Fault::Ends => "no end of the exchange",
             Fault::Audit(fault) => fault.name(),
@@ -94,12 +91,6 @@ impl From<io::Error> for Fault {
 impl From<GraphFault> for Fault {
     fn from(fault: GraphFault) -> Fault {
         Fault::Graph(fault)
-    }
-}
-
-impl From<RingFault> for Fault {
-    fn from(fault: RingFault) -> Fault {
-        Fault::Ring(fault)
     }
 }
 

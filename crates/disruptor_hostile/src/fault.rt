@@ -5,7 +5,6 @@ use dr_disruptor_lock::{HistoryFault, LockedFault};
 use dr_graph::GraphFault;
 use dr_lock::AuditFault;
 use dr_meaning::{OpenFault, Refusal};
-use dr_ring::RingFault;
 use dr_seq::SizeFault;
 use std::alloc::{AllocError, AllocFailed};
 use std::{fmt, io};
@@ -84,15 +83,6 @@ impl From<OpenFault> for Fault {
     fn from(fault: OpenFault) -> Fault {
         match fault {
             OpenFault::NoMemory => Fault::Memory,
-            _ => Fault::Refused(fault.name()),
-        }
-    }
-}
-
-impl From<RingFault> for Fault {
-    fn from(fault: RingFault) -> Fault {
-        match fault {
-            RingFault::NoMemory => Fault::Memory,
             _ => Fault::Refused(fault.name()),
         }
     }

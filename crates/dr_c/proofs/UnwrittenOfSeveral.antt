@@ -38,7 +38,7 @@ found_in such v (p ∷ own) (x ∷ writes) (suc i) o w there at = found_in such 
 
 -- An end has the sequences that it had, of the same plan.
 abbrev pub StaysOwn : SenderEnd Event → SenderEnd Event → Type 0
-StaysOwn e a = (a.knows.own ≡ e.knows.own) × (a.plan ≡ e.plan)
+StaysOwn e a = (a.knows.own ≡ e.knows.own) × (a.knows.plan ≡ e.knows.plan)
 
 module _ (C : Event → Event → Type 0) (a b : SenderEnd Event) (lo k : ℕ) where
   pub stays_on : (e : SenderEnd Event) (result : Result (Unit {0}) Refusal) → StaysOwn e a → UpdateCall C a k b result → StaysOwn e b
@@ -79,8 +79,8 @@ same_stage own q t u i j once here there =
     ap (λ (o : Own Event). o.stage)
     (some-injective record { sequence = q; stage = t } record { sequence = q; stage = u } (sym here ∙ ap (λ (n : ℕ). get_elem? own n) at ∙ there))
 
-by_sight : (a : SenderEnd Event) (k : ℕ) (x : Sight Event) (refusal : Refusal) → HasEachOnce a.knows.own → k < a.plan.limit → IsSight a k x → IsAsked x
-    → IsFirst MayHold MayFail refusal (write_causes (tests_of_write a.plan k x)) → (t : Stage Event) → Owns a.knows k t → is_published t ≡ true
+by_sight : (a : SenderEnd Event) (k : ℕ) (x : Sight Event) (refusal : Refusal) → HasEachOnce a.knows.own → k < a.knows.plan.limit → IsSight a k x → IsAsked x
+    → IsFirst MayHold MayFail refusal (write_causes (tests_of_write a.knows.plan k x)) → (t : Stage Event) → Owns a.knows k t → is_published t ≡ true
 by_sight a k (Has u w) refusal once below sees asked (inl h) t own = absurd (false≢true h.0)
 by_sight a k (Has u w) refusal once below sees asked (inr (x, inl h)) t own = absurd (false≢true h.0)
 by_sight a k (Has u w) refusal once below sees asked (inr (x, inr (y, inl h))) t own =
@@ -91,7 +91,7 @@ by_sight a k (Found before m after) refusal once below sees asked h t own = (see
 by_sight a k Never refusal once below sees asked h t own = absurd (omega arith)
 by_sight a k Unasked refusal once below sees asked h t own = absurd asked
 
-module _ (C : Event → Event → Type 0) (e a b : SenderEnd Event) (lo upto k : ℕ) (once : HasEachOnce e.knows.own) (within : upto ≤ e.plan.limit)
+module _ (C : Event → Event → Type 0) (e a b : SenderEnd Event) (lo upto k : ℕ) (once : HasEachOnce e.knows.own) (within : upto ≤ e.knows.plan.limit)
     (stays : StaysOwn e a) (low : lo ≤ k) (written : OwnAreWritten a lo k) where
   pub writes_all : upto ≤ k → WritesOwn a lo upto
   writes_all done = (k, low, written, inl done)
@@ -99,8 +99,8 @@ module _ (C : Event → Event → Type 0) (e a b : SenderEnd Event) (lo upto k :
   writes_refused : (refusal : Refusal) → k < upto → UpdateCall C a k b (Err refusal) → WritesOwn b lo upto
   writes_refused refusal less call =
       let here : HasEachOnce a.knows.own = subst (λ (own : List (Own Event)). HasEachOnce own) (sym stays.0) once in
-      let limit : e.plan.limit ≡ a.plan.limit = ap (λ (p : Shape Event). p.limit) (sym stays.1) in
-      let below : k < a.plan.limit = omega arith in (
+      let limit : e.knows.plan.limit ≡ a.knows.plan.limit = ap (λ (p : Shape Event). p.limit) (sym stays.1) in
+      let below : k < a.knows.plan.limit = omega arith in (
         k,
         low,
         written_still C a b lo k refusal written call,
@@ -156,12 +156,12 @@ module _ (e : SenderEnd Event) (lo hi upto : ℕ) (beyond : hi < upto) (wrote : 
 
   pub never_unwritten : (e' : SenderEnd Event) (result : Result (Unit {0}) Refusal) → PublishCall e lo hi e' result → result ≢ Err NotWritten
   never_unwritten e' result call is =
-      refused (subst (λ (r : Result (Unit {0}) Refusal). IsAnswerOf (publish_causes lo hi (tests_of_publication e.plan lo hi call.seen)) (as_end r)) is call.answer)
+      refused (subst (λ (r : Result (Unit {0}) Refusal). IsAnswerOf (publish_causes lo hi (tests_of_publication e.knows.plan lo hi call.seen)) (as_end r)) is call.answer)
     where
-      each : (s : ℕ) → lo ≤ s → s < lo + (hi + 1 - lo) → MayHold (stretch_tests e.plan lo call.seen s).unwritten
-          → MayFail (stretch_tests e.plan lo call.seen s).published → MayFail (stretch_tests e.plan lo call.seen s).not_owned → ⊥
+      each : (s : ℕ) → lo ≤ s → s < lo + (hi + 1 - lo) → MayHold (stretch_tests e.knows.plan lo call.seen s).unwritten
+          → MayFail (stretch_tests e.knows.plan lo call.seen s).published → MayFail (stretch_tests e.knows.plan lo call.seen s).not_owned → ⊥
       each s low less holds fresh own =
-          let one = in_hand e.plan s (s == lo + call.seen.ready) call.seen.stop holds fresh own in
+          let one = in_hand e.knows.plan s (s == lo + call.seen.ready) call.seen.stop holds fresh own in
           let at : s ≡ lo + call.seen.ready = eqb-true s (lo + call.seen.ready) one.0 in
           let has : Holds e s one.1 one.2 =
           subst (λ (n : ℕ). Holds e n one.1 one.2) (sym at)
@@ -169,8 +169,8 @@ module _ (e : SenderEnd Event) (lo hi upto : ℕ) (beyond : hi < upto) (wrote : 
           not_found s one.1 one.2 low (omega arith) has one.4 one.5
           (λ q from before. let it = call.sees.ready q from (omega arith) in (it.0, (it.2.0, it.2.1), it.3))
 
-      refused : IsFirst MayHold MayFail NotWritten (publish_causes lo hi (tests_of_publication e.plan lo hi call.seen)) → ⊥
+      refused : IsFirst MayHold MayFail NotWritten (publish_causes lo hi (tests_of_publication e.knows.plan lo hi call.seen)) → ⊥
       refused (inl h) = not_it NoProducer refl h.1
       refused (inr (a, inl h)) = not_it BadCount refl h.1
       refused (inr (a, inr (b, inl h))) = not_it NotClaimed refl h.1
-      refused (inr (a, inr (b, inr (c, h)))) = none_of (stretch_tests e.plan lo call.seen) (tests_of_publication e.plan lo hi call.seen).out_of_order lo (hi + 1 - lo) each h
+      refused (inr (a, inr (b, inr (c, h)))) = none_of (stretch_tests e.knows.plan lo call.seen) (tests_of_publication e.knows.plan lo hi call.seen).out_of_order lo (hi + 1 - lo) each h

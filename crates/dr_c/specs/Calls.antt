@@ -8,12 +8,14 @@ use Rattle.dr_meaning.specs.declared.refusal.Refusal.{Refusal}
 use Rattle.dr_meaning.specs.declared.refusal.Refusal.TheVariants.{NotWritten}
 use Rattle.dr_ring.specs.declared.record.Step.TheVariants.{HalterHalts}
 use Rattle.dr_ring.specs.Meaning.Records.{claimed, halter_halted}
-use Rattle.dr_ring.specs.Calls.Ends.{SenderEnd, ReceiverEnd, HalterEnd, HasStored}
+use Rattle.dr_runs.specs.Ends.{HasStored}
+use Rattle.dr_ring.specs.Calls.Ends.{SenderEnd, ReceiverEnd, HalterEnd}
 use Rattle.dr_ring.specs.Calls.Sending.{ClaimCall, WriteCall, PublishCall, CloseCall, ClosesOnceDone}
 use Rattle.dr_ring.specs.Calls.Receiving.{PollCall, CompleteCall}
 use Rattle.dr_meaning.specs.declared.claim_fault.ClaimFault.{ClaimFault}
 use Rattle.dr_plain_senders.specs.declared.record.Step.TheVariants as steps_of_several
 use Rattle.dr_plain_senders.specs.Meaning.Records as records_of_several
+use Rattle.dr_lent.specs.Ends as lent
 use Rattle.dr_plain_senders.specs.Calls.Ends as several
 use Rattle.dr_plain_senders.specs.Calls.Sending as claims_of_several
 use Rattle.dr_plain_senders.specs.Calls.Writing as writes_of_several
@@ -83,10 +85,10 @@ abbrev pub HaltsBy : End → End → ℕ → Type 0
 HaltsBy (Halter h) end' number = (h' : HalterEnd) × (end' ≡ Halter h') × (number ≡ 0) × HasStored h HalterHalts (halter_halted h.knows) h'
 HaltsBy (HalterOfSeveral h) end' number =
     (h' : several.HalterEnd Event) × (found : ℕ) × (end' ≡ HalterOfSeveral h') × (number ≡ 0)
-    × several.HasStored h steps_of_several.HalterHalts (records_of_several.halter_halted h.knows found) h.hand h'
+    × lent.HasStored h steps_of_several.HalterHalts (records_of_several.halter_halted h.knows found) h.hand h'
 HaltsBy (HalterOfBytes h) end' number =
     (h' : plain.HalterEnd (List ℕ)) × (end' ≡ HalterOfBytes h') × (number ≡ 0)
-    × plain.HasStored h steps_of_bytes.HalterHalts (records_of_bytes.halter_halted h.knows) h.hand h'
+    × lent.HasStored h steps_of_bytes.HalterHalts (records_of_bytes.halter_halted h.knows) h.hand h'
 HaltsBy other end' number = (end' ≡ other) × (number ≡ wrong_end)
 
 -- the first sequence of a claim; a refused one leaves the place as it was
@@ -126,7 +128,7 @@ PublishesSlotsBy lo hi number (SenderOfBytes w) end' =
 PublishesSlotsBy lo hi number (SenderOfSeveral s) end' =
     (s' : several.SenderEnd Event) × (answer : Result (Unit {0}) Refusal) × (end' ≡ SenderOfSeveral s') × (number ≡ told answer)
     × PublishesAsLeft LeavesOfSeveral (λ m m'. publications_of_several.PublishCall m lo hi m' answer) lo hi s s'
-    × (HasEachOnce s.knows.own → hi < s.plan.limit → hi < 2 ^ 62 → answer ≢ Err NotWritten)
+    × (HasEachOnce s.knows.own → hi < s.knows.plan.limit → hi < 2 ^ 62 → answer ≢ Err NotWritten)
 PublishesSlotsBy lo hi number other end' = (end' ≡ other) × (number ≡ wrong_end)
 
 -- only a ring of one sender is closed: one of several ends with its halt

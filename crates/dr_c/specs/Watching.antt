@@ -6,6 +6,7 @@ use Rattle.dr_runs.specs.OneSender.Words.{cursor_word, count_word}
 use Rattle.dr_plain_senders.specs.Meaning.Shape as shape_of_several
 use Rattle.dr_plain_senders.specs.Meaning.Words as words_of_several
 use Rattle.dr_plain_senders.specs.Meaning.Records as records_of_several
+use Rattle.dr_lent.specs.Ends as lent
 use Rattle.dr_plain_senders.specs.Calls.Ends as several
 use Rattle.dr_plain.specs.Meaning.Shape.{handlers_of}
 use Rattle.dr_plain.specs.Meaning.Records as records_of_bytes
@@ -20,23 +21,23 @@ use Rattle.dr_c.specs.Numbers.{wrong_end, no_handler}
 abbrev pub TellsCursorBy : ℕ → ℕ → ℕ → End → End → Type 0
 TellsCursorBy count count' number (HalterOfSeveral h) end' =
     (h' : several.HalterEnd Event) × (found : ℕ) × (end' ≡ HalterOfSeveral h') × (number ≡ 0) × (count' ≡ words_of_several.claimed_in found)
-    × several.HasLoaded h (records_of_several.halter_looked h.knows words_of_several.claim_word found) h.hand h'
+    × lent.HasLoaded h (records_of_several.halter_looked h.knows words_of_several.claim_word found) h.hand h'
     × (words_of_several.claimed_in (last_look 0 h.knows.looks words_of_several.claim_word) ≤ count')
 TellsCursorBy count count' number (HalterOfBytes h) end' =
     (h' : plain.HalterEnd (List ℕ)) × (end' ≡ HalterOfBytes h') × (number ≡ 0)
-    × plain.HasLoaded h (records_of_bytes.halter_looked h.knows cursor_word count') h.hand h' × FindsMore h.knows.looks cursor_word count'
+    × lent.HasLoaded h (records_of_bytes.halter_looked h.knows cursor_word count') h.hand h' × FindsMore h.knows.looks cursor_word count'
 TellsCursorBy count count' number other end' = (end' ≡ other) × (number ≡ wrong_end) × (count' ≡ count)
 
 -- what a handler completed, if there is one of this number
 abbrev pub TellsCompletedOfSeveral : ℕ → ℕ → ℕ → ℕ → several.HalterEnd Event → several.HalterEnd Event → Type 0
 TellsCompletedOfSeveral handler count count' number h h' = let word : ℕ = words_of_several.count_word handler in
-    ((handler < shape_of_several.handlers_of h.plan) × (number ≡ 0) × several.HasLoaded h (records_of_several.halter_looked h.knows word count') h.hand h'
+    ((handler < shape_of_several.handlers_of h.knows.plan) × (number ≡ 0) × lent.HasLoaded h (records_of_several.halter_looked h.knows word count') h.hand h'
     × FindsMore h.knows.looks word count')
-    ⊎ ((shape_of_several.handlers_of h.plan ≤ handler) × (number ≡ no_handler) × (count' ≡ count) × (h' ≡ h))
+    ⊎ ((shape_of_several.handlers_of h.knows.plan ≤ handler) × (number ≡ no_handler) × (count' ≡ count) × (h' ≡ h))
 
 abbrev pub TellsCompletedOfBytes : ℕ → ℕ → ℕ → ℕ → plain.HalterEnd (List ℕ) → plain.HalterEnd (List ℕ) → Type 0
 TellsCompletedOfBytes handler count count' number h h' = let word : ℕ = count_word handler in
-    ((handler < handlers_of h.knows.plan) × (number ≡ 0) × plain.HasLoaded h (records_of_bytes.halter_looked h.knows word count') h.hand h'
+    ((handler < handlers_of h.knows.plan) × (number ≡ 0) × lent.HasLoaded h (records_of_bytes.halter_looked h.knows word count') h.hand h'
     × FindsMore h.knows.looks word count')
     ⊎ ((handlers_of h.knows.plan ≤ handler) × (number ≡ no_handler) × (count' ≡ count) × (h' ≡ h))
 

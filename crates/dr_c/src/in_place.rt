@@ -21,7 +21,7 @@ fn leave(sender: &mut Sender<Event>, sequence: u64) -> Result<(), Refusal>
 // Writes the events of the sequences from `lo` up to before `upto` as they lie, up to the first that is refused.
 fn leave_all(sender: &mut Sender<Event>, lo: u64, upto: u64)
     ensures left { (count : ℕ) × (count ≤ upto - lo) × FoldsTo LeavesOfSeveral sender.old (range_with_len lo count) sender.new }
-    ensures written { HasEachOnce sender.old.knows.own → upto ≤ sender.old.plan.limit → WritesOwn sender.new lo upto }
+    ensures written { HasEachOnce sender.old.knows.own → upto ≤ sender.old.knows.plan.limit → WritesOwn sender.new lo upto }
 {
     for sequence in lo..upto {
         if leave(sender, sequence).is_err() {
@@ -36,7 +36,7 @@ pub fn publish_slots(sender: &mut Sender<Event>, lo: u64, hi: u64) -> Result<(),
     // Sequences from `lo` on, none beyond `hi`, are written as they lie, and then it is the ring's publication.
     ensures call { PublishesAsLeft LeavesOfSeveral (λ m m'. PublishCall m lo hi m' result) lo hi sender.old sender.new }
     // Below the limit and 2^62, a sender that has each sequence once is not told that one is not written.
-    ensures written { HasEachOnce sender.old.knows.own → hi < sender.old.plan.limit → hi < 2 ^ 62 → result ≢ Err NotWritten }
+    ensures written { HasEachOnce sender.old.knows.own → hi < sender.old.knows.plan.limit → hi < 2 ^ 62 → result ≢ Err NotWritten }
 {
     leave_all(sender, lo, hi.saturating_add(1));
     sender.publish(lo, hi)

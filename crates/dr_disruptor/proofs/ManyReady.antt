@@ -17,6 +17,7 @@ use Rattle.dr_plain_senders.specs.Meaning.Shape.{Shape, handlers_of}
 use Rattle.dr_plain_senders.specs.Calls.Ends.{HalterEnd, ReceiverEnd, SenderEnd, receiver_place, received_of, sender_place}
 use Rattle.dr_plain_senders.specs.Calls.Making.{receiver_at_ring, sender_at_ring}
 use Rattle.dr_plain_senders.specs.Calls.Settling.{AreAllEnds, HasRun}
+use Rattle.dr_plain_senders.specs.declared.record.HalterRecord.{HalterRecord}
 use Rattle.dr_plain_senders.specs.declared.record.ReceiverRecord.{ReceiverRecord}
 use Rattle.dr_disruptor.specs.declared.fault.RunFault.TheVariants as fault
 use Rattle.dr_disruptor.specs.declared.feeds.Delivered.{Delivered}
@@ -39,18 +40,18 @@ module _ {E : Type 0} where
   is_told e = e.knows.told
 
   -- the ends of a new ring have taken and sent nothing
-  pub all_idle : (ring : TableId) (k : Shape E) (a n : ℕ) → All (λ (e : ReceiverEnd E). IsIdle (received_by e)) (map (receiver_at_ring ring k) (fresh_receivers a n))
+  pub all_idle : (ring : TableId) (k : Shape E) (a n : ℕ) → All (λ (e : ReceiverEnd E). IsIdle (received_by e)) (map (λ r. receiver_at_ring ring r) (fresh_receivers k a n))
   all_idle ring k a zero = All-nil (λ (e : ReceiverEnd E). IsIdle (received_by e))
   all_idle ring k a (suc n) = All-cons (λ (e : ReceiverEnd E). IsIdle (received_by e)) _ _ refl (all_idle ring k (suc a) n)
 
   -- a sender that owns nothing
-  unsent : (ring : TableId) (k : Shape E) → 0 < length k.begun → (p : ℕ) → IsUnsent (sender_at_ring ring k (fresh_sender p))
+  unsent : (ring : TableId) (k : Shape E) → 0 < length k.begun → (p : ℕ) → IsUnsent (sender_at_ring ring (fresh_sender k p))
   unsent ring k there p =
       let one : has_one_stretch k [] [] ≡ true =
       and_from (nat_lt 0 (length k.begun) && true) true (and_from (nat_lt 0 (length k.begun)) true (lt-ltb 0 (length k.begun) there) refl) refl in
       (rw one refl, rw one refl)
 
-  pub all_unsent : (ring : TableId) (k : Shape E) → 0 < length k.begun → (a n : ℕ) → All (λ (s : SenderEnd E). IsUnsent s) (map (sender_at_ring ring k) (fresh_senders a n))
+  pub all_unsent : (ring : TableId) (k : Shape E) → 0 < length k.begun → (a n : ℕ) → All (λ (s : SenderEnd E). IsUnsent s) (map (λ r. sender_at_ring ring r) (fresh_senders k a n))
   all_unsent ring k there a zero = All-nil (λ (s : SenderEnd E). IsUnsent s)
   all_unsent ring k there a (suc n) = All-cons (λ (s : SenderEnd E). IsUnsent s) _ _ (unsent ring k there a) (all_unsent ring k there (suc a) n)
 
@@ -68,7 +69,7 @@ module _ {E : Type 0} where
         let same : b.0.sender ≡ e = some-injective b.0.sender e (sym (at_map (λ b. b.sender) sent p b.0 b.1) ∙ at) in
         let (feed, one, at_feed, at_one, gave) = are.each p b.0 b.1 in
         let leaves = subst (λ (f : F). LeavesSender (gives f)) (value_at feeds p feed feed at_feed) (leave p feed (at_below feeds p feed at_feed)) in
-        subst (λ (x : SenderEnd E). sender_place x ≡ (t.ring, t.plan, p)) same (leaves one b.0.answer b.0.sender gave.0 ∙ all.each_sender p one at_one);
+        subst (λ (x : SenderEnd E). sender_place x ≡ (t.ring, t.knows.plan, p)) same (leaves one b.0.answer b.0.sender gave.0 ∙ all.each_sender p one at_one);
     each_receiver = all.each_receiver;
   }
 
@@ -96,8 +97,8 @@ module _ {E : Type 0} where
   -- a halted ring's ends are those that they were
   pub halted_back : (ss : List (SenderEnd E)) (rs : List (ReceiverEnd E)) (t t' : HalterEnd E) → HaltsOnly t t' → AreAllEnds ss rs t → AreAllEnds ss rs t'
   halted_back ss rs t t' halts all =
-      let ring = sym halts.1.0.0 in
-      let plan = sym halts.1.0.1 in
+      let ring = sym halts.1.0 in
+      let plan = sym (ap (λ (r : HalterRecord E). r.plan) halts.1.1) in
       record {
         senders = all.senders ∙ ap (λ (k : Shape E). k.senders) plan;
         receivers = all.receivers ∙ ap handlers_of plan;

@@ -14,12 +14,14 @@ use Rattle.dr_workers.specs.Meaning.Merge.{IsMerge}
 use Rattle.dr_runs.proofs.Elements.{there, at_below, value_at}
 use Rattle.dr_runs.proofs.Lists.{map_there}
 use Rattle.dr_runs.proofs.Lists as lists
+use Rattle.dr_lent.specs.Ends.{at_ring}
 use Rattle.dr_lent.specs.declared.lent.Lent.{Lent}
 use Rattle.dr_plain_senders.specs.declared.record.Stage.{Stage}
 use Rattle.dr_plain_senders.specs.declared.record.SenderRecord.{SenderRecord}
+use Rattle.dr_plain_senders.specs.declared.record.HalterRecord.{HalterRecord}
 use Rattle.dr_plain_senders.specs.declared.record.ReceiverRecord.{ReceiverRecord}
 use Rattle.dr_plain_senders.specs.declared.settled.Settled.{Settled}
-use Rattle.dr_plain_senders.specs.Meaning.Moments.{Runs, fresh_receiver, fresh_receivers, fresh_sender, fresh_senders, new_world}
+use Rattle.dr_plain_senders.specs.Meaning.Moments.{Runs, fresh_halter, fresh_receiver, fresh_receivers, fresh_sender, fresh_senders, new_world}
 use Rattle.dr_lent.specs.Events.{events_of}
 use Rattle.dr_plain_senders.specs.Meaning.Records.{is_published}
 use Rattle.dr_plain_senders.specs.Meaning.Rule.{IsOutWith, KeepsRule, World}
@@ -27,7 +29,7 @@ use Rattle.dr_plain_senders.specs.Meaning.Settling.{Settles, published_events}
 use Rattle.dr_plain_senders.specs.Meaning.Shape.{IsShape, Shape, handlers_of}
 use Rattle.dr_plain_senders.specs.Calls.Ends.{EndPlace, HalterEnd, ReceiverEnd, SenderEnd, receiver_place, received_of}
 use Rattle.dr_plain_senders.specs.Calls.Settling.{GivesBack}
-use Rattle.dr_plain_senders.specs.Calls.Making.{AreFreshEnds, at_ring, receiver_at_ring, sender_at_ring}
+use Rattle.dr_plain_senders.specs.Calls.Making.{AreFreshEnds, receiver_at_ring, sender_at_ring}
 use Rattle.dr_plain_senders.proofs.Beginning.{kept_new_world, receiver_fresh, receivers_count, sender_fresh, senders_count}
 use Rattle.dr_plain_senders.proofs.Keeps.{keeps_runs}
 use Rattle.dr_plain_senders.proofs.Places.{one_value}
@@ -57,7 +59,7 @@ module _ {E : Type 0} where
 
   -- what a sender published are the events of its own sequences
   published_is : (e : SenderEnd E) → (sending_of e).published ≡ events_in e.knows.own
-  published_is e = elim (cases_Bool (has_one_stretch e.plan e.knows.own e.writes)) [ inl one ↦ rw one refl | inr more ↦ rw more refl ]
+  published_is e = elim (cases_Bool (has_one_stretch e.knows.plan e.knows.own e.writes)) [ inl one ↦ rw one refl | inr more ↦ rw more refl ]
 
 module _ {E A B F : Type 0} (goes : Relation E A) (room : ℕ) (k : Shape E) (blank : E) (gives : F → SenderEnd E → B → SenderEnd E → Type 0) (feeds : List F)
     (starts : List A) (ss : List (SenderEnd E)) (rs : List (ReceiverEnd E)) (t : HalterEnd E) (ws : List (Worker (ReceiverEnd E) A)) (sent : List (Delivered E B))
@@ -83,10 +85,10 @@ module _ {E A B F : Type 0} (goes : Relation E A) (room : ℕ) (k : Shape E) (bl
   is_told e = e.knows.told
 
   same_ring : t.ring ≡ ring
-  same_ring = sym wound.halts.1.0.0
+  same_ring = sym wound.halts.1.0
 
-  pub plan : wound.after.plan ≡ k
-  plan = wound.halts.1.0.1 ∙ ap (λ (e : HalterEnd E). e.plan) fresh.halter
+  pub plan : wound.after.knows.plan ≡ k
+  plan = ap (λ (r : HalterRecord E). r.plan) wound.halts.1.1 ∙ ap (λ (e : HalterEnd E). e.knows.plan) fresh.halter
 
   runs : Runs k wound.ends.run.steps wound.ends.run.entries (new_world k) w
   runs = subst (λ (q : Shape E). Runs q wound.ends.run.steps wound.ends.run.entries (new_world q) w) plan wound.ends.run.runs
@@ -100,7 +102,7 @@ module _ {E A B F : Type 0} (goes : Relation E A) (room : ℕ) (k : Shape E) (bl
   -- the senders
 
   pub many_senders : length sent ≡ k.senders
-  many_senders = are.many ∙ ap length fresh.senders ∙ length-map (fresh_senders 0 k.senders) (sender_at_ring t.ring k) ∙ senders_count E 0 k.senders
+  many_senders = are.many ∙ ap length fresh.senders ∙ length-map (fresh_senders k 0 k.senders) (λ r. sender_at_ring t.ring r) ∙ senders_count E k 0 k.senders
 
   pub record SenderPlace (p : ℕ) : Type 0 where
     pub back : Delivered E B
@@ -116,10 +118,10 @@ module _ {E A B F : Type 0} (goes : Relation E A) (room : ℕ) (k : Shape E) (bl
       let b = there sent p (omega arith) in
       let (feed, e, at_feed, at_given, sending) = are.each p b.0 b.1 in
       let at_new = ap (λ (l : List (SenderEnd E)). get_elem? l p) (sym fresh.senders) ∙ at_given in
-      let from = lists.at_map (sender_at_ring t.ring k) (fresh_senders 0 k.senders) p e at_new in
+      let from = lists.at_map (λ (r : SenderRecord E). sender_at_ring t.ring r) (fresh_senders k 0 k.senders) p e at_new in
       let z : 0 + p ≡ p = omega arith in
       let new : e ≡ new_sender ring k p =
-      sym from.2 ∙ ap (sender_at_ring t.ring k) (sender_fresh 0 k.senders p from.0 from.1 ∙ ap fresh_sender z)
+      sym from.2 ∙ ap (λ (r : SenderRecord E). sender_at_ring t.ring r) (sender_fresh k 0 k.senders p from.0 from.1 ∙ ap (fresh_sender k) z)
       ∙ ap (λ (r : TableId). new_sender r k p) same_ring in
       record {
         back = b.0;
@@ -134,13 +136,13 @@ module _ {E A B F : Type 0} (goes : Relation E A) (room : ℕ) (k : Shape E) (bl
   -- the handlers
 
   -- each end that was given is the new receiver at its place
-  new_ends : (h : ℕ) (e : ReceiverEnd E) → get_elem? (map given_end ws) h ≡ some e → e ≡ receiver_at_ring ring k (fresh_receiver h)
+  new_ends : (h : ℕ) (e : ReceiverEnd E) → get_elem? (map given_end ws) h ≡ some e → e ≡ receiver_at_ring ring (fresh_receiver k h)
   new_ends h e at =
       let at_given = ap (λ (l : List (ReceiverEnd E)). get_elem? l h) (sym (ends ∙ fresh.receivers)) ∙ at in
-      let from = lists.at_map (receiver_at_ring t.ring k) (fresh_receivers 0 (handlers_of k)) h e at_given in
+      let from = lists.at_map (λ (r : ReceiverRecord E). receiver_at_ring t.ring r) (fresh_receivers k 0 (handlers_of k)) h e at_given in
       let z : 0 + h ≡ h = omega arith in
-      sym from.2 ∙ ap (receiver_at_ring t.ring k) (receiver_fresh 0 (handlers_of k) h from.0 from.1 ∙ ap fresh_receiver z)
-      ∙ ap (λ (r : TableId). receiver_at_ring r k (fresh_receiver h)) same_ring
+      sym from.2 ∙ ap (λ (r : ReceiverRecord E). receiver_at_ring t.ring r) (receiver_fresh k 0 (handlers_of k) h from.0 from.1 ∙ ap (fresh_receiver k) z)
+      ∙ ap (λ (r : TableId). receiver_at_ring r (fresh_receiver k h)) same_ring
 
   -- and the end of each handler is that of its place
   served_at_places : (given : List A) → given ≡ starts → AreServed receiver_place received_by is_told SawSome does_in_place goes room (new_receivers ring k) given served
@@ -152,7 +154,7 @@ module _ {E A B F : Type 0} (goes : Relation E A) (room : ℕ) (k : Shape E) (bl
   many_served : length served ≡ handlers_of k
   many_served =
       wound.kept.many ∙ ap length (ends ∙ fresh.receivers)
-      ∙ length-map (fresh_receivers 0 (handlers_of k)) (receiver_at_ring t.ring k) ∙ receivers_count E 0 (handlers_of k)
+      ∙ length-map (fresh_receivers k 0 (handlers_of k)) (λ r. receiver_at_ring t.ring r) ∙ receivers_count E k 0 (handlers_of k)
 
   abbrev outlets : List (ReceiverEnd E)
   outlets = map (λ (s : Served (ReceiverEnd E) A). s.outlet) served
@@ -161,7 +163,7 @@ module _ {E A B F : Type 0} (goes : Relation E A) (room : ℕ) (k : Shape E) (bl
   at_world h e at = ap (λ (l : List (ReceiverRecord E)). get_elem? l h) wound.ends.run.receivers ∙ map_there (λ (x : ReceiverEnd E). x.knows) outlets h e at
 
   record Drained (e : ReceiverEnd E) : Type 0 where
-    plan_is : e.plan ≡ k
+    plan_is : e.knows.plan ≡ k
     events_are : e.knows.received ≡ published_events w
     all : length e.knows.received ≡ length w.stages
 
@@ -170,7 +172,7 @@ module _ {E A B F : Type 0} (goes : Relation E A) (room : ℕ) (k : Shape E) (bl
       let (given, at_given, place, told, idle) = end_back receiver_place received_by is_told SawSome does_in_place goes room (map given_end ws) (map given_handler ws) served wound.kept h e at in
       let all = (settles.each h e.knows (at_world h e at)).drained told in
       record {
-        plan_is = ap (λ (q : EndPlace E). q.1) place ∙ ap (λ (x : ReceiverEnd E). x.plan) (new_ends h given at_given);
+        plan_is = ap (λ (q : EndPlace E). q.1) place ∙ ap (λ (x : ReceiverEnd E). x.knows.plan) (new_ends h given at_given);
         events_are = all.0;
         all = all.1;
       }
@@ -240,8 +242,8 @@ module _ {E A B F : Type 0} (goes : Relation E A) (room : ℕ) (k : Shape E) (bl
   pub claimed_all : settled.claimed ≡ length events
   claimed_all = wound.ends.run.came.claims ∙ sym (length-map w.stages (shown blank))
 
-  pub halts_new : HaltsOnly (at_ring ring k record { looks = [] }) wound.after
-  halts_new = subst (λ (e : HalterEnd E). HaltsOnly e wound.after) (fresh.halter ∙ ap (λ (r : TableId). at_ring r k record { looks = [] }) same_ring) wound.halts
+  pub halts_new : HaltsOnly (at_ring ring (fresh_halter k)) wound.after
+  halts_new = subst (λ (e : HalterEnd E). HaltsOnly e wound.after) (fresh.halter ∙ ap (λ (r : TableId). at_ring r (fresh_halter k)) same_ring) wound.halts
 
   -- so the run is over a new ring of this shape
   pub outcome_over : {T : Type 0} (listed : T → List A) (went : ℕ → List E → T → T → Type 0) (team after : T) (list : Vec B) → list.items ≡ answers → length feeds ≡ k.senders

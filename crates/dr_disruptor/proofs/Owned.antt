@@ -185,4 +185,4 @@ module _ {T : Type 0} where
 
   pub are_own : (k : Shape T) (steps : List (Step T)) (es : Transcript T) (u : World T) → IsShape k → Runs k steps es (new_world k) u → AreOwn u
   are_own k steps es u shape R =
-      owns_runs k steps es (new_world k) u R (kept_new_world T k shape) (λ p r at. ap (λ (x : SenderRecord T). x.own) (sender_fresh 0 k.senders p r at))
+      owns_runs k steps es (new_world k) u R (kept_new_world T k shape) (λ p r at. ap (λ (x : SenderRecord T). x.own) (sender_fresh k 0 k.senders p r at))

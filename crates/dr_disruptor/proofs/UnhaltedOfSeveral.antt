@@ -54,10 +54,10 @@ module _ {E : Type 0} where
 
   stores_more : (a b : SenderEnd E) (call : InPlaceInletCall) → sends_in_place a call b → StoresMore a.stored b.stored
   stores_more a b (ClaimsStretch n answer) is =
-      (is.0.steps, is.0.stored, claim_steps a.plan a.knows.number n is.0.seen is.0.steps answer is.0.looks)
+      (is.0.steps, is.0.stored, claim_steps a.knows.plan a.knows.number n is.0.seen is.0.steps answer is.0.looks)
   stores_more a b (ChangesEvent s) is = ([], is.4.stored ∙ sym (append-nil a.stored), no_steps)
   stores_more a b (PublishesFilled lo hi) is =
-      (is.steps, is.stored, publication_steps a.plan a.knows.number lo (events_of is.lents) is.steps is.published)
+      (is.steps, is.stored, publication_steps a.knows.plan a.knows.number lo (events_of is.lents) is.steps is.published)
 
   stores_all : (a b : SenderEnd E) (calls : List InPlaceInletCall) → CallsLead sends_in_place a calls b → StoresMore a.stored b.stored
   stores_all a b [] lead = ([], ap (λ (e : SenderEnd E). e.stored) lead ∙ sym (append-nil a.stored), no_steps)

@@ -1,5 +1,5 @@
 -- What came of a run with several senders: what each handler went through, and the run of the ring.
-use Rattle.std.specs.Prelude.{◌≡◌, ℕ, ◌≤◌, ◌==◌, ◌^◌, if◌then◌else◌, List, [], length, map}
+use Rattle.std.specs.Prelude.{◌≡◌, ℕ, ◌≤◌, ◌==◌, ◌^◌, if◌then◌else◌, List, length, map}
 use denote.RawPtr.{Ptr}
 use mathlib.Core.Option.{some}
 use lib.ListN.{get_elem?}
@@ -11,14 +11,15 @@ use Rattle.dr_meaning.specs.Calls.OpenFault.{has_bad_producers}
 use Rattle.dr_workers.specs.Meaning.Merge.{IsMerge}
 use Rattle.dr_plain_senders.specs.declared.record.Step.TheVariants.{HalterHalts}
 use Rattle.dr_plain_senders.specs.declared.settled.Settled.{Settled}
-use Rattle.dr_plain_senders.specs.Meaning.Moments.{fresh_receivers, fresh_sender}
+use Rattle.dr_plain_senders.specs.Meaning.Moments.{fresh_halter, fresh_receivers, fresh_sender}
 use Rattle.dr_plain_senders.specs.Meaning.Records.{halter_halted}
 use Rattle.dr_lent.specs.Events.{events_of}
 use Rattle.dr_plain_senders.specs.Meaning.Rule.{World}
 use Rattle.dr_plain_senders.specs.Meaning.Settling.{published_events}
 use Rattle.dr_plain_senders.specs.Meaning.Shape.{Shape, handlers_of}
-use Rattle.dr_plain_senders.specs.Calls.Ends.{HalterEnd, HasStored, ReceiverEnd, SenderEnd, receiver_place, received_of, sender_place}
-use Rattle.dr_plain_senders.specs.Calls.Making.{at_ring, receiver_at_ring, sender_at_ring}
+use Rattle.dr_lent.specs.Ends.{HasStored, at_ring}
+use Rattle.dr_plain_senders.specs.Calls.Ends.{HalterEnd, ReceiverEnd, SenderEnd, receiver_place, received_of, sender_place}
+use Rattle.dr_plain_senders.specs.Calls.Making.{receiver_at_ring, sender_at_ring}
 use Rattle.dr_plain_senders.specs.Calls.Settling.{GivesBack, HasRun, handler_counts}
 use Rattle.dr_disruptor.specs.declared.fault.RunFault.{RunFault}
 use Rattle.dr_disruptor.specs.declared.fault.RunFault.TheVariants.{Handlers, Memory, Senders}
@@ -41,11 +42,11 @@ module _ {E : Type 0} where
 
   -- a sender of a ring of this shape, as it was made
   abbrev pub new_sender : TableId → Shape E → ℕ → SenderEnd E
-  new_sender ring k p = sender_at_ring ring k (fresh_sender p)
+  new_sender ring k p = sender_at_ring ring (fresh_sender k p)
 
   -- its receivers as they were made, in the graph's order
   abbrev pub new_receivers : TableId → Shape E → List (ReceiverEnd E)
-  new_receivers ring k = map (receiver_at_ring ring k) (fresh_receivers 0 (handlers_of k))
+  new_receivers ring k = map (λ r. receiver_at_ring ring r) (fresh_receivers k 0 (handlers_of k))
 
   -- each handler was shown what the receiver at its place took, in polls with so much room, and came back at its place
   abbrev pub AreServedBack : {A : Type 0} → Relation E A → ℕ → List (ReceiverEnd E) → List A → List (ReceiverEnd E) → List A → Type 0
@@ -83,7 +84,7 @@ module _ {E : Type 0} where
     pub halts : HaltsOnly halter after
     pub ends : AreSettled settled (map (λ s. s.sender) sent) (map (λ s. s.outlet) served) after
     pub handled : handlers ≡ map (λ s. s.handler) served
-    pub back : GivesBack after.plan settled.claimed (map (λ s. s.sender) sent) values
+    pub back : GivesBack after.knows.plan settled.claimed (map (λ s. s.sender) sent) values
     pub answered : answers ≡ map (λ s. s.answer) sent
 
   -- all handlers went through one list of events, which is a merge of these lists
@@ -104,7 +105,7 @@ module _ {E : Type 0} where
     -- the ends as they came together at last, whose halter halted the ring once
     pub receivers : List (ReceiverEnd E)
     pub halter : HalterEnd E
-    pub halts : HaltsOnly (at_ring ring k record { looks = [] }) halter
+    pub halts : HaltsOnly (at_ring ring (fresh_halter k)) halter
     pub ends : AreSettled ran.settled (map (λ s. s.sender) senders) receivers halter
     -- each handler was shown what the receiver at its place of the graph took
     pub serving : AreServedBack goes most (new_receivers ring k) (listed handlers) receivers (listed ran.handlers)

@@ -7,6 +7,7 @@ pub mod Leaving
 pub mod Lists
 pub mod Looks
 pub mod Rowed
+pub mod Stations
 pub mod Tokens
 pub mod Trades
 pub mod Trading

@@ -6,15 +6,9 @@ use lib.ListN.{get_elem?}
 use Rattle.atomic_table.specs.Table.{rest, turned}
 use Rattle.dr_runs.proofs.Elements.{there}
 use Rattle.dr_runs.proofs.Lists.{take_whole, past_end}
+use Rattle.dr_cells.specs.declared.token.Token.{Token}
+use Rattle.dr_lent.specs.Ends.{StandOf, with_hand}
 use Rattle.dr_lent.proofs.Lists.{drop_at, take_more, drop_seam}
-
--- something that has a hand, and can have another
-pub record Holder (E C : Type 0) : Type 0 where
-  pub hand_of : E → List (ℕ × C)
-  pub with_hand : E → List (ℕ × C) → E
-  pub reads : (e : E) (hand : List (ℕ × C)) → hand_of (with_hand e hand) ≡ hand
-  pub again : (e : E) (hand next : List (ℕ × C)) → with_hand (with_hand e hand) next ≡ with_hand e next
-  pub own : (e : E) → with_hand e (hand_of e) ≡ e
 
 -- the first of all goes behind the others
 pub turned_next : {C : Type 0} (hand : List (ℕ × C)) (i : ℕ) → i < length hand → turned (drop i hand ++ take i hand) ≡ drop (i + 1) hand ++ take (i + 1) hand
@@ -58,41 +52,41 @@ module _ {C : Type 0} where
   unfolding first_value
   was_there hand slot x c a b = ap (first_value c) (sym b ∙ a)
 
--- a loop over the slots from one sequence on, of something that began as e
-module _ {E C : Type 0} (H : Holder E C) (e : E) (first n : ℕ) (xs ys : List (ℕ × C)) where
-  abbrev pub Traded : ℕ → E → Type 0
-  Traded s now = now ≡ H.with_hand e (traded xs ys (drop n (H.hand_of e)) (s - first))
+-- a loop over the slots from one sequence on, of an end that began as e
+module _ {T S K : Type 0} (e : StandOf T S K) (first n : ℕ) (xs ys : List (ℕ × Token T)) where
+  abbrev pub Traded : ℕ → StandOf T S K → Type 0
+  Traded s now = now ≡ with_hand e (traded xs ys (drop n e.hand) (s - first))
 
-  pub trade_begins : (o : List (ℕ × C)) → H.hand_of e ≡ xs ++ o → length xs ≡ n → Traded first e
+  pub trade_begins : (o : List (ℕ × Token T)) → e.hand ≡ xs ++ o → length xs ≡ n → Traded first e
   trade_begins o is count =
       let none : 0 ≡ first - first = omega arith in
-      let others : drop n (H.hand_of e) ≡ o = ap (λ (h : List (ℕ × C)). drop n h) is ∙ drop_seam xs o n count in
-      sym (H.own e) ∙ ap (λ (h : List (ℕ × C)). H.with_hand e h)
-      (is ∙ ap (λ (h : List (ℕ × C)). xs ++ h) (sym others) ∙ sym (traded_none xs ys (drop n (H.hand_of e)))
-      ∙ ap (λ (m : ℕ). traded xs ys (drop n (H.hand_of e)) m) none)
+      let others : drop n e.hand ≡ o = ap (λ (h : List (ℕ × Token T)). drop n h) is ∙ drop_seam xs o n count in
+      ap (λ (h : List (ℕ × Token T)). with_hand e h)
+      (is ∙ ap (λ (h : List (ℕ × Token T)). xs ++ h) (sym others) ∙ sym (traded_none xs ys (drop n e.hand))
+      ∙ ap (λ (m : ℕ). traded xs ys (drop n e.hand) m) none)
 
-  hand_is : (s : ℕ) (now : E) → Traded s now → H.hand_of now ≡ traded xs ys (drop n (H.hand_of e)) (s - first)
-  hand_is s now is = ap (λ (x : E). H.hand_of x) is ∙ H.reads e (traded xs ys (drop n (H.hand_of e)) (s - first))
+  hand_is : (s : ℕ) (now : StandOf T S K) → Traded s now → now.hand ≡ traded xs ys (drop n e.hand) (s - first)
+  hand_is s now is = ap (λ (x : StandOf T S K). x.hand) is
 
-  pub trade_first : (s : ℕ) (now : E) (x : ℕ × C) → Traded s now → get_elem? xs (s - first) ≡ some x → H.hand_of now ≡ x ∷ rest (H.hand_of now)
-  trade_first s now x is at = traded_first xs ys (drop n (H.hand_of e)) (H.hand_of now) (s - first) x at (hand_is s now is)
+  pub trade_first : (s : ℕ) (now : StandOf T S K) (x : ℕ × Token T) → Traded s now → get_elem? xs (s - first) ≡ some x → now.hand ≡ x ∷ rest now.hand
+  trade_first s now x is at = traded_first xs ys (drop n e.hand) now.hand (s - first) x at (hand_is s now is)
 
-  pub trade_slot : (s slot : ℕ) (now : E) (x : ℕ × C) → Traded s now → get_elem? xs (s - first) ≡ some x → slot ≡ x.0
-      → (t : C) × (H.hand_of now ≡ (slot, t) ∷ rest (H.hand_of now))
-  trade_slot s slot now x is at same = (x.1, trade_first s now x is at ∙ ap (λ (m : ℕ). (m, x.1) ∷ rest (H.hand_of now)) (sym same))
+  pub trade_slot : (s slot : ℕ) (now : StandOf T S K) (x : ℕ × Token T) → Traded s now → get_elem? xs (s - first) ≡ some x → slot ≡ x.0
+      → (t : Token T) × (now.hand ≡ (slot, t) ∷ rest now.hand)
+  trade_slot s slot now x is at same = (x.1, trade_first s now x is at ∙ ap (λ (m : ℕ). (m, x.1) ∷ rest now.hand) (sym same))
 
-  pub trade_next : (s slot : ℕ) (new : C) (now next : E) (x y : ℕ × C) → first ≤ s → Traded s now → get_elem? xs (s - first) ≡ some x
-      → get_elem? ys (s - first) ≡ some y → slot ≡ y.0 → new ≡ y.1 → next ≡ H.with_hand now (rest (H.hand_of now) ++ (slot, new) ∷ [])
+  pub trade_next : (s slot : ℕ) (new : Token T) (now next : StandOf T S K) (x y : ℕ × Token T) → first ≤ s → Traded s now → get_elem? xs (s - first) ≡ some x
+      → get_elem? ys (s - first) ≡ some y → slot ≡ y.0 → new ≡ y.1 → next ≡ with_hand now (rest now.hand ++ (slot, new) ∷ [])
       → Traded (s + 1) next
   trade_next s slot new now next x y low is at_x at_y same put is_next =
-      let later : s - first + 1 ≡ s + 1 - first = omega arith in let others = drop n (H.hand_of e) in
-      let hand : List (ℕ × C) = rest (H.hand_of now) ++ (slot, new) ∷ [] in
-      is_next ∙ ap (λ (q : E). H.with_hand q hand) is ∙ H.again e (traded xs ys others (s - first)) hand
-      ∙ ap (λ (h : List (ℕ × C)). H.with_hand e h)
-      ((λ i. rest (H.hand_of now) ++ (same i, put i) ∷ []) ∙ traded_next xs ys others (H.hand_of now) (s - first) x y at_x at_y (hand_is s now is)
+      let later : s - first + 1 ≡ s + 1 - first = omega arith in let others = drop n e.hand in
+      let hand : List (ℕ × Token T) = rest now.hand ++ (slot, new) ∷ [] in
+      is_next ∙ ap (λ (q : StandOf T S K). with_hand q hand) is
+      ∙ ap (λ (h : List (ℕ × Token T)). with_hand e h)
+      ((λ i. rest now.hand ++ (same i, put i) ∷ []) ∙ traded_next xs ys others now.hand (s - first) x y at_x at_y (hand_is s now is)
       ∙ ap (λ (m : ℕ). traded xs ys others m) later)
 
-  pub trade_ends : (s : ℕ) (now : E) → s - first ≡ n → Traded s now → length xs ≡ n → length ys ≡ n → now ≡ H.with_hand e (drop n (H.hand_of e) ++ ys)
+  pub trade_ends : (s : ℕ) (now : StandOf T S K) → s - first ≡ n → Traded s now → length xs ≡ n → length ys ≡ n → now ≡ with_hand e (drop n e.hand ++ ys)
   trade_ends s now all is x y =
-      is ∙ ap (λ (h : List (ℕ × C)). H.with_hand e h)
-      (ap (λ (m : ℕ). traded xs ys (drop n (H.hand_of e)) m) all ∙ traded_all xs ys (drop n (H.hand_of e)) n x y)
+      is ∙ ap (λ (h : List (ℕ × Token T)). with_hand e h)
+      (ap (λ (m : ℕ). traded xs ys (drop n e.hand) m) all ∙ traded_all xs ys (drop n e.hand) n x y)

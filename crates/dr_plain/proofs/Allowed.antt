@@ -24,7 +24,7 @@ use Rattle.dr_plain.specs.declared.record.HalterRecord.{HalterRecord}
 use Rattle.dr_plain.specs.declared.record.Step.{Step}
 use Rattle.dr_plain.specs.declared.record.Step.TheVariants.{SenderLooksAtCount, SenderLooksAtHalt, SenderPublishes, SenderHalts, SenderCloses}
 use Rattle.dr_plain.specs.declared.record.Step.TheVariants.{ReceiverLooksAtClosed, ReceiverLooksAtCursor, ReceiverLooksAtCount, ReceiverCompletes, HalterHalts, HalterLooks}
-use Rattle.dr_plain.specs.Meaning.Records.{claimed, laid, sender_looked, halt_looked, published_more, sender_halted, sender_closed}
+use Rattle.dr_plain.specs.Meaning.Records.{claimed, laid, sender_looked, halt_looked, published_more, sender_halted, sender_closed, Laid}
 use Rattle.dr_lent.specs.Events.{events_of}
 use Rattle.dr_plain.specs.Meaning.Records.{closed_looked, receiver_looked, taken_at, cursor_looked, completed_to, halter_halted, halter_looked, SeesRoom}
 use Rattle.dr_plain.specs.Meaning.Rule.{World, KeepsRule}
@@ -77,7 +77,7 @@ module _ {T : Type 0} where
   sender_plan k w r e K = ap (λ (q : SenderRecord T). q.plan) (sym e) ∙ K.sender_plan
 
   inside_of : (k : Shape) (w : World T) (h : ℕ) (r : ReceiverRecord T) → get_elem? w.receivers h ≡ some r → KeepsRule k w → h < handlers_of k
-  inside_of k w h r at K = let b = at_below w.receivers h r at in let e = K.ends in omega arith
+  inside_of k w h r at K = let b = at_below w.receivers h r at in let e = K.outlets in omega arith
 
   -- nothing moves
   stays : (k : Shape) (u : World T) (hand : Hand T) (homes : List (maybe.Option (Token T))) → Lies k u homes → MovesTo k u hand homes hand
@@ -158,7 +158,7 @@ module _ {T : Type 0} where
         hand_after = rest;
         moves = subst (λ (q : SenderRecord T). length lents ≤ q.pending → laid u.sender ≡ laid q ++ lent_all lents → claimed u.sender ≡ claimed q → MovesTo k u (given_by_publication q lents ++ rest) homes rest) e
             (λ within same_laid same_claims. publication_moves k w.sender.plan w u lents rest homes K.sender_plan within K lies refl same_laid same_claims)
-            within (ap (λ (xs : List (Option (Lent T))). replicate r.plan.size None ++ xs) (map-append (λ (l : Lent T). Some l) r.published lents) ∙ sym (append_assoc (replicate r.plan.size None) (lent_all r.published) (lent_all lents))) (let a = length-append r.published lents in omega arith);
+            within (ap (λ (xs : List (Laid T)). replicate r.plan.size None ++ xs) (map-append (λ (l : Lent T). Some l) r.published lents) ∙ sym (append_assoc (replicate r.plan.size None) (lent_all r.published) (lent_all lents))) (let a = length-append r.published lents in omega arith);
         tells = ap (λ (c : Hand T). as_sender (published_more r lents) c) (sym (drop-append_seam given rest));
       })))
 
@@ -262,7 +262,7 @@ module _ {T : Type 0} where
       → Contains (upstreams_of k.upstreams r.number) u → KeepsRule k w
       → (u < handlers_of k) × FindsEvents r (count_word u) (get_or w.words (count_word u) 0)
   tells_count k w r u at has K =
-      let was = K.received r.number r at in let inside = upstream_inside k.upstreams K.graph r.number u (inside_of k w r.number r at K) has in
+      let was = K.received r.number r at in let inside = upstream_inside k.upstreams K.shape.graph r.number u (inside_of k w r.number r at K) has in
       let t = receiver_of_handler k w K u inside in let a = t.2.count in let b = t.2.completed in let c = t.2.taken in
       (inside, (last_look_le (words_of k) w.words 0 r.looks (count_word u) (omega arith) was.looks, was.after u has, λ told. (let d = (was.told told).1 in omega arith), (let near = round_ahead k w r at K in omega arith)))
 
@@ -322,6 +322,6 @@ module _ {T : Type 0} where
             (same_words k (HalterLooks i) w i w.sender w.receivers (halter_looked w.halter i n) (lt, refl)),
         (
           refl,
-          subst (λ (q : HalterRecord T). FindsMore q.looks i n) e (last_look_le (words_of k) w.words 0 w.halter.looks i (omega arith) K.watched),
+          subst (λ (q : HalterRecord T). FindsMore q.looks i n) e (last_look_le (words_of k) w.words 0 w.halter.looks i (omega arith) K.halter),
         ),
       )))

@@ -47,7 +47,7 @@ module _ {T : Type 0} where
       first_upstream (upstreams_of k.upstreams h)
       (λ none. (let b = last_look_le (words_of k) w.words 0 looks cursor_word (omega arith) past in
       let e : barrier_seen k h looks ≡ last_look 0 looks cursor_word = ap (λ (us : List ℕ). offered_by (last_look 0 looks cursor_word) (map (λ u. last_look 0 looks (count_word u)) us)) none in omega arith))
-      (λ u up. (let a = below_upstream k w h u looks past up in let t = receiver_of_handler k w K u (upstream_inside k.upstreams K.graph h u inside up) in
+      (λ u up. (let a = below_upstream k w h u looks past up in let t = receiver_of_handler k w K u (upstream_inside k.upstreams K.shape.graph h u inside up) in
       let d = t.2.count in let e = t.2.completed in let f = t.2.taken in omega arith))
 
   -- so many that are there are taken

@@ -45,10 +45,9 @@ module _ {T : Type 0} where
 
 pub kept_opening : (T : Type 0) (k : Shape) → IsShape k → KeepsRule {T = T} k (new_world k)
 kept_opening T k shape = let n = words_of k in let ws = zeros n in let halt = all_zero n halt_word in let close = all_zero n closed_word in record {
-  graph = shape.graph;
-  some_slot = shape.some_slot;
+  shape = shape;
   wide = (let z : ℕ = 0 in length-replicate n z);
-  ends = fresh_count T k 0 (handlers_of k);
+  outlets = fresh_count T k 0 (handlers_of k);
   sender_plan = refl;
   halter_plan = refl;
   counts = record { cursor = all_zero n cursor_word; limit = omega arith };
@@ -68,7 +67,7 @@ kept_opening T k shape = let n = words_of k in let ws = zeros n in let halt = al
   room = λ f final. omega arith;
   flags = record { halt = omega arith; close = omega arith; by_sender = λ y. absurd (cc); by_halter = λ y. absurd (cc); closed = λ y. absurd (cc); known_halt = λ y. absurd (omega arith); known_close = λ y. absurd (omega arith); complete = λ y. absurd (omega arith) };
   looks = λ i x there. absurd (some-ne-none x (sym there));
-  watched = λ i x there. absurd (some-ne-none x (sym there));
+  halter = λ i x there. absurd (some-ne-none x (sym there));
 }
 
 pub opens : (T : Type 0) (k : Shape) → picture_of {T = T} k (new_world k) ≡ machine.opening (ring_setup k)
@@ -90,7 +89,7 @@ module _ {T : Type 0} where
   keeps_step k (ReceiverLooksAtClosed h) w u H K = subst (KeepsRule k) (sym H.2) (keeps_closed_look k w h H.0 H.1 K)
   keeps_step k (ReceiverLooksAtCursor h room) w u H K = subst (KeepsRule k) (sym H.2) (keeps_cursor_look k w h room H.0 H.1 K)
   keeps_step k (ReceiverLooksAtCount h c room) w u H K =
-      let inside = upstream_inside k.upstreams K.graph h c (let b = at_below w.receivers h H.0 H.1 in let e = K.ends in omega arith) H.2.0 in
+      let inside = upstream_inside k.upstreams K.shape.graph h c (let b = at_below w.receivers h H.0 H.1 in let e = K.outlets in omega arith) H.2.0 in
       subst (KeepsRule k) (sym H.2.1) (keeps_receiver_looks k w h (count_word c) room H.0 (omega arith) H.1 K)
   keeps_step k (ReceiverCompletes h n) w u H K = subst (KeepsRule k) (sym H.2.2) (keeps_completes k w h n H.0 H.1 H.2.0 H.2.1 K)
   keeps_step k HalterHalts w u H K = subst (KeepsRule k) (sym H) (keeps_halter_halts k w K)

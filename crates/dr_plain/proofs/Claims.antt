@@ -22,7 +22,7 @@ use Rattle.dr_runs.specs.declared.look.Look.{Look}
 use Rattle.dr_plain.specs.declared.record.SenderRecord.{SenderRecord}
 use Rattle.dr_runs.specs.declared.written.Written.{Written}
 use Rattle.dr_plain.specs.Meaning.Lying.{placed}
-use Rattle.dr_plain.specs.Meaning.Records.{claimed, laid, halt_looked}
+use Rattle.dr_plain.specs.Meaning.Records.{claimed, laid, halt_looked, Laid}
 use Rattle.dr_lent.specs.Events.{events_of}
 use Rattle.dr_runs.specs.Looks.{look, last_look}
 use Rattle.dr_runs.specs.OneSender.Looks.{count_looks}
@@ -30,15 +30,17 @@ use Rattle.dr_plain.specs.Calls.Ends.{SenderStand, SenderEnd, sent_of}
 use Rattle.dr_plain.specs.Calls.Plans.{IsPlan}
 use Rattle.dr_plain.specs.Calls.Sending.{gate_looks, FoundRoom, LooksToClaim, TriesToClaim, ClaimCall, tests_of_claim}
 use Rattle.dr_plain.specs.Inside.Scans.{sender_saw, more_claimed, LooksAtFinals, IsEnough, IsShort}
-use Rattle.dr_plain.specs.Inside.Fits.{IsSeenLeast, SenderFields, SenderFits, TokensFit, no_lents, open_slots}
-use Rattle.dr_plain.specs.Inside.Hands.{with_hand}
+use Rattle.dr_plain.specs.Inside.Fits.{IsSeenLeast, SenderFields, SenderFits, TokensFit, open_slots}
+use Rattle.dr_plain.specs.Inside.Hands.{no_lents}
+use Rattle.dr_lent.specs.Ends.{with_hand}
 use Rattle.dr_plain.specs.Inside.Lending.{lanes, laid_between, TokensFitBetween, AreWhole, SameBut}
 use Rattle.dr_plain.specs.Inside.Noted.{Noted, writes_from}
 use Rattle.dr_plain.specs.Inside.Seats.{Hand, taken_by_claim}
 use Rattle.dr_plain.specs.Inside.Views.{sender_end}
 use Rattle.dr_plain.proofs.Collecting.{between_count, blanks_count, laid_count}
 use Rattle.dr_runs.proofs.Answering.{bad_count_fails}
-use Rattle.dr_runs.proofs.Scans.{Rises, rises_then, rises_at_halt}
+use Rattle.dr_runs.specs.OneSender.Scans.{Rises}
+use Rattle.dr_runs.proofs.Scans.{rises_then, rises_at_halt}
 use Rattle.dr_runs.proofs.Looks.{last_look_else}
 use Rattle.dr_runs.proofs.Elements.{at_below, there}
 use Rattle.dr_plain.proofs.Noting.{noted_more, unclaimed, writes_both, writes_none, writes_count}
@@ -157,11 +159,11 @@ module _ {T : Type 0} where
       let taken : taken_by_claim r n 0 ≡ lanes k (claimed r) xs = ap (λ (m : ℕ). lanes k (claimed r) (take m (drop (claimed r) (laid r)))) same in
       let long : length (taken_by_claim r n 0) ≡ handlers_of k * n =
       ap length taken ∙ length_rows (placed k) (handlers_of k) (claimed r) xs ∙ ap (λ (m : ℕ). handlers_of k * m) count in
-      let nothing : Option (Lent T) = None in let first : length r.published + length (no_lents {T = T} r.pending) ≡ claimed r = ap (λ (m : ℕ). length r.published + m) (blanks_count T r.pending) in
+      let nothing : Laid T = None in let first : length r.published + length (no_lents {T = T} r.pending) ≡ claimed r = ap (λ (m : ℕ). length r.published + m) (blanks_count T r.pending) in
       ap (λ (h : Hand T). h ++ lanes k (claimed r) (no_lents n)) (dropped (taken_by_claim r n 0) hand (handlers_of k * n) long ∙ is)
       ∙ ap (λ (m : ℕ). open_slots r ++ lanes k m (no_lents n)) (sym first)
       ∙ sym (rows_both (placed k) (handlers_of k) (length r.published) (no_lents r.pending) (no_lents n))
-      ∙ ap (λ (ls : List (Option (Lent T))). lanes k (length r.published) ls) (replicate_both r.pending n nothing)
+      ∙ ap (λ (ls : List (Laid T)). lanes k (length r.published) ls) (replicate_both r.pending n nothing)
 
   -- the look at halt that claims, once what was lent is collected
   pub fits_claim : {e e' : SenderStand T} {f : SenderFields T} (q needed : ℕ) (tokens : List (Token T)) → SenderFits e f → e'.knows ≡ halt_looked e.knows q 0
@@ -245,7 +247,7 @@ module _ {T : Type 0} where
 
   -- where it finds the ring halted, it takes nothing
   pub none_taken : (r : SenderRecord T) (n : ℕ) (hand : Hand T) → taken_by_claim r n 1 ++ hand ≡ hand
-  none_taken r n hand = ap (λ (ls : List (Option (Lent T))). lanes r.plan (claimed r) ls ++ hand) (take_none (drop (claimed r) (laid r)))
+  none_taken r n hand = ap (λ (ls : List (Laid T)). lanes r.plan (claimed r) ls ++ hand) (take_none (drop (claimed r) (laid r)))
 
 bad_count : (n size : ℕ) → (n ≡ 0) ⊎ (size < n) → ((n == 0) || nat_lt size n) ≡ true
 bad_count n size (inl none) = or_left (n == 0) (nat_lt size n) (eq-eqb n 0 none)

@@ -17,10 +17,10 @@ use Rattle.dr_lent.proofs.Lists.{at_slice, set_twice}
 use Rattle.dr_lent.specs.declared.lent.Lent.{Lent}
 use Rattle.dr_plain.specs.Meaning.Shape.{Shape, handlers_of}
 use Rattle.dr_plain.specs.Meaning.Words.{cell_of}
-use Rattle.dr_plain.specs.Meaning.Records.{laid}
+use Rattle.dr_plain.specs.Meaning.Records.{laid, Laid}
 use Rattle.dr_plain.specs.declared.record.SenderRecord.{SenderRecord}
-use Rattle.dr_plain.specs.Inside.Fits.{Keeps, no_lents}
-use Rattle.dr_plain.specs.Inside.Hands.{lent_by}
+use Rattle.dr_plain.specs.Inside.Fits.{Keeps}
+use Rattle.dr_plain.specs.Inside.Hands.{lent_by, no_lents}
 use Rattle.dr_plain.specs.Inside.Lending.{laid_between, AreLent, AreWhole, SameBut, lents_of, lent_at}
 use Rattle.dr_plain.proofs.Tokens.{out}
 use Rattle.dr_runs.proofs.Elements.{at_below}
@@ -43,42 +43,42 @@ module _ {A : Type 0} where
   first_at (x ∷ xs) ys (suc i) lt = first_at xs ys i (omega arith)
 
 pub blanks_count : (T : Type 0) (n : ℕ) → length (no_lents {T = T} n) ≡ n
-blanks_count T n = let nothing : Option (Lent T) = None in length-replicate n nothing
+blanks_count T n = let nothing : Laid T = None in length-replicate n nothing
 
 module _ {T : Type 0} where
   -- what is laid in the first round is nothing, and later something
-  pub laid_first : (r : SenderRecord T) (s : ℕ) (l : Option (Lent T)) → s < r.plan.size → get_elem? (laid r) s ≡ some l → l ≡ None
-  laid_first r s l lt at = let nothing : Option (Lent T) = None in
+  pub laid_first : (r : SenderRecord T) (s : ℕ) (l : Laid T) → s < r.plan.size → get_elem? (laid r) s ≡ some l → l ≡ None
+  laid_first r s l lt at = let nothing : Laid T = None in
       some-injective l nothing (sym at ∙ at_longer (replicate r.plan.size nothing) (map (λ (m : Lent T). Some m) r.published) s nothing (replicate_at r.plan.size s nothing lt))
 
-  pub laid_later : (r : SenderRecord T) (s : ℕ) (l : Option (Lent T)) → r.plan.size ≤ s → get_elem? (laid r) s ≡ some l
+  pub laid_later : (r : SenderRecord T) (s : ℕ) (l : Laid T) → r.plan.size ≤ s → get_elem? (laid r) s ≡ some l
       → (m : Lent T) × (get_elem? r.published (s - r.plan.size) ≡ some m) × (l ≡ Some m)
   laid_later r s l le at =
-      let nothing : Option (Lent T) = None in let count : length (replicate r.plan.size nothing) ≡ r.plan.size = length-replicate r.plan.size nothing in
+      let nothing : Laid T = None in let count : length (replicate r.plan.size nothing) ≡ r.plan.size = length-replicate r.plan.size nothing in
       let t = at_map (λ (m : Lent T). Some m) r.published (s - length (replicate r.plan.size nothing)) l
       (at_after (replicate r.plan.size nothing) (map (λ (m : Lent T). Some m) r.published) s l (omega arith) at) in
       (t.0, ap (λ (n : ℕ). get_elem? r.published (s - n)) (sym count) ∙ t.1, sym t.2)
 
   pub laid_count : (r : SenderRecord T) → length (laid r) ≡ r.plan.size + length r.published
-  laid_count r = let nothing : Option (Lent T) = None in let later = map (λ (m : Lent T). Some m) r.published in
+  laid_count r = let nothing : Laid T = None in let later = map (λ (m : Lent T). Some m) r.published in
       omega (arith, length-append (replicate r.plan.size nothing) later, length-replicate r.plan.size nothing, length-map r.published (λ (m : Lent T). Some m))
 
   pub between_count : (r : SenderRecord T) (first upto : ℕ) → upto ≤ length r.published + r.plan.size → length (laid_between r first upto) ≡ upto - first
   between_count r first upto le = let all = laid_count r in
       omega (arith, length-take (upto - first) (drop first (laid r)), length-drop first (laid r))
 
-  pub between_at : (r : SenderRecord T) (first upto s : ℕ) (l : Option (Lent T)) → first ≤ s → s < upto → get_elem? (laid r) s ≡ some l
+  pub between_at : (r : SenderRecord T) (first upto s : ℕ) (l : Laid T) → first ≤ s → s < upto → get_elem? (laid r) s ≡ some l
       → get_elem? (laid_between r first upto) (s - first) ≡ some l
   between_at r first upto s l low lt at = let e : first + (s - first) ≡ s = omega arith in
       at_slice (laid r) first (upto - first) (s - first) l (omega arith) (ap (λ (n : ℕ). get_elem? (laid r) n) e ∙ at)
 
-  pub blanks_at : (n i : ℕ) → i < n → (let nothing : Option (Lent T) = None in get_elem? (no_lents {T = T} n) i ≡ some nothing)
-  blanks_at n i lt = let nothing : Option (Lent T) = None in replicate_at n i nothing lt
+  pub blanks_at : (n i : ℕ) → i < n → (let nothing : Laid T = None in get_elem? (no_lents {T = T} n) i ≡ some nothing)
+  blanks_at n i lt = let nothing : Laid T = None in replicate_at n i nothing lt
 
-  pub blanks_more : (n m : ℕ) → n + 1 ≡ m → (let nothing : Option (Lent T) = None in no_lents {T = T} n ++ nothing ∷ [] ≡ no_lents m)
-  blanks_more n m e = let nothing : Option (Lent T) = None in replicate_more n nothing ∙ ap (λ (i : ℕ). replicate i nothing) e
+  pub blanks_more : (n m : ℕ) → n + 1 ≡ m → (let nothing : Laid T = None in no_lents {T = T} n ++ nothing ∷ [] ≡ no_lents m)
+  blanks_more n m e = let nothing : Laid T = None in replicate_more n nothing ∙ ap (λ (i : ℕ). replicate i nothing) e
 
-  pub keeps_by : (k : Shape) (s : ℕ) (l : Option (Lent T)) (t : Token T) → Keeps k s l t → lent_by t.hold ≡ l
+  pub keeps_by : (k : Shape) (s : ℕ) (l : Laid T) (t : Token T) → Keeps k s l t → lent_by t.hold ≡ l
   keeps_by k s None t is = ap (λ (x : Token T). lent_by x.hold) is.1
   keeps_by k s (Some m) t is = ap (λ (x : Token T). lent_by x.hold) is
 

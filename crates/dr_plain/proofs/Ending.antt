@@ -165,7 +165,7 @@ module _ {T : Type 0} where
         let there = lies.lies h r of.1 q l laid_at past away in let same : 0 + h ≡ h = omega arith in
         subst (λ (y : ℕ × Token T). get_elem? homes y.0 ≡ some (some y.1)) L.is
         (subst (λ (g : ℕ). get_elem? homes (slot_of k g m) ≡ some (some (part_of k m l))) (sym same)
-        (ap (λ (n : ℕ). get_elem? homes n) (sym (slot_later k.size h m)) ∙ there ∙ ap (λ (t : Token T). some (some t)) (part_later k K.some_slot m l)))
+        (ap (λ (n : ℕ). get_elem? homes n) (sym (slot_later k.size h m)) ∙ there ∙ ap (λ (t : Token T). some (some t)) (part_later k K.shape.some_slot m l)))
 
     all_home : AreHome homes (left_in w.sender counts_in)
     all_home j x at = home_of x (at_all k 0 counts_in (first_lent w.sender) (drop (first_lent w.sender) w.sender.published) j x
@@ -173,7 +173,7 @@ module _ {T : Type 0} where
 
     all_apart : Apart (left_in w.sender counts_in)
     all_apart = subst (λ (p : Shape). Apart (all_left p 0 counts_in (first_lent w.sender) (drop (first_lent w.sender) w.sender.published))) (sym K.sender_plan)
-        (apart_all k K.some_slot 0 counts_in (first_lent w.sender) (drop (first_lent w.sender) w.sender.published)
+        (apart_all k K.shape.some_slot 0 counts_in (first_lent w.sender) (drop (first_lent w.sender) w.sender.published)
         (let len = length-drop (first_lent w.sender) w.sender.published in let size = ap (λ (p : Shape). p.size) K.sender_plan in omega arith))
 
 ends_at : {E S : Type 0} (es : List E) (ps : List (List S)) (j : ℕ) (x : E × List S) → get_elem? (with_pasts es ps) j ≡ some x → get_elem? es j ≡ some x.0

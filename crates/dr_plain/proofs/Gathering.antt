@@ -61,7 +61,7 @@ module _ {T : Type 0} where
       let plan : k ≡ s.knows.plan = sym K.sender_plan ∙ ap (λ (q : SenderRecord T). q.plan) first.stands in record {
         rule = K;
         sender = first.stands;
-        receivers = same_lists w.receivers (map knows_of es) (K.ends ∙ ap handlers_of plan ∙ sym G.all.all ∙ sym (length-map es knows_of))
+        receivers = same_lists w.receivers (map knows_of es) (K.outlets ∙ ap handlers_of plan ∙ sym G.all.all ∙ sym (length-map es knows_of))
             (λ h r at. (let m = at_map knows_of es h r at in let number : m.0.knows.number ≡ h = (G.all.each h m.0 m.1).1 in
             ap (λ (n : ℕ). get_elem? w.receivers n) (sym number) ∙ (each h m.0 m.1).stands ∙ ap (λ (x : ReceiverRecord T). some x) m.2));
         sends = (first.begins, first.stores);

@@ -1,6 +1,6 @@
 -- What is lent when all ends are together, and where its parts are.
 use Rattle.std.proofs.Common.{◌≡◌, ℕ, zero, suc, ◌+◌, ◌-◌, ◌%◌, ◌<◌, ◌≤◌, inl, inr, List, [], ◌∷◌, ◌++◌, map, length, set, drop, replicate}
-use Rattle.std.proofs.Common.{Option, None, Some, sym, refl, ap, ◌∙◌, subst, arith, length-set}
+use Rattle.std.proofs.Common.{None, Some, sym, refl, ap, ◌∙◌, subst, arith, length-set}
 use Rattle.std.proofs.Math.Nat.{mod-lt, mod-eq_of_lt, add-mod_left}
 use Rattle.std.proofs.lemmas.Bool.{cases_eq, cases_lt}
 use Rattle.std.proofs.lemmas.List.{length-map, length-replicate}
@@ -19,7 +19,7 @@ use Rattle.dr_lent.proofs.InHand.{held_of}
 use Rattle.dr_plain.specs.Meaning.Shape.{Shape, handlers_of}
 use Rattle.dr_plain.specs.Meaning.Words.{cell_of}
 use Rattle.dr_plain.specs.Meaning.Lying.{part_of}
-use Rattle.dr_plain.specs.Meaning.Records.{claimed, laid}
+use Rattle.dr_plain.specs.Meaning.Records.{claimed, laid, Laid}
 use Rattle.dr_plain.specs.Meaning.Rule.{World}
 use Rattle.dr_plain.specs.declared.record.SenderRecord.{SenderRecord}
 use Rattle.dr_plain.specs.declared.record.ReceiverRecord.{ReceiverRecord}
@@ -45,9 +45,9 @@ window n (suc c) i lt = let w = window n c i lt in let low = w.1 in let high = w
 
 module _ {T : Type 0} where
   lent_later : (r : SenderRecord T) (s : ℕ) (l : Lent T) → get_elem? r.published s ≡ some l
-      → (let o : Option (Lent T) = Some l in get_elem? (laid r) (r.plan.size + s) ≡ some o)
+      → (let o : Laid T = Some l in get_elem? (laid r) (r.plan.size + s) ≡ some o)
   lent_later r s l at =
-      let nothing : Option (Lent T) = None in let count : length (replicate r.plan.size nothing) ≡ r.plan.size = length-replicate r.plan.size nothing in
+      let nothing : Laid T = None in let count : length (replicate r.plan.size nothing) ≡ r.plan.size = length-replicate r.plan.size nothing in
       ap (λ (n : ℕ). get_elem? (laid r) (n + s)) (sym count)
       ∙ at_behind (replicate r.plan.size nothing) (map (λ (m : Lent T). Some m) r.published) s (Some l) (map_there (λ (m : Lent T). Some m) r.published s l at)
 
@@ -73,7 +73,7 @@ module _ {T : Type 0} where
           | inl laid_there ↦ (
               let l = there (laid r) q (omega arith) in
               elim (cases_lt q size) [
-                | inl first ↦ of q cell (subst (λ (o : Option (Lent T)). Keeps k q o t) (laid_first r q l.0 first l.1) (F.others q l.0 t low l.1 here))
+                | inl first ↦ of q cell (subst (λ (o : Laid T). Keeps k q o t) (laid_first r q l.0 first l.1) (F.others q l.0 t low l.1 here))
                 | inr past ↦ (let e : size + (q - size) ≡ q = omega arith in
                     absurd (none (q - size) (omega arith) (omega arith) (sym (cell_later k.size (q - size)) ∙ ap (λ (n : ℕ). cell_of k n) e ∙ cell)))
               ])
@@ -97,7 +97,7 @@ module _ {T : Type 0} where
       λ h parts at. (let b = at_below hands h parts at in let n = H.count in there es h (omega arith)) in record {
         handlers = ap length counted ∙ length-map es (λ (e : ReceiverEnd T). handler_counts e.knows) ∙ E.all;
         many = H.count ∙ E.all;
-        out = out_begins s.knows tokens (subst (λ (q : Shape). 0 < q.size) plan A.rule.some_slot) close F;
+        out = out_begins s.knows tokens (subst (λ (q : Shape). 0 < q.size) plan A.rule.shape.some_slot) close F;
         places = λ h parts at. (let e = end_of h parts at in (H.each h e.0 parts e.1 at).count ∙ ap (λ (q : Shape). q.size) (plan_of h e.0 e.1));
         held = λ h c parts at_c at_h i l low yes at. (
             let m = at_map (λ (e : ReceiverEnd T). handler_counts e.knows) es h c (ap (λ (cs : List HandlerCounts). get_elem? cs h) (sym counted) ∙ at_c) in

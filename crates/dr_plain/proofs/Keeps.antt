@@ -32,7 +32,7 @@ module _ {T : Type 0} where
   -- what a handler completed, by its word
   pub receiver_of_handler : (k : Shape) (w : World T) → KeepsRule k w → (h : ℕ) → h < handlers_of k
       → (r : ReceiverRecord T) × (get_elem? w.receivers h ≡ some r) × ReceiverKept k w.words w.sender.published h r
-  receiver_of_handler k w K h lt = let count = K.ends in let t = there w.receivers h (omega arith) in (t.0, t.1, K.received h t.0 t.1)
+  receiver_of_handler k w K h lt = let count = K.outlets in let t = there w.receivers h (omega arith) in (t.0, t.1, K.received h t.0 t.1)
 
   -- completed counts fall along the graph
   pub orderly : (k : Shape) (w : World T) → KeepsRule k w → IsOrderly k.upstreams (λ h. word_at w.words (count_word h))
@@ -43,7 +43,7 @@ module _ {T : Type 0} where
   -- what leaves room for each final handler is not more than a round ahead of any handler
   pub ahead_of_all : (k : Shape) (w : World T) (n : ℕ) → KeepsRule k w → Room k w.words n → (h : ℕ) → h < handlers_of k
       → n ≤ k.size + word_at w.words (count_word h)
-  ahead_of_all k w n K room h lt = one.ahead_of_all k.upstreams w.words k.size n K.graph (orderly k w K) room h lt
+  ahead_of_all k w n K room h lt = one.ahead_of_all k.upstreams w.words k.size n K.shape.graph (orderly k w K) room h lt
 
   pub above : (k : Shape) (w : World T) → KeepsRule k w → (h : ℕ) → h < handlers_of k → claimed w.sender ≤ k.size + word_at w.words (count_word h)
   above k w K h lt = ahead_of_all k w (claimed w.sender) K K.room h lt
@@ -51,7 +51,7 @@ module _ {T : Type 0} where
   -- and not more than a round ahead of what is published
   pub near_front : (k : Shape) (w : World T) (n : ℕ) → KeepsRule k w → Room k w.words n → n ≤ k.size + length w.sender.published
   near_front k w n K room =
-      let some_one = K.graph.some in let a = ahead_of_all k w n K room 0 some_one in let t = receiver_of_handler k w K 0 some_one in
+      let some_one = K.shape.graph.some in let a = ahead_of_all k w n K room 0 some_one in let t = receiver_of_handler k w K 0 some_one in
       let d = t.2.count in let c = t.2.completed in let b = t.2.taken in omega arith
 
   pub near : (k : Shape) (w : World T) → KeepsRule k w → claimed w.sender ≤ k.size + length w.sender.published
@@ -85,10 +85,9 @@ module _ {T : Type 0} where
       → ArePast k w.words looks → KeepsRule k w
       → KeepsRule k (sender_knows w (record w.sender { pending = pending; looks = looks }))
   sender_learns k w pending looks limit room flags past K = record {
-    graph = K.graph;
-    some_slot = K.some_slot;
+    shape = K.shape;
     wide = K.wide;
-    ends = K.ends;
+    outlets = K.outlets;
     sender_plan = K.sender_plan;
     halter_plan = K.halter_plan;
     counts = record { cursor = K.counts.cursor; limit = limit };
@@ -96,7 +95,7 @@ module _ {T : Type 0} where
     room = room;
     flags = flags;
     looks = past;
-    watched = K.watched;
+    halter = K.halter;
   }
 
   pub keeps_sender_looks : (k : Shape) (w : World T) (i : ℕ) → i < words_of k → KeepsRule k w

@@ -175,7 +175,7 @@ module _ {T : Type 0} where
       let inside = inside_of k w h r K at in let published = at_front k w K in let cursor = K.counts.cursor in
       offered_later m ups (last_look 0 r'.looks cursor_word) (λ v. last_look 0 r'.looks (count_word v))
       (λ none. (let c = found cursor_word (saw.0 none) in omega arith))
-      (λ v has. (let c = count_at k.upstreams w.words v (upstream_inside k.upstreams K.graph h v inside has) in let f = found (count_word v) (saw.1 v has) in omega arith))
+      (λ v has. (let c = count_at k.upstreams w.words v (upstream_inside k.upstreams K.shape.graph h v inside has) in let f = found (count_word v) (saw.1 v has) in omega arith))
 
 -- the least of some counts is no less than the least of what was there before
 least_found : (f : ℕ → ℕ) (words : List ℕ) (u : ℕ) (us counts : List ℕ) → length counts ≡ length (u ∷ us)
@@ -229,6 +229,6 @@ module _ {T : Type 0} where
       let cursor : word_at w.words cursor_word ≤ seen.cursor = all 1 (look 0 0) (omega arith) in
       let published = at_front k w K in let kept = K.counts.cursor in let m = picture_of k w in
       let low : (v : ℕ) → Contains ups v → get_or m.completed v 0 ≤ word_at w.words (count_word v) = λ v has.
-      (let c = count_at k.upstreams w.words v (upstream_inside k.upstreams K.graph h v (inside_of k w h r K at) (subst (λ (vs : List ℕ). Contains vs v) same has)) in omega arith) in
+      (let c = count_at k.upstreams w.words v (upstream_inside k.upstreams K.shape.graph h v (inside_of k w h r K at) (subst (λ (vs : List ℕ). Contains vs v) same has)) in omega arith) in
       let more = offered_found m w.words ups seen.counts seen.cursor P.1 low (λ i d lt. all (suc (suc i)) d (omega arith)) (omega arith) in
       hands r r' room seen polled (available (ring_setup k) m h) answer (subst (λ (vs : List ℕ). offered m vs ≤ offer seen) same more)

@@ -18,7 +18,6 @@ pub mod Writings
 pub mod Making
 pub mod Opened
 pub mod Trading
-pub mod Stations
 pub mod Taken
 pub mod Offers
 pub mod Polls

@@ -1,6 +1,6 @@
 -- A new ring's ends.
 use Rattle.std.proofs.Common.{inl, ◌≡◌, ℕ, zero, suc, ◌+◌, ◌-◌, ◌<◌, List, [], ◌∷◌, ◌++◌, map, length}
-use Rattle.std.proofs.Common.{replicate, Option, None, sym, refl, ap, ◌∙◌, subst, arith, append_assoc}
+use Rattle.std.proofs.Common.{replicate, None, sym, refl, ap, ◌∙◌, subst, arith, append_assoc}
 use Rattle.std.proofs.lemmas.List.{length-map, length-replicate, append-nil}
 use mathlib.Core.Option.{some, some-injective, some-ne-none}
 use lib.ListN.{get_elem?}
@@ -12,7 +12,6 @@ use Rattle.dr_runs.specs.Seats.{seat_at, fresh_seat, first_view, rest_view}
 use Rattle.dr_runs.proofs.Lists.{at_map, map_there}
 use Rattle.dr_runs.proofs.Rows.{replicate_at, at_replicate}
 use Rattle.dr_runs.proofs.Cuts.{ruled_fresh}
-use Rattle.dr_lent.specs.declared.lent.Lent.{Lent}
 use Rattle.dr_lent.proofs.Lanes.{inside_lanes}
 use Rattle.dr_plain.specs.Meaning.Shape.{Shape, IsShape, handlers_of}
 use Rattle.dr_plain.specs.Meaning.Words.{words_of, slot_of, slots_of}
@@ -23,6 +22,7 @@ use Rattle.dr_plain.specs.declared.record.ReceiverRecord.{ReceiverRecord}
 use Rattle.dr_plain.specs.declared.record.EndRecord.{EndRecord}
 use Rattle.dr_plain.specs.declared.record.EndRecord.TheVariants.{Sends, Receives, Halts}
 use Rattle.dr_plain.specs.Meaning.Moments.{fresh_sender, fresh_receiver, fresh_receivers, fresh_halter, new_world}
+use Rattle.dr_plain.specs.Meaning.Records.{Laid}
 use Rattle.dr_plain.specs.Inside.Seats.{End, Sitting, end_number, Stands, exchange, Ruled, known_receivers, fresh_ends, all_ends, IsAtTable, as_receiver}
 use Rattle.dr_plain.specs.Inside.Stations.{receiver_stand, ReceiverSits}
 use Rattle.dr_plain.specs.Inside.Fits.{ReceiverFits}
@@ -50,12 +50,12 @@ module _ {T : Type 0} where
     deep = length-map cs (λ (c : Token T). some c) ∙ ap length is ∙ (let none : Token T = no_token in length-replicate (slots_of k) none);
     lies = λ h r at q l laid_at first free. (
         let inside : h < handlers_of k = (let b = at_below (fresh_receivers {T = T} k 0 (handlers_of k)) h r at in let e = fresh_count T k 0 (handlers_of k) in omega arith) in
-        let nothing : Option (Lent T) = None in
-        let none : nothing ≡ l = at_replicate k.size q nothing l (ap (λ (xs : List (Option (Lent T))). get_elem? xs q) (sym (append-nil (replicate k.size nothing))) ∙ laid_at) in
+        let nothing : Laid T = None in
+        let none : nothing ≡ l = at_replicate k.size q nothing l (ap (λ (xs : List (Laid T)). get_elem? xs q) (sym (append-nil (replicate k.size nothing))) ∙ laid_at) in
         map_there (λ (c : Token T). some c) cs (slot_of k h q) no_token
         (ap (λ (xs : List (Token T)). get_elem? xs (slot_of k h q)) is ∙ replicate_at (slots_of k) (slot_of k h q) no_token
         (inside_lanes k.size (handlers_of k) h q some_slot inside))
-        ∙ ap (λ (x : Option (Lent T)). some (some (part_of k q x))) none);
+        ∙ ap (λ (x : Laid T). some (some (part_of k q x))) none);
   }
 
   -- a new ring keeps the rule

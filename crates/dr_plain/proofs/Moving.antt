@@ -12,12 +12,12 @@ use Rattle.dr_cells.specs.Tokens.{token_at}
 use Rattle.dr_runs.specs.Stretches.{stretch, rows}
 use Rattle.dr_runs.proofs.Stretches.{Lacks, Apart, AreHome, emptied, filled, emptied_else, emptied_length, filled_else, filled_here, filled_length}
 use Rattle.dr_runs.proofs.Rows.{at_stretch, stretch_at, at_rows, rows_at, apart_stretch, apart_rows}
-use Rattle.dr_lent.specs.declared.lent.Lent.{Lent}
 use Rattle.dr_lent.proofs.Lanes.{inside_lanes, other_lane, slots_apart, cell_later, slot_later}
 use Rattle.dr_plain.specs.Meaning.Shape.{Shape, handlers_of}
 use Rattle.dr_plain.specs.Meaning.Words.{slot_of}
 use Rattle.dr_plain.specs.declared.record.ReceiverRecord.{ReceiverRecord}
 use Rattle.dr_plain.specs.Meaning.Lying.{part_of, placed, LiesBy}
+use Rattle.dr_plain.specs.Meaning.Records.{Laid}
 use Rattle.dr_runs.proofs.Elements.{there, at_below}
 
 -- an element of two lists, where it is past the first
@@ -33,26 +33,26 @@ at_first (x ∷ xs) ys zero a lt at = at
 at_first (x ∷ xs) ys (suc q) a lt at = at_first xs ys q a (omega arith) at
 
 -- a receiver's counts, where what is claimed is not more than a round ahead
-pub record Stretches {T : Type 0} (k : Shape) (lents : List (Option (Lent T))) (claims : ℕ) (r : ReceiverRecord T) : Type 0 where
+pub record Stretches {T : Type 0} (k : Shape) (lents : List (Laid T)) (claims : ℕ) (r : ReceiverRecord T) : Type 0 where
   pub held : r.completed ≤ length r.received
   pub sent : k.size + length r.received ≤ length lents
   pub near : length lents ≤ claims + k.size
   pub room : claims ≤ k.size + r.completed
 
 module _ {T : Type 0} (k : Shape) (some_slot : 0 < k.size) where
-  pub part_later : (s : ℕ) (l : Option (Lent T)) → part_of k (k.size + s) l ≡ part_of k s l
+  pub part_later : (s : ℕ) (l : Laid T) → part_of k (k.size + s) l ≡ part_of k s l
   part_later s None = refl
   part_later s (Some l) = ap (λ (c : ℕ). token_at k.strip c (part l.round l.event)) (cell_later k.size s)
 
   -- a slot of some sequence, and not of one of a row
-  lacks_rows : (n s : ℕ) (lents : List (Option (Lent T))) (h q : ℕ) → ((i : ℕ) → i < length lents → (q < s + i + k.size) × (s + i < q + k.size) × (q ≢ s + i))
+  lacks_rows : (n s : ℕ) (lents : List (Laid T)) (h q : ℕ) → ((i : ℕ) → i < length lents → (q < s + i + k.size) × (s + i < q + k.size) × (q ≢ s + i))
       → Lacks (rows (placed k) n s lents) (slot_of k h q)
   lacks_rows n s lents h q apart j x at e =
       let t = at_rows (placed k) n s lents j x at in let i = t.1 in let a = apart i (at_below lents i t.2 t.4) in
       slots_apart k.size h t.0 q (s + i) some_slot a.0 a.1 (inr a.2) (sym e ∙ ap (λ (y : ℕ × Token T). y.0) (sym t.5))
 
   -- the same of a stretch of one lane, seen a round later
-  lacks_stretch : (g s : ℕ) (lents : List (Option (Lent T))) (h q : ℕ)
+  lacks_stretch : (g s : ℕ) (lents : List (Laid T)) (h q : ℕ)
       → ((i : ℕ) → i < length lents → (g ≢ h) ⊎ ((q < k.size + s + i + k.size) × (k.size + s + i < q + k.size) × (q ≢ k.size + s + i)))
       → Lacks (stretch (placed k g) s lents) (slot_of k h q)
   lacks_stretch g s lents h q apart j x at e =
@@ -66,10 +66,10 @@ module _ {T : Type 0} (k : Shape) (some_slot : 0 < k.size) where
       ]
 
   -- the sender claims n sequences: it takes every handler's part of what lies in their cells
-  pub claims_take : (receivers : List (ReceiverRecord T)) (lents fresh : List (Option (Lent T))) (claims n : ℕ) (homes : List (maybe.Option (Token T)))
+  pub claims_take : (receivers : List (ReceiverRecord T)) (lents fresh : List (Laid T)) (claims n : ℕ) (homes : List (maybe.Option (Token T)))
       → LiesBy k receivers lents claims homes → length receivers ≡ handlers_of k → length lents ≤ claims + k.size
       → ((h : ℕ) (r : ReceiverRecord T) → get_elem? receivers h ≡ some r → claims + n ≤ k.size + r.completed)
-      → ((i : ℕ) (l : Option (Lent T)) → get_elem? fresh i ≡ some l → (i < n) × (get_elem? lents (claims + i) ≡ some l))
+      → ((i : ℕ) (l : Laid T) → get_elem? fresh i ≡ some l → (i < n) × (get_elem? lents (claims + i) ≡ some l))
       → AreHome homes (rows (placed k) (handlers_of k) claims fresh) × Apart (rows (placed k) (handlers_of k) claims fresh)
       × LiesBy k receivers lents (claims + n) (emptied homes (rows (placed k) (handlers_of k) claims fresh))
   claims_take receivers lents fresh claims n homes L ends near free at_fresh =
@@ -92,7 +92,7 @@ module _ {T : Type 0} (k : Shape) (some_slot : 0 < k.size) where
       )
 
   -- the sender publishes events: it gives every handler its part of each
-  pub publishes_give : (receivers : List (ReceiverRecord T)) (lents more : List (Option (Lent T))) (published claims : ℕ) (homes : List (maybe.Option (Token T)))
+  pub publishes_give : (receivers : List (ReceiverRecord T)) (lents more : List (Laid T)) (published claims : ℕ) (homes : List (maybe.Option (Token T)))
       → LiesBy k receivers lents claims homes → length receivers ≡ handlers_of k → length lents ≡ k.size + published → published + length more ≤ claims
       → claims ≤ k.size + published
       → LiesBy k receivers (lents ++ more) claims (filled homes (rows (placed k) (handlers_of k) published more))
@@ -120,10 +120,10 @@ module _ {T : Type 0} (k : Shape) (some_slot : 0 < k.size) where
       }
 
   -- what lies at home stays there for the other receivers
-  others_lie : (receivers : List (ReceiverRecord T)) (lents : List (Option (Lent T))) (claims g : ℕ) (r' : ReceiverRecord T) (homes homes' : List (maybe.Option (Token T)))
+  others_lie : (receivers : List (ReceiverRecord T)) (lents : List (Laid T)) (claims g : ℕ) (r' : ReceiverRecord T) (homes homes' : List (maybe.Option (Token T)))
       → LiesBy k receivers lents claims homes → length homes' ≡ length homes
       → ((h q : ℕ) → g ≢ h → get_elem? homes' (slot_of k h q) ≡ get_elem? homes (slot_of k h q))
-      → ((q : ℕ) (l : Option (Lent T)) → get_elem? lents q ≡ some l → claims ≤ q → (q < k.size + r'.completed) ⊎ (k.size + length r'.received ≤ q)
+      → ((q : ℕ) (l : Laid T) → get_elem? lents q ≡ some l → claims ≤ q → (q < k.size + r'.completed) ⊎ (k.size + length r'.received ≤ q)
       → get_elem? homes' (slot_of k g q) ≡ some (some (part_of k q l)))
       → LiesBy k (set receivers g r') lents claims homes'
   others_lie receivers lents claims g r' homes homes' L deep other own = record {
@@ -136,9 +136,9 @@ module _ {T : Type 0} (k : Shape) (some_slot : 0 < k.size) where
   }
 
   -- a receiver takes its parts of the next events
-  pub receiver_takes : (receivers : List (ReceiverRecord T)) (lents more : List (Option (Lent T))) (claims g : ℕ) (r r' : ReceiverRecord T) (homes : List (maybe.Option (Token T)))
+  pub receiver_takes : (receivers : List (ReceiverRecord T)) (lents more : List (Laid T)) (claims g : ℕ) (r r' : ReceiverRecord T) (homes : List (maybe.Option (Token T)))
       → LiesBy k receivers lents claims homes → Stretches k lents claims r → get_elem? receivers g ≡ some r
-      → ((i : ℕ) (l : Option (Lent T)) → get_elem? more i ≡ some l → get_elem? lents (k.size + length r.received + i) ≡ some l)
+      → ((i : ℕ) (l : Laid T) → get_elem? more i ≡ some l → get_elem? lents (k.size + length r.received + i) ≡ some l)
       → r'.completed ≡ r.completed → length r'.received ≡ length r.received + length more
       → AreHome homes (stretch (placed k g) (length r.received) more) × Apart (stretch (placed k g) (length r.received) more)
       × LiesBy k (set receivers g r') lents claims (emptied homes (stretch (placed k g) (length r.received) more))
@@ -164,9 +164,9 @@ module _ {T : Type 0} (k : Shape) (some_slot : 0 < k.size) where
       )
 
   -- a receiver gives its parts of the events that it completes
-  pub receiver_gives : (receivers : List (ReceiverRecord T)) (lents done : List (Option (Lent T))) (claims g : ℕ) (r r' : ReceiverRecord T) (homes : List (maybe.Option (Token T)))
+  pub receiver_gives : (receivers : List (ReceiverRecord T)) (lents done : List (Laid T)) (claims g : ℕ) (r r' : ReceiverRecord T) (homes : List (maybe.Option (Token T)))
       → LiesBy k receivers lents claims homes → Stretches k lents claims r → get_elem? receivers g ≡ some r → length receivers ≡ handlers_of k
-      → ((i : ℕ) (l : Option (Lent T)) → get_elem? lents (k.size + r.completed + i) ≡ some l → i < length done → get_elem? done i ≡ some l)
+      → ((i : ℕ) (l : Laid T) → get_elem? lents (k.size + r.completed + i) ≡ some l → i < length done → get_elem? done i ≡ some l)
       → length r'.received ≡ length r.received → r'.completed ≡ r.completed + length done → r'.completed ≤ length r.received
       → LiesBy k (set receivers g r') lents claims (filled homes (stretch (placed k g) r.completed done))
   receiver_gives receivers lents done claims g r r' homes L S at ends at_done same longer within =

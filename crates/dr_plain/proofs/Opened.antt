@@ -14,12 +14,12 @@ use Rattle.dr_cells.specs.Tokens.{token_at}
 use Rattle.dr_runs.proofs.Lists.{same_lists, map_there, at_map}
 use Rattle.dr_runs.proofs.Rows.{at_replicate}
 use Rattle.dr_lent.specs.Rows.{cells_of}
-use Rattle.dr_lent.specs.declared.lent.Lent.{Lent}
 use Rattle.dr_runs.specs.declared.counts.HandlerCounts.{HandlerCounts}
 use Rattle.dr_plain.specs.Meaning.Shape.{Shape, handlers_of}
 use Rattle.dr_plain.specs.Meaning.Words.{cell_of}
 use Rattle.dr_runs.specs.declared.written.Written.{Written}
 use Rattle.dr_plain.specs.Meaning.Moments.{fresh_sender}
+use Rattle.dr_plain.specs.Meaning.Records.{Laid}
 use Rattle.dr_plain.specs.Calls.Plans.{IsPlan}
 use Rattle.dr_plain.specs.Calls.Ends.{SenderStand}
 use Rattle.dr_plain.specs.Inside.Fits.{Keeps, TokensFit, SenderFits}
@@ -37,10 +37,10 @@ module _ {T : Type 0} where
     count = count;
     opened = λ s t low high at. absurd (omega arith);
     others = λ s l t low laid_at at. (
-        let nothing : Option (Lent T) = None in
-        let none : nothing ≡ l = at_replicate k.size s nothing l (ap (λ (xs : List (Option (Lent T))). get_elem? xs s) (sym (append-nil (replicate k.size nothing))) ∙ laid_at) in
+        let nothing : Laid T = None in
+        let none : nothing ≡ l = at_replicate k.size s nothing l (ap (λ (xs : List (Laid T)). get_elem? xs s) (sym (append-nil (replicate k.size nothing))) ∙ laid_at) in
         let c = cell_of k s in let x = there events c (let lt = mod-lt s some_slot in omega arith) in
-        subst (λ (o : Option (Lent T)). Keeps k s o t) none (x.0, sym (some-injective _ t (sym (whole_all c x.0 x.1) ∙ at))));
+        subst (λ (o : Laid T). Keeps k s o t) none (x.0, sym (some-injective _ t (sym (whole_all c x.0 x.1) ∙ at))));
   }
 
   pub cells_new : (p : Ptr) (events : List T) (tokens : List (Token T)) → length tokens ≡ length events → AreWhole p events tokens

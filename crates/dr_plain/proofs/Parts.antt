@@ -19,7 +19,7 @@ use Rattle.dr_plain.specs.Meaning.Shape.{Shape, handlers_of}
 use Rattle.dr_runs.specs.OneSender.Words.{halt_word}
 use Rattle.dr_plain.specs.declared.record.SenderRecord.{SenderRecord}
 use Rattle.dr_plain.specs.declared.record.ReceiverRecord.{ReceiverRecord}
-use Rattle.dr_plain.specs.Meaning.Records.{claimed, laid, SeesRoom}
+use Rattle.dr_plain.specs.Meaning.Records.{claimed, laid, SeesRoom, Laid}
 use Rattle.dr_plain.specs.Meaning.Rule.{World, Room, KeepsRule}
 use Rattle.dr_plain.specs.Meaning.Lying.{placed, LiesBy, Lies}
 use Rattle.dr_plain.specs.Meaning.Steps.{next_of}
@@ -28,7 +28,7 @@ use Rattle.dr_runs.proofs.Elements.{at_below, word_at}
 use Rattle.dr_plain.proofs.Keeps.{ahead_of_all, above, near, room_seen, claims_some, claims_none}
 use Rattle.dr_plain.proofs.Moving.{Stretches, claims_take, publishes_give, receiver_takes, receiver_gives}
 
-abbrev nothing_lent : (T : Type 0) → Option (Lent T)
+abbrev nothing_lent : (T : Type 0) → Laid T
 nothing_lent T = None
 
 nothing_laid : (T : Type 0) (n : ℕ) → length (replicate n (nothing_lent T)) ≡ n
@@ -60,13 +60,13 @@ module _ {T : Type 0} where
       ∙ (λ i. nothing_laid T w.sender.plan.size i + length-map w.sender.published (λ (l : Lent T). Some l) i)
       ∙ ap (λ (p : Shape). p.size + length w.sender.published) K.sender_plan
 
-  pub laid_later : (k : Shape) (w : World T) (i : ℕ) (l : Option (Lent T)) → KeepsRule k w → get_elem? (lent_all w.sender.published) i ≡ some l
+  pub laid_later : (k : Shape) (w : World T) (i : ℕ) (l : Laid T) → KeepsRule k w → get_elem? (lent_all w.sender.published) i ≡ some l
       → get_elem? (laid w.sender) (k.size + i) ≡ some l
   laid_later k w i l K at =
       let e : length (replicate w.sender.plan.size (nothing_lent T)) ≡ k.size = nothing_laid T w.sender.plan.size ∙ ap (λ (p : Shape). p.size) K.sender_plan in
       ap (λ (n : ℕ). get_elem? (laid w.sender) (n + i)) (sym e) ∙ at_behind (replicate w.sender.plan.size (nothing_lent T)) (lent_all w.sender.published) i l at
 
-  laid_earlier : (k : Shape) (w : World T) (i : ℕ) (l : Option (Lent T)) → KeepsRule k w → get_elem? (laid w.sender) (k.size + i) ≡ some l
+  laid_earlier : (k : Shape) (w : World T) (i : ℕ) (l : Laid T) → KeepsRule k w → get_elem? (laid w.sender) (k.size + i) ≡ some l
       → get_elem? (lent_all w.sender.published) i ≡ some l
   laid_earlier k w i l K at =
       let e : length (replicate w.sender.plan.size (nothing_lent T)) ≡ k.size = nothing_laid T w.sender.plan.size ∙ ap (λ (p : Shape). p.size) K.sender_plan in
@@ -80,7 +80,7 @@ module _ {T : Type 0} where
   take_lent : (xs : List (Lent T)) (n : ℕ) → lent_all (take n xs) ≡ take n (lent_all xs)
   take_lent xs zero = refl
   take_lent [] (suc n) = refl
-  take_lent (x ∷ xs) (suc n) = ap (λ (ys : List (Option (Lent T))). Some x ∷ ys) (take_lent xs n)
+  take_lent (x ∷ xs) (suc n) = ap (λ (ys : List (Laid T)). Some x ∷ ys) (take_lent xs n)
 
   drop_lent : (xs : List (Lent T)) (m : ℕ) → lent_all (drop m xs) ≡ drop m (lent_all xs)
   drop_lent xs zero = refl
@@ -105,13 +105,13 @@ module _ {T : Type 0} where
           | inr none ↦ (let z = claims_none found more (λ _. omega arith) in subst (Room k w.words) (let e : c ≡ c + n = omega arith in e) K.room)
         ]
       ] in
-      let t = claims_take k K.some_slot w.receivers ls fresh c n homes lies K.ends (omega arith)
-      (λ h r at. (let inside : h < handlers_of k = (let b = at_below w.receivers h r at in let e = K.ends in omega arith) in
+      let t = claims_take k K.shape.some_slot w.receivers ls fresh c n homes lies K.outlets (omega arith)
+      (λ h r at. (let inside : h < handlers_of k = (let b = at_below w.receivers h r at in let e = K.outlets in omega arith) in
       let a = ahead_of_all k w (c + n) K rises h inside in let d = (K.received h r at).count in omega arith))
       (λ i l at. slice_at ls c n i l at) in
       subst (λ (q : Shape). MovesTo k u hand homes (rows (placed q) (handlers_of q) c fresh ++ hand)) (sym plan)
       (takes_moves k u hand (rows (placed k) (handlers_of k) c fresh) homes t.0 t.1
-      (subst (λ (x : List (ReceiverRecord T) × (List (Option (Lent T)) × ℕ)). LiesBy k x.0 x.1.0 x.1.1 (emptied homes (rows (placed k) (handlers_of k) c fresh)))
+      (subst (λ (x : List (ReceiverRecord T) × (List (Laid T) × ℕ)). LiesBy k x.0 x.1.0 x.1.1 (emptied homes (rows (placed k) (handlers_of k) c fresh)))
       (λ i. (sym same_receivers i, (sym same_laid i, sym same_claims i))) t.2))
 
   -- a publication gives each handler its part of each event
@@ -123,15 +123,15 @@ module _ {T : Type 0} where
       let s = length w.sender.published in let count = laid_count k w K in let close = near k w K in let more = lent_all lents in let len = length-map lents (λ (l : Lent T). Some l) in
       subst (λ (q : Shape). MovesTo k u (rows (placed q) (handlers_of q) s more ++ rest) homes rest) (sym plan)
       (gives_moves k u rest (rows (placed k) (handlers_of k) s more) homes
-      (subst (λ (x : List (ReceiverRecord T) × (List (Option (Lent T)) × ℕ)). LiesBy k x.0 x.1.0 x.1.1 (filled homes (rows (placed k) (handlers_of k) s more)))
+      (subst (λ (x : List (ReceiverRecord T) × (List (Laid T) × ℕ)). LiesBy k x.0 x.1.0 x.1.1 (filled homes (rows (placed k) (handlers_of k) s more)))
       (λ i. (sym same_receivers i, (sym same_laid i, sym same_claims i)))
-      (publishes_give k K.some_slot w.receivers (laid w.sender) more s (claimed w.sender) homes lies K.ends count (omega arith) close)))
+      (publishes_give k K.shape.some_slot w.receivers (laid w.sender) more s (claimed w.sender) homes lies K.outlets count (omega arith) close)))
 
   stretches_of : (k : Shape) (w : World T) (h : ℕ) (r : ReceiverRecord T) → get_elem? w.receivers h ≡ some r → KeepsRule k w
       → Stretches k (laid w.sender) (claimed w.sender) r
   stretches_of k w h r at K =
       let was = K.received h r at in let count = laid_count k w K in let done = was.count in let taken = was.taken in
-      let inside : h < handlers_of k = (let b = at_below w.receivers h r at in let e = K.ends in omega arith) in let a = above k w K h inside in record {
+      let inside : h < handlers_of k = (let b = at_below w.receivers h r at in let e = K.outlets in omega arith) in let a = above k w K h inside in record {
         held = was.completed;
         sent = omega arith;
         near = omega arith;
@@ -145,8 +145,8 @@ module _ {T : Type 0} where
       → MovesTo k u hand homes (stretch (placed p g) (length r.received) (lent_all (next_of w r n)) ++ hand)
   poll_moves k p w u h g n r r' hand homes plan number at K lies same_receivers same_sender same longer =
       let s = length r.received in let more = lent_all (next_of w r n) in let len = length-map (next_of w r n) (λ (l : Lent T). Some l) in
-      let t = receiver_takes k K.some_slot w.receivers (laid w.sender) more (claimed w.sender) h r r' homes lies (stretches_of k w h r at K) at
-      (λ i l at_i. (let q = slice_at (lent_all w.sender.published) s n i l (ap (λ (xs : List (Option (Lent T))). get_elem? xs i) (slice_lent w.sender.published s n) ∙ at_i) in let e : k.size + (s + i) ≡ k.size + s + i = omega arith in
+      let t = receiver_takes k K.shape.some_slot w.receivers (laid w.sender) more (claimed w.sender) h r r' homes lies (stretches_of k w h r at K) at
+      (λ i l at_i. (let q = slice_at (lent_all w.sender.published) s n i l (ap (λ (xs : List (Laid T)). get_elem? xs i) (slice_lent w.sender.published s n) ∙ at_i) in let e : k.size + (s + i) ≡ k.size + s + i = omega arith in
       ap (λ (m : ℕ). get_elem? (laid w.sender) m) (sym e) ∙ laid_later k w (s + i) l K q.1)) same (omega arith) in
       subst (λ (q : Shape × ℕ). MovesTo k u hand homes (stretch (placed q.0 q.1) s more ++ hand)) (λ i. (sym plan i, sym number i))
       (takes_moves k u hand (stretch (placed k h) s more) homes t.0 t.1
@@ -166,12 +166,12 @@ module _ {T : Type 0} where
       (gives_moves k u rest (stretch (placed k h) s done) homes
       (subst (λ (x : List (ReceiverRecord T) × SenderRecord T). LiesBy k x.0 (laid x.1) (claimed x.1) (filled homes (stretch (placed k h) s done)))
       (λ i. (sym same_receivers i, sym same_sender i))
-      (receiver_gives k K.some_slot w.receivers (laid w.sender) done (claimed w.sender) h r r' homes lies (stretches_of k w h r at K) at K.ends
+      (receiver_gives k K.shape.some_slot w.receivers (laid w.sender) done (claimed w.sender) h r r' homes lies (stretches_of k w h r at K) at K.outlets
       (λ i l at_i lt. (let e : k.size + s + i ≡ k.size + (s + i) = omega arith in
       let sent = laid_earlier k w (s + i) l K (ap (λ (m : ℕ). get_elem? (laid w.sender) m) (sym e) ∙ at_i) in
-      ap (λ (xs : List (Option (Lent T))). get_elem? xs i) (sym (slice_lent r.received s (n - s)))
+      ap (λ (xs : List (Laid T)). get_elem? xs i) (sym (slice_lent r.received s (n - s)))
       ∙ at_slice (lent_all r.received) s (n - s) i l (omega arith)
       (ap (λ (xs : List (Lent T)). get_elem? (lent_all xs) (s + i)) was.beginning
-      ∙ ap (λ (xs : List (Option (Lent T))). get_elem? xs (s + i)) (take_lent w.sender.published (length r.received))
+      ∙ ap (λ (xs : List (Laid T)). get_elem? xs (s + i)) (take_lent w.sender.published (length r.received))
       ∙ taken_there (lent_all w.sender.published) (length r.received) (s + i) l (omega arith) sent)))
       same (omega arith) (omega arith))))

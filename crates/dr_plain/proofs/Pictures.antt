@@ -71,7 +71,7 @@ module _ {T : Type 0} where
   took_at w h r at = get_or-map taken_of w.receivers h r 0 (at_below w.receivers h r at) ∙ ap taken_of (value_at w.receivers h r r at)
 
   pub inside_of : (k : Shape) (w : World T) (h : ℕ) (r : ReceiverRecord T) → KeepsRule k w → get_elem? w.receivers h ≡ some r → h < handlers_of k
-  inside_of k w h r K at = let b = at_below w.receivers h r at in let e = K.ends in omega arith
+  inside_of k w h r K at = let b = at_below w.receivers h r at in let e = K.outlets in omega arith
 
   same_picture : (k : Shape) (w : World T) (h : ℕ) (r q : ReceiverRecord T) → get_elem? w.receivers h ≡ some r → taken_of q ≡ taken_of r
       → picture_of k (receiver_knows w h q) ≡ picture_of k w
@@ -81,12 +81,12 @@ module _ {T : Type 0} where
   -- what a claim of the sender has room for, the machine has
   pub claim_room : (k : Shape) (w : World T) (n : ℕ) (m : State T) → m.completed ≡ counts_of k w.words → SeesRoom k w.sender n → KeepsRule k w
       → claimed w.sender + n ≤ k.size + least_completed m (finals k.upstreams)
-  claim_room k w n m same room K = machine_room k.upstreams w.words k.size (claimed w.sender + n) m same K.graph (room_seen k w n room K)
+  claim_room k w n m same room K = machine_room k.upstreams w.words k.size (claimed w.sender + n) m same K.shape.graph (room_seen k w n room K)
 
   -- a claim is of the size at most
   pub claim_fits : (k : Shape) (w : World T) (n : ℕ) → SeesRoom k w.sender n → KeepsRule k w → n ≤ k.size
   claim_fits k w n room K =
-      let some_one = K.graph.some in let a = ahead_of_all k w (claimed w.sender + n) K (room_seen k w n room K) 0 some_one in
+      let some_one = K.shape.graph.some in let a = ahead_of_all k w (claimed w.sender + n) K (room_seen k w n room K) 0 some_one in
       let t = receiver_of_handler k w K 0 some_one in let e = t.2.count in let f = t.2.completed in let h = t.2.taken in omega arith
 
   abbrev claim_of : World T → ℕ → Bool → Transcript T
@@ -158,7 +158,7 @@ module _ {T : Type 0} where
       let S : Bool → State T = λ b. shown k (claimed s) (sent w) (word_at w.words cursor_word) ts d b in
       let seen : front (S true) ≡ word_at w.words cursor_word = shown_front k.upstreams k.size k.limit (claimed s) (values_of (sent w)) (word_at w.words cursor_word) ts d true (omega arith) in
       let offer : available (ring_setup k) (S true) h ≤ claimed s = offered_at_most (S true) (upstreams_of k.upstreams h) (claimed s) (omega arith)
-      (λ u has. (let i = upstream_inside k.upstreams K.graph h u inside has in let c = count_at k.upstreams w.words u i in let o = receiver_of_handler k w K u i in
+      (λ u has. (let i = upstream_inside k.upstreams K.shape.graph h u inside has in let c = count_at k.upstreams w.words u i in let o = receiver_of_handler k w K u i in
       let a = o.2.count in let b = o.2.completed in let e = o.2.taken in omega arith)) in
       let step = drained_step k.upstreams k.size k.limit (claimed s) (values_of (sent w)) (word_at w.words cursor_word) ts d h inside offer (took_at w h r at ∙ omega arith) in
       subst (λ (b : Bool). Leads k (entry (Poll h 1) Drained [] ++ rest) (S b) end) on
@@ -198,7 +198,7 @@ module _ {T : Type 0} where
       shown_front k.upstreams k.size k.limit (claimed w.sender) (values_of (sent w)) (word_at w.words cursor_word) (map taken_of w.receivers) (counts_of k w.words) (word_at w.words halt_word == 1) (omega arith) in
       let low = below_front k w h looks inside past K in
       offered_at_least m (upstreams_of k.upstreams h) n (λ none. omega arith)
-      (λ u has. (let i = upstream_inside k.upstreams K.graph h u inside has in let c = count_at k.upstreams w.words u i in let a = below_upstream k w h u looks past has in omega arith))
+      (λ u has. (let i = upstream_inside k.upstreams K.shape.graph h u inside has in let c = count_at k.upstreams w.words u i in let a = below_upstream k w h u looks past has in omega arith))
 
   lead_batch : (k : Shape) (w : World T) (h i room : ℕ) (r q : ReceiverRecord T) (rest : Transcript T) (end : State T) → get_elem? w.receivers h ≡ some r
       → i < words_of k → q.received ≡ r.received ++ next_of w r (taken_at r i (word_at w.words i) room) → KeepsRule k w
@@ -310,7 +310,7 @@ module _ {T : Type 0} where
       (sym (is_receiver k w h H.0 H.1))
       (lead_cursor_look k w h room H.0 rest end H.1 K (subst (λ (x : World T). Leads k rest (picture_of k x) end) H.2 L))
   lead_step k (ReceiverLooksAtCount h c room) w u rest end H K L =
-      let inside = upstream_inside k.upstreams K.graph h c (inside_of k w h H.0 K H.1) H.2.0 in let i = count_word c in
+      let inside = upstream_inside k.upstreams K.shape.graph h c (inside_of k w h H.0 K H.1) H.2.0 in let i = count_word c in
       let q = receiver_looked H.0 i (word_at w.words i) (next_of w H.0 (taken_at H.0 i (word_at w.words i) room)) in
       subst (λ (r : ReceiverRecord T). Leads k (batch_of k w h i room r ++ rest) (parts k w) end)
       (sym (is_receiver k w h H.0 H.1))

@@ -2,7 +2,7 @@
 use Rattle.std.proofs.Common.{◌≡◌, ℕ, ◌+◌, ◌-◌, ◌<◌, ◌≤◌, inl, inr, Bool, true, ◌==◌, ◌&&◌, ◌||◌, min}
 use Rattle.std.proofs.Common.{List, [], ◌∷◌, ◌++◌, length, take, drop, sym, refl, ap, ◌∙◌, subst, arith, append_assoc}
 use Rattle.std.specs.Prelude.{Contains, IsTrue, ◌↔◌}
-use Rattle.std.proofs.lemmas.Bool.{cases_eq, cases_lt, eq-eqb}
+use Rattle.std.proofs.lemmas.Bool.{cases_eq, cases_lt, eq-eqb, ne_eqb}
 use Rattle.std.proofs.lemmas.List.{length-append, append-nil}
 use mathlib.Core.Option.{some}
 use Rattle.atomic_table.proofs.Lists.{at_longer}
@@ -25,9 +25,10 @@ use Rattle.dr_runs.specs.Looks.{look}
 use Rattle.dr_runs.specs.OneSender.Looks.{count_looks}
 use Rattle.dr_plain.specs.Calls.Ends.{ReceiverStand}
 use Rattle.dr_plain.specs.Calls.Receiving.{looked_round, received_all, AnswersAsSeen, ups_of}
-use Rattle.dr_runs.specs.OneSender.Polls.{PollLooks, nothing_offered}
-use Rattle.dr_plain.specs.Inside.Fits.{taken_slots, ReceiverFits}
-use Rattle.dr_plain.specs.Inside.Hands.{with_hand}
+use Rattle.dr_runs.specs.OneSender.Polls.{PollLooks}
+use Rattle.dr_runs.specs.Polls.{nothing_offered}
+use Rattle.dr_plain.specs.Inside.Fits.{ReceiverFits}
+use Rattle.dr_lent.specs.Ends.{with_hand}
 use Rattle.dr_plain.specs.Inside.Polling.{receiver_saw, cursor_seen, LooksRound}
 use Rattle.dr_plain.specs.Inside.Seats.{Hand, lent_all, taken_by_poll}
 use Rattle.dr_plain.specs.Inside.Trades.{parts_between, blanks_between}
@@ -76,23 +77,23 @@ module _ {T : Type 0} (r r' : ReceiverRecord T) (room closed cursor available ta
   hand_none none = L.in_hand ∙ ap (λ (ls : List (Lent T)). taken_by_poll r ls ++ hand) (none_taken none)
 
   -- nothing is offered
-  pub poll_nothing : closed ≤ 1 → available ≤ taken → AnswersAsSeen r room r' (saw closed cursor L.counts) (nothing_offered closed cursor taken)
+  pub poll_nothing : closed ≤ 1 → available ≤ taken → AnswersAsSeen r room r' (saw closed cursor L.counts) (nothing_offered (closed == 1) cursor taken)
   poll_nothing flag none =
       let round = round_none none in let near = L.near in let least = near.0 in let ahead = L.ahead in
       let level : available ≡ length r.received = omega arith in
       let P : Polled → Type 0 = λ p. AnswersAsSeen r room r' (saw closed cursor L.counts) p in
       elim (cases_eq cursor taken) [
         | inl all ↦ elim (cases_eq closed 1) [
-          | inl one ↦ subst P (sym (drains closed cursor taken one all))
+          | inl one ↦ subst P (sym (drains (closed == 1) cursor taken (eq-eqb closed 1 one) (omega arith)))
               (one, omega arith, sym L.offered ∙ level, round, ap (λ (q : ReceiverRecord T). q.told) round ∙ is_told r closed cursor one (omega arith))
-          | inr still ↦ subst P (sym (idles closed cursor taken still (omega arith))) (omega arith, omega arith, sym L.offered ∙ level, round)
+          | inr still ↦ subst P (sym (idles (closed == 1) cursor taken (ne_eqb closed 1 still) (omega arith))) (omega arith, omega arith, sym L.offered ∙ level, round)
         ]
         | inr more ↦ (
             let some : 0 < length (ups_of r) = elim (cases_lt 0 (length (ups_of r))) [
               | inl lt ↦ lt
               | inr le ↦ absurd (more (let each = L.each in let c = only_cursor L.counts cursor (omega arith) in let o = L.offered in omega arith))
             ] in
-            subst P (sym (gates closed cursor taken more (omega arith)))
+            subst P (sym (gates (closed == 1) cursor taken (omega arith)))
             (omega arith, subst (λ (n : ℕ). Contains L.counts n) level (L.found some), sym L.offered ∙ level, round))
       ]
 
@@ -164,7 +165,7 @@ module _ {T : Type 0} (e e' : ReceiverStand T) (t c room closed cursor available
         let knows : s.knows ≡ K = ap (λ (x : ReceiverStand T). x.knows) is ∙ knows_is in
         let old : drop (upto - t) e'.hand ≡ e.hand =
         ap (λ (h : Hand T). drop (upto - t) h) new_in_hand ∙ drop_seam (parts_between e'.knows t upto) e.hand (upto - t) (parts_count e'.knows t upto may.1) in
-        let hand : s.hand ≡ taken_slots K =
+        let hand : s.hand ≡ blanks_between K K.completed (length K.received) =
         ap (λ (x : ReceiverStand T). x.hand) is
         ∙ (λ i. (old ∙ F.hand ∙ ap (λ (n : ℕ). blanks_between K e.knows.completed n) (sym F.taken)) i ++ blanks_between (knows_is i) t upto)
         ∙ sym (blanks_both K e.knows.completed t upto (omega arith) (omega arith)) ∙ ap (λ (n : ℕ). blanks_between K e.knows.completed n) (sym long) in

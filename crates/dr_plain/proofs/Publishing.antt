@@ -22,15 +22,16 @@ use Rattle.dr_lent.proofs.Lanes.{cell_later}
 use Rattle.dr_plain.specs.Meaning.Shape.{Shape, handlers_of}
 use Rattle.dr_plain.specs.Meaning.Words.{cell_of}
 use Rattle.dr_plain.specs.Meaning.Lying.{placed}
-use Rattle.dr_plain.specs.Meaning.Records.{claimed, laid, published_more}
+use Rattle.dr_plain.specs.Meaning.Records.{claimed, laid, published_more, Laid}
 use Rattle.dr_lent.specs.Events.{events_of}
 use Rattle.dr_plain.specs.declared.record.SenderRecord.{SenderRecord}
 use Rattle.dr_runs.specs.declared.written.Written.{Written}
 use Rattle.dr_plain.specs.Calls.Ends.{SenderStand, SenderEnd, sent_of}
 use Rattle.dr_plain.specs.Calls.Sending.{TriesToPublish}
-use Rattle.dr_plain.specs.Inside.Fits.{Keeps, SenderFields, SenderFits, TokensFit, no_lents, open_slots}
+use Rattle.dr_plain.specs.Inside.Fits.{Keeps, SenderFields, SenderFits, TokensFit, open_slots}
+use Rattle.dr_plain.specs.Inside.Hands.{no_lents}
 use Rattle.dr_plain.specs.Inside.Lending.{lanes, lents_of, AreLent, SameBut}
-use Rattle.dr_plain.specs.Inside.Hands.{with_hand}
+use Rattle.dr_lent.specs.Ends.{with_hand}
 use Rattle.dr_plain.specs.Inside.Noted.{Noted, writes_from}
 use Rattle.dr_runs.specs.OneSender.Noted.{AreNoted, HasUnnoted, is_noted}
 use Rattle.dr_plain.specs.Inside.Seats.{Hand, lent_all, given_by_publication}
@@ -158,8 +159,8 @@ module _ {T : Type 0} where
   out_later k q s m same = ap (λ (c : ℕ). let t : Token T = token_at k.strip c (kept m.round (handlers_of k) m.event) in t) same
 
   laid_more : (r : SenderRecord T) (lents : List (Lent T)) → laid (published_more r lents) ≡ laid r ++ lent_all lents
-  laid_more r lents = let nothing : Option (Lent T) = None in
-      ap (λ (ls : List (Option (Lent T))). replicate r.plan.size nothing ++ ls) (map-append (λ (l : Lent T). Some l) r.published lents)
+  laid_more r lents = let nothing : Laid T = None in
+      ap (λ (ls : List (Laid T)). replicate r.plan.size nothing ++ ls) (map-append (λ (l : Lent T). Some l) r.published lents)
       ∙ sym (append_assoc (replicate r.plan.size nothing) (lent_all r.published) (lent_all lents))
 
   pub tokens_published : (r : SenderRecord T) (lents : List (Lent T)) (tokens tokens' : List (Token T)) → 0 < r.plan.size → length lents ≤ r.pending
@@ -174,7 +175,7 @@ module _ {T : Type 0} where
             (sym (S.others (cell_of k s) (λ q from to. slots_differ k.size q s (λ (e : q ≡ s). omega arith) (omega arith) (omega arith))) ∙ at);
         others = λ s l t low here at. (let all = laid_count r in elim (cases_lt s (k.size + length r.published)) [
           | inl before ↦ F.others s l t (omega arith)
-              (sym (first_at (laid r) (lent_all lents) s (omega arith)) ∙ ap (λ (ls : List (Option (Lent T))). get_elem? ls s) (sym (laid_more r lents)) ∙ here)
+              (sym (first_at (laid r) (lent_all lents) s (omega arith)) ∙ ap (λ (ls : List (Laid T)). get_elem? ls s) (sym (laid_more r lents)) ∙ here)
               (sym (S.others (cell_of k s) (λ q from to. slots_differ k.size q s (λ (e : q ≡ s). omega arith) (omega arith) (omega arith))) ∙ at)
           | inr after ↦ (
               let m = laid_later (published_more r lents) s l (omega arith) here in
@@ -185,14 +186,14 @@ module _ {T : Type 0} where
               (let e : s ≡ k.size + (length r.published + i) = omega arith in sym (ap (cell_of k) e ∙ cell_later k.size (length r.published + i))) in
               let token : out k (length r.published + i) (handlers_of k) m.0 ≡ t =
               some-injective (out k (length r.published + i) (handlers_of k) m.0) t (sym (L i m.0 mine) ∙ ap (λ (c : ℕ). get_elem? tokens' c) cell ∙ at) in
-              subst (λ (o : Option (Lent T)). Keeps k s o t) (sym m.2) (sym token ∙ out_later k (length r.published + i) s m.0 cell))
+              subst (λ (o : Laid T). Keeps k s o t) (sym m.2) (sym token ∙ out_later k (length r.published + i) s m.0 cell))
         ]);
       }
 
   -- Its hand: the rows of what is to be lent stand in front of the others, and then behind them, till they are turned.
   pub rows_split : (k : Shape) (s n m p : ℕ) → n + m ≡ p → lanes {T = T} k s (no_lents p) ≡ lanes k s (no_lents n) ++ lanes k (s + n) (no_lents m)
-  rows_split k s n m p e = let nothing : Option (Lent T) = None in
-      ap (λ (ls : List (Option (Lent T))). lanes k s ls) (sym (replicate_both n m nothing ∙ ap (λ (j : ℕ). replicate j nothing) e))
+  rows_split k s n m p e = let nothing : Laid T = None in
+      ap (λ (ls : List (Laid T)). lanes k s ls) (sym (replicate_both n m nothing ∙ ap (λ (j : ℕ). replicate j nothing) e))
       ∙ rows_both (placed k) (handlers_of k) s (no_lents n) (no_lents m)
       ∙ ap (λ (j : ℕ). lanes k s (no_lents n) ++ lanes k (s + j) (no_lents m)) (blanks_count T n)
 

@@ -61,7 +61,7 @@ module _ {T : Type 0} (k : Shape) (w : World T) (K : KeepsRule k w) where
 
   kept : (writes : List (Option T)) → IsKept (with_writes writes)
   kept writes = record {
-    graph = K.graph;
+    graph = K.shape.graph;
     cursor = K.counts.cursor;
     completed = λ h lt. (let o = receiver_of_handler k w K h lt in let a = o.2.count in let b = o.2.completed in let e = o.2.taken in omega arith);
     closed = K.flags.complete;
@@ -100,7 +100,7 @@ module _ {T : Type 0} (k : Shape) (w : World T) (K : KeepsRule k w) where
       (omega arith, (f, subst (λ (q : Shape). Contains (finals q.upstreams) f) plan has, omega arith))
 
   claim_replies : (n : ℕ) (result : Result Stretch Refusal) → IsAnswerOf (claim_causes (tests_of_claim w.sender n)) (as_end result)
-      → Decided n result → Replies k (picture_of k w) (Claim 0 n) (claim_reply result)
+      → Decided n result → Replies k w (Claim 0 n) (claim_reply result)
   claim_replies n result answer D =
       let known : IsAnswerOf (claim_causes (claim_tests_of k.size k.limit (claimed w.sender) n)) (as_end result) =
       subst (λ (q : Shape). IsAnswerOf (claim_causes (claim_tests_of q.size q.limit (claimed w.sender) n)) (as_end result)) K.sender_plan answer in
@@ -112,7 +112,7 @@ module _ {T : Type 0} (k : Shape) (w : World T) (K : KeepsRule k w) where
 
   poll_replies : (h room : ℕ) (r : ReceiverRecord T) (result : Result Polled Refusal) → get_elem? w.receivers h ≡ some r
       → IsAnswerOf (poll_causes (tests_of_poll r room)) (as_end result) → DecidesPoll k w r result
-      → Replies k (picture_of k w) (Poll h room) (poll_reply result)
+      → Replies k w (Poll h room) (poll_reply result)
   poll_replies h room r result at answer D =
       let here : DecidesPollOf k.upstreams w.words h (length r.received) w.sender.pending result =
       subst (λ (n : ℕ). DecidesPollOf k.upstreams w.words n (length r.received) w.sender.pending result) (K.received h r at).number D in

@@ -38,7 +38,7 @@ module _ {T : Type 0} (i : ℕ) where
   rises_step k (ReceiverLooksAtCursor h room) w u H K = subst (Rises w) (sym H.2) (omega arith)
   rises_step k (ReceiverLooksAtCount h c room) w u H K = subst (Rises w) (sym H.2.1) (omega arith)
   rises_step k (ReceiverCompletes h n) w u H K =
-      let wide = K.wide in let up = H.2.0 in let was = (K.received h H.0 H.1).count in let inside = at_below w.receivers h H.0 H.1 in let ends = K.ends in
+      let wide = K.wide in let up = H.2.0 in let was = (K.received h H.0 H.1).count in let inside = at_below w.receivers h H.0 H.1 in let ends = K.outlets in
       subst (Rises w) (sym H.2.2) (raised_word w.words i (count_word h) n (omega arith) (omega arith))
   rises_step k HalterHalts w u H K = let wide = K.wide in subst (Rises w) (sym H) (raised_word w.words i halt_word 1 (omega arith) K.flags.halt)
   rises_step k (HalterLooks word) w u H K = subst (Rises w) (sym H.1) (omega arith)

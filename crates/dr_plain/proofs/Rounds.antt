@@ -13,7 +13,7 @@ use Rattle.dr_plain.specs.Inside.Fits.{IsSeenLeast}
 use Rattle.dr_plain.specs.Inside.Scans.{LooksAtFinals, IsEnough, IsShort}
 use Rattle.dr_runs.proofs.Offers.{some_final}
 use Rattle.dr_runs.proofs.Scans as scans
-use Rattle.dr_runs.proofs.Scans.{AreScanned, AreEnough, rises_none, rises_more}
+use Rattle.dr_runs.proofs.Scans.{AreScanned, rises_none, rises_more}
 
 module _ {T : Type 0} where
   -- the first i finals were looked at
@@ -32,10 +32,6 @@ module _ {T : Type 0} where
     rises = rises_more r.looks xs i v S.rises (subst (λ (q : SenderRecord T). last_look 0 q.looks i ≤ v) S.is rise);
   }
 
-  enough : (r : SenderRecord T) (xs : List Look) (needed least : ℕ) → AreEnough (finals r.plan.upstreams) r.looks (length r.published) needed xs least
-      → IsEnough r xs needed least
-  enough r xs needed least E = record { enough = E.enough; front = E.front; seen = E.seen; counts = E.counts; are = E.are; all = E.all; high = E.high }
-
   pub scanned_more : (r s s' : SenderRecord T) (needed least least' i f v : ℕ) → Scanned r needed least i s → i < length (finals r.plan.upstreams)
       → get_or (finals r.plan.upstreams) i 0 ≡ f → s' ≡ sender_looked s (count_word f) v → last_look 0 s.looks (count_word f) ≤ v
       → needed ≤ v → v ≤ length s.published → least' ≡ min least v → Scanned r needed least' (i + 1) s'
@@ -53,7 +49,7 @@ module _ {T : Type 0} where
       let E = scans.scanned_low (finals r.plan.upstreams) r.looks (length r.published) needed S.xs least i f v S.are inside at low in (
         S.xs ++ look (count_word f) v ∷ [],
         saw_more r s s' S.xs (count_word f) v S.saw is rise,
-        record { counts = E.counts; are = E.are; before = E.before; last = E.last; among = E.among; high = E.high; low = E.low },
+        E,
       )
 
   pub scanned_all : (r s : SenderRecord T) (needed least i : ℕ) → IsPlan r.plan → Scanned r needed least i s → i ≡ length (finals r.plan.upstreams)
@@ -61,11 +57,11 @@ module _ {T : Type 0} where
   scanned_all r s needed least i plan S all =
       let some_one = some_final r.plan.upstreams plan.graph in
       let E = scans.scanned_all (finals r.plan.upstreams) r.looks (length r.published) needed S.xs least i some_one S.are all in
-      (S.xs, S.saw, enough r S.xs needed least E)
+      (S.xs, S.saw, E)
 
   -- what is remembered serves
   pub remembers : (r : SenderRecord T) (needed least front : ℕ) → needed ≤ least → least ≤ front → front ≡ length r.published → IsSeenLeast r least
       → (xs : List Look) × LooksAtFinals r xs r × IsEnough r xs needed least
   remembers r needed least front serves low at seen =
       let E = scans.remembers (finals r.plan.upstreams) r.looks (length r.published) needed least serves (omega arith) seen in
-      ([], saw_nothing r, enough r [] needed least E)
+      ([], saw_nothing r, E)

@@ -1,5 +1,5 @@
 -- The sender's slots in hand, a row for each sequence.
-use Rattle.std.proofs.Common.{◌≡◌, ℕ, zero, suc, ◌+◌, ◌-◌, ◌*◌, ◌<◌, ◌≤◌, List, [], ◌∷◌, ◌++◌, length, take, drop, replicate, Option, sym, refl, ap}
+use Rattle.std.proofs.Common.{◌≡◌, ℕ, zero, suc, ◌+◌, ◌-◌, ◌*◌, ◌<◌, ◌≤◌, List, [], ◌∷◌, ◌++◌, length, take, drop, replicate, sym, refl, ap}
 use Rattle.std.proofs.Common.{◌∙◌, arith, append_assoc}
 use Rattle.std.proofs.lemmas.List.{append-nil, length-append, length-replicate}
 use Rattle.std.proofs.Math.Nat.{mul-suc}
@@ -7,11 +7,11 @@ use mathlib.Core.Option.{some}
 use lib.ListN.{get_elem?}
 use Rattle.dr_runs.specs.Stretches.{stretch, rows}
 use Rattle.dr_runs.proofs.Rows.{length_stretch, stretch_at, replicate_at}
-use Rattle.dr_lent.specs.declared.lent.Lent.{Lent}
 use Rattle.dr_plain.specs.Meaning.Shape.{Shape, handlers_of}
 use Rattle.dr_plain.specs.Meaning.Lying.{placed}
-use Rattle.dr_plain.specs.Calls.Ends.{EndOf}
-use Rattle.dr_plain.specs.Inside.Hands.{with_hand, row}
+use Rattle.dr_plain.specs.Meaning.Records.{Laid}
+use Rattle.dr_lent.specs.Ends.{StandOf, with_hand}
+use Rattle.dr_plain.specs.Inside.Hands.{row}
 use Rattle.dr_plain.specs.Inside.Lending.{lanes}
 use Rattle.dr_plain.specs.Inside.Seats.{Hand}
 
@@ -70,17 +70,17 @@ module _ {A X : Type 0} (place : ℕ → ℕ → A → X) where
       omega (arith, length-append first (rows place n (s + 1) ls), mul-suc n (length ls))
 
 -- one slot of a row
-pub row_at : {T : Type 0} (k : Shape) (s : ℕ) (l : Option (Lent T)) (h : ℕ) → h < handlers_of k → get_elem? (row k s l) (h - 0) ≡ some (placed k h s l)
+pub row_at : {T : Type 0} (k : Shape) (s : ℕ) (l : Laid T) (h : ℕ) → h < handlers_of k → get_elem? (row k s l) (h - 0) ≡ some (placed k h s l)
 row_at k s l h lt = let e : h - 0 ≡ h = omega arith in let f : 0 + h ≡ h = omega arith in
     ap (λ (m : ℕ). get_elem? (row k s l) m) e ∙ stretch_at (λ h b. placed k h s b) 0 (replicate (handlers_of k) l) h l (replicate_at (handlers_of k) h l lt)
     ∙ ap (λ (m : ℕ). some (placed k m s l)) f
 
-pub row_count : {T : Type 0} (k : Shape) (s : ℕ) (l : Option (Lent T)) → length (row k s l) ≡ handlers_of k
+pub row_count : {T : Type 0} (k : Shape) (s : ℕ) (l : Laid T) → length (row k s l) ≡ handlers_of k
 row_count k s l = length_row (placed k) (handlers_of k) s l
 
 -- A loop of the sender over rows, where it began with e: those of xs that are left stand in front, and those that were traded behind the others.
-module _ {T K : Type 0} (e : EndOf T K) (k : Shape) (first : ℕ) (xs : List (Option (Lent T))) (others : Hand T) where
-  abbrev pub Rowed : ℕ → List (Option (Lent T)) → EndOf T K → Type 0
+module _ {T S K : Type 0} (e : StandOf T S K) (k : Shape) (first : ℕ) (xs : List (Laid T)) (others : Hand T) where
+  abbrev pub Rowed : ℕ → List (Laid T) → StandOf T S K → Type 0
   Rowed s ys now = now ≡ with_hand e (lanes k s (drop (s - first) xs) ++ (others ++ lanes k first ys))
 
   pub rowed_none : e.hand ≡ lanes k first xs ++ others → Rowed first [] e
@@ -88,21 +88,21 @@ module _ {T K : Type 0} (e : EndOf T K) (k : Shape) (first : ℕ) (xs : List (Op
       ap (λ (h : Hand T). with_hand e h)
       (is ∙ (λ i. lanes k first (drop (none i) xs) ++ sym (append-nil others) i))
 
-  hand_of : (s : ℕ) (ys : List (Option (Lent T))) (now : EndOf T K) → Rowed s ys now
+  hand_of : (s : ℕ) (ys : List (Laid T)) (now : StandOf T S K) → Rowed s ys now
       → now.hand ≡ lanes k s (drop (s - first) xs) ++ (others ++ lanes k first ys)
-  hand_of s ys now is = ap (λ (x : EndOf T K). x.hand) is
+  hand_of s ys now is = ap (λ (x : StandOf T S K). x.hand) is
 
   -- the next row stands in front
-  pub rowed_row : (s : ℕ) (ys : List (Option (Lent T))) (now : EndOf T K) (l : Option (Lent T)) → Rowed s ys now → get_elem? xs (s - first) ≡ some l
+  pub rowed_row : (s : ℕ) (ys : List (Laid T)) (now : StandOf T S K) (l : Laid T) → Rowed s ys now → get_elem? xs (s - first) ≡ some l
       → (o : Hand T) × (now.hand ≡ row k s l ++ o)
   rowed_row s ys now l is at =
       let left = lanes k (s + 1) (drop (s - first + 1) xs) in (
         left ++ (others ++ lanes k first ys),
-        hand_of s ys now is ∙ ap (λ (zs : List (Option (Lent T))). lanes k s zs ++ (others ++ lanes k first ys)) (dropped_next xs (s - first) l at)
+        hand_of s ys now is ∙ ap (λ (zs : List (Laid T)). lanes k s zs ++ (others ++ lanes k first ys)) (dropped_next xs (s - first) l at)
             ∙ append_assoc (row k s l) left (others ++ lanes k first ys),
       )
 
-  pub rowed_next : (s : ℕ) (ys : List (Option (Lent T))) (now next : EndOf T K) (l m : Option (Lent T)) → first ≤ s → Rowed s ys now
+  pub rowed_next : (s : ℕ) (ys : List (Laid T)) (now next : StandOf T S K) (l m : Laid T) → first ≤ s → Rowed s ys now
       → get_elem? xs (s - first) ≡ some l
       → length ys ≡ s - first → next ≡ with_hand now (drop (handlers_of k) now.hand ++ row k s m) → Rowed (s + 1) (ys ++ m ∷ []) next
   unfolding rowed_row
@@ -116,16 +116,16 @@ module _ {T K : Type 0} (e : EndOf T K) (k : Shape) (first : ℕ) (xs : List (Op
       ∙ ap (λ (h : Hand T). left ++ h) (append_assoc others (lanes k first ys) (row k s m))
       ∙ ap (λ (h : Hand T). left ++ (others ++ h)) (rows_more (placed k) (handlers_of k) first s ys m (omega arith))
       ∙ ap (λ (n : ℕ). lanes k (s + 1) (drop n xs) ++ (others ++ lanes k first (ys ++ m ∷ []))) later in
-      new ∙ ap (λ (q : EndOf T K). with_hand q (drop (handlers_of k) now.hand ++ row k s m)) is ∙ ap (λ (h : Hand T). with_hand e h) hand
+      new ∙ ap (λ (q : StandOf T S K). with_hand q (drop (handlers_of k) now.hand ++ row k s m)) is ∙ ap (λ (h : Hand T). with_hand e h) hand
 
-  pub rowed_all : (s : ℕ) (ys : List (Option (Lent T))) (now : EndOf T K) → Rowed s ys now → s - first ≡ length xs
+  pub rowed_all : (s : ℕ) (ys : List (Laid T)) (now : StandOf T S K) → Rowed s ys now → s - first ≡ length xs
       → now ≡ with_hand e (others ++ lanes k first ys)
   rowed_all s ys now is all =
-      is ∙ ap (λ (zs : List (Option (Lent T))). with_hand e (lanes k s zs ++ (others ++ lanes k first ys)))
-      (ap (λ (n : ℕ). drop n xs) all ∙ ap (λ (zs : List (Option (Lent T))). drop (length xs) zs) (sym (append-nil xs)) ∙ dropped xs [] (length xs) refl)
+      is ∙ ap (λ (zs : List (Laid T)). with_hand e (lanes k s zs ++ (others ++ lanes k first ys)))
+      (ap (λ (n : ℕ). drop n xs) all ∙ ap (λ (zs : List (Laid T)). drop (length xs) zs) (sym (append-nil xs)) ∙ dropped xs [] (length xs) refl)
 
 -- the others, once so many rows are in front of them
-pub others_of : {T K : Type 0} (e : EndOf T K) (k : Shape) (first n : ℕ) (xs : List (Option (Lent T))) (o : Hand T) → e.hand ≡ lanes k first xs ++ o
+pub others_of : {T S K : Type 0} (e : StandOf T S K) (k : Shape) (first n : ℕ) (xs : List (Laid T)) (o : Hand T) → e.hand ≡ lanes k first xs ++ o
     → length xs ≡ n
     → o ≡ drop (handlers_of k * n) e.hand
 others_of e k first n xs o is count =

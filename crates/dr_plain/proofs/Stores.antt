@@ -38,10 +38,9 @@ module _ {T : Type 0} where
       let not_closed : word_at w.words closed_word ≢ 1 = λ (c : word_at w.words closed_word ≡ 1). (let e = (K.flags.complete c).1 in omega arith) in
       let one = stays halt_word (omega arith) in let two = stays closed_word (omega arith) in
       let F = K.flags in let whole : length (old ++ lents) + (w.sender.pending - length lents) ≡ claimed w.sender = omega arith in record {
-        graph = K.graph;
-        some_slot = K.some_slot;
+        shape = K.shape;
         wide = length-set w.words cursor_word n ∙ K.wide;
-        ends = K.ends;
+        outlets = K.outlets;
         sender_plan = K.sender_plan;
         halter_plan = K.halter_plan;
         counts = record { cursor = get_or-set_same w.words cursor_word n 0 inside ∙ sym longer; limit = let l = K.counts.limit in omega arith };
@@ -59,7 +58,7 @@ module _ {T : Type 0} where
         room = subst (Room k us) (sym whole) (room_stays k.upstreams w.words k.size (claimed w.sender) us (λ h lt'. (let e = stays (count_word h) (omega arith) in omega arith)) K.room);
         flags = flags_open us w.sender.pending (w.sender.pending - length lents) w.sender.halted w.sender.closed w.halter.halted (λ y. not_closed (sym two ∙ y)) (flags_stay w.words us w.sender.pending w.sender.halted w.sender.closed w.halter.halted one two K.flags);
         looks = past_set (words_of k) w.words cursor_word n w.sender.looks inside rises K.looks;
-        watched = past_set (words_of k) w.words cursor_word n w.halter.looks inside rises K.watched;
+        halter = past_set (words_of k) w.words cursor_word n w.halter.looks inside rises K.halter;
       }
 
   -- halt or closed becomes 1: what speaks of neither stays
@@ -73,19 +72,18 @@ module _ {T : Type 0} where
       let stays : (j : ℕ) → j ≢ i → word_at us j ≡ word_at w.words j = λ j ne. get_or-set_other w.words i j 1 0 ne in
       let up : (j : ℕ) → word_at w.words j ≡ 1
       → word_at us j ≡ 1 = λ j e. elim (cases_eq j i) [ inl same ↦ ap (λ (m : ℕ). word_at us m) same ∙ here | inr ne ↦ stays j ne ∙ e ] in record {
-        graph = K.graph;
-        some_slot = K.some_slot;
+        shape = K.shape;
         wide = length-set w.words i 1 ∙ K.wide;
-        ends = K.ends;
+        outlets = K.outlets;
         sender_plan = K.sender_plan;
         halter_plan = K.halter_plan;
         counts = record { cursor = stays cursor_word (λ e. omega arith) ∙ K.counts.cursor; limit = K.counts.limit };
-        received = λ h r there. (let inside_h : h < handlers_of k = (let b = at_below w.receivers h r there in let c = K.ends in omega arith) in let was = K.received h r there in
-            receiver_stays k w.words us w.sender.published h r K.graph inside_h (stays (count_word h) (λ e. omega arith)) (λ u lt'. (let e = stays (count_word u) (λ e. omega arith) in omega arith)) (up closed_word) (past_set (words_of k) w.words i 1 r.looks inside rises was.looks) was);
+        received = λ h r there. (let inside_h : h < handlers_of k = (let b = at_below w.receivers h r there in let c = K.outlets in omega arith) in let was = K.received h r there in
+            receiver_stays k w.words us w.sender.published h r K.shape.graph inside_h (stays (count_word h) (λ e. omega arith)) (λ u lt'. (let e = stays (count_word u) (λ e. omega arith) in omega arith)) (up closed_word) (past_set (words_of k) w.words i 1 r.looks inside rises was.looks) was);
         room = room_stays k.upstreams w.words k.size (claimed w.sender) us (λ h lt'. (let e = stays (count_word h) (λ e. omega arith) in omega arith)) K.room;
         flags = flags;
         looks = past_set (words_of k) w.words i 1 w.sender.looks inside rises K.looks;
-        watched = past_set (words_of k) w.words i 1 w.halter.looks inside rises K.watched;
+        halter = past_set (words_of k) w.words i 1 w.halter.looks inside rises K.halter;
       }
 
   pub keeps_sender_halts : (k : Shape) (w : World T) → KeepsRule k w → KeepsRule k (sender_stores w halt_word 1 (sender_halted w.sender))
@@ -105,10 +103,9 @@ module _ {T : Type 0} where
   receiver_changes : (k : Shape) (w : World T) (h : ℕ) (q : ReceiverRecord T) → ReceiverKept k w.words w.sender.published h q → KeepsRule k w
       → KeepsRule k (receiver_knows w h q)
   receiver_changes k w h q new K = record {
-    graph = K.graph;
-    some_slot = K.some_slot;
+    shape = K.shape;
     wide = K.wide;
-    ends = length-set w.receivers h q ∙ K.ends;
+    outlets = length-set w.receivers h q ∙ K.outlets;
     sender_plan = K.sender_plan;
     halter_plan = K.halter_plan;
     counts = K.counts;
@@ -116,17 +113,16 @@ module _ {T : Type 0} where
     room = K.room;
     flags = K.flags;
     looks = K.looks;
-    watched = K.watched;
+    halter = K.halter;
   }
 
   -- the halter looks at a word
   pub keeps_halter_looks : (k : Shape) (w : World T) (i : ℕ) → i < words_of k → KeepsRule k w
       → KeepsRule k (record w { halter = halter_looked w.halter i (word_at w.words i) })
   keeps_halter_looks k w i lt K = record {
-    graph = K.graph;
-    some_slot = K.some_slot;
+    shape = K.shape;
     wide = K.wide;
-    ends = K.ends;
+    outlets = K.outlets;
     sender_plan = K.sender_plan;
     halter_plan = K.halter_plan;
     counts = K.counts;
@@ -134,11 +130,11 @@ module _ {T : Type 0} where
     room = K.room;
     flags = K.flags;
     looks = K.looks;
-    watched = past_more (words_of k) w.words i (word_at w.words i) w.halter.looks lt (omega arith) K.watched;
+    halter = past_more (words_of k) w.words i (word_at w.words i) w.halter.looks lt (omega arith) K.halter;
   }
 
   inside_of : (k : Shape) (w : World T) (h : ℕ) (r : ReceiverRecord T) → KeepsRule k w → get_elem? w.receivers h ≡ some r → h < handlers_of k
-  inside_of k w h r K at = let b = at_below w.receivers h r at in let e = K.ends in omega arith
+  inside_of k w h r K at = let b = at_below w.receivers h r at in let e = K.outlets in omega arith
 
   pub keeps_closed_look : (k : Shape) (w : World T) (h : ℕ) (r : ReceiverRecord T) → get_elem? w.receivers h ≡ some r → KeepsRule k w
       → KeepsRule k (receiver_knows w h (closed_looked r (word_at w.words closed_word)))
@@ -224,10 +220,9 @@ module _ {T : Type 0} where
       let stays : (j : ℕ) → j ≢ i → word_at us j ≡ word_at w.words j = λ j ne. get_or-set_other w.words i j n 0 ne in
       let up : (j : ℕ) → j < handlers_of k → word_at w.words (count_word j) ≤ word_at us (count_word j) = λ j _. counts_rise k.upstreams w.words h n inside (omega arith) j in
       let one = stays halt_word (λ e. omega arith) in let two = stays closed_word (λ e. omega arith) in record {
-        graph = K.graph;
-        some_slot = K.some_slot;
+        shape = K.shape;
         wide = length-set w.words i n ∙ K.wide;
-        ends = length-set w.receivers h (completed_to r n) ∙ K.ends;
+        outlets = length-set w.receivers h (completed_to r n) ∙ K.outlets;
         sender_plan = K.sender_plan;
         halter_plan = K.halter_plan;
         counts = record { cursor = stays cursor_word (λ e. omega arith) ∙ K.counts.cursor; limit = K.counts.limit };
@@ -238,15 +233,15 @@ module _ {T : Type 0} where
               count = here;
               completed = le;
               taken = was.taken;
-              after = λ u isup. (let a = was.after u isup in let b = up u (upstream_inside k.upstreams K.graph h u lt isup) in omega arith);
+              after = λ u isup. (let a = was.after u isup in let b = up u (upstream_inside k.upstreams K.shape.graph h u lt isup) in omega arith);
               beginning = was.beginning;
               told = λ yes. (two ∙ (was.told yes).0, (was.told yes).1);
               looks = past_set (words_of k) w.words i n r.looks inside rises was.looks;
             })
             (λ j q ne there. (let old = K.received j q there in let inside_j : j < handlers_of k = inside_of k w j q K there in
-            receiver_stays k w.words us w.sender.published j q K.graph inside_j (stays (count_word j) (λ e. ne (omega arith))) up (λ c. two ∙ c) (past_set (words_of k) w.words i n q.looks inside rises old.looks) old));
+            receiver_stays k w.words us w.sender.published j q K.shape.graph inside_j (stays (count_word j) (λ e. ne (omega arith))) up (λ c. two ∙ c) (past_set (words_of k) w.words i n q.looks inside rises old.looks) old));
         room = room_stays k.upstreams w.words k.size (claimed w.sender) us up K.room;
         flags = flags_stay w.words us w.sender.pending w.sender.halted w.sender.closed w.halter.halted one two K.flags;
         looks = past_set (words_of k) w.words i n w.sender.looks inside rises K.looks;
-        watched = past_set (words_of k) w.words i n w.halter.looks inside rises K.watched;
+        halter = past_set (words_of k) w.words i n w.halter.looks inside rises K.halter;
       }

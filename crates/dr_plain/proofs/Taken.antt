@@ -1,5 +1,5 @@
 -- What a receiver has in hand, and its parts, as it takes events and completes them.
-use Rattle.std.proofs.Common.{◌≡◌, ℕ, ◌+◌, ◌-◌, ◌≤◌, List, ◌++◌, length, take, drop, replicate, Option, None, sym, refl, ap, ◌∙◌, subst, arith}
+use Rattle.std.proofs.Common.{◌≡◌, ℕ, ◌+◌, ◌-◌, ◌≤◌, List, ◌++◌, length, take, drop, replicate, None, sym, refl, ap, ◌∙◌, subst, arith}
 use Rattle.std.proofs.Math.Seq.{drop-append_seam}
 use Rattle.std.proofs.lemmas.List.{replicate-append-replicate, length-replicate, length-append}
 use Rattle.dr_cells.specs.declared.token.Token.{Token}
@@ -7,16 +7,16 @@ use Rattle.dr_seq.proofs.Apart.{slots_differ}
 use Rattle.dr_runs.specs.Stretches.{stretch}
 use Rattle.dr_runs.proofs.Rows.{stretch_both}
 use Rattle.dr_lent.proofs.Lists.{drop_seam, take_seam}
-use Rattle.dr_lent.specs.declared.lent.Lent.{Lent}
 use Rattle.dr_lent.specs.Trades.{SamePlaces, ArePartsBetween}
 use Rattle.dr_plain.specs.Meaning.Words.{cell_of}
 use Rattle.dr_plain.specs.Meaning.Lying.{placed}
-use Rattle.dr_plain.specs.Meaning.Records.{completed_to}
+use Rattle.dr_plain.specs.Meaning.Records.{completed_to, Laid}
 use Rattle.dr_plain.specs.declared.record.ReceiverRecord.{ReceiverRecord}
 use Rattle.dr_plain.specs.declared.record.Step.{Step}
-use Rattle.dr_plain.specs.Calls.Ends.{ReceiverStand, HasStored}
-use Rattle.dr_plain.specs.Inside.Fits.{no_lents, ReceiverFits}
-use Rattle.dr_plain.specs.Inside.Hands.{with_hand}
+use Rattle.dr_lent.specs.Ends.{HasStored, with_hand}
+use Rattle.dr_plain.specs.Calls.Ends.{ReceiverStand}
+use Rattle.dr_plain.specs.Inside.Fits.{ReceiverFits}
+use Rattle.dr_plain.specs.Inside.Hands.{no_lents}
 use Rattle.dr_plain.specs.Inside.Seats.{Hand, given_by_completion}
 use Rattle.dr_plain.specs.Inside.Trades.{parts_between, blanks_between}
 use Rattle.dr_runs.proofs.Elements.{at_below}
@@ -26,11 +26,11 @@ module _ {T : Type 0} where
   -- the slots for some sequences, and for those that follow
   pub blanks_both : (r : ReceiverRecord T) (a b c : ℕ) → a ≤ b → b ≤ c → blanks_between r a c ≡ blanks_between r a b ++ blanks_between r b c
   blanks_both r a b c low high =
-      let nothing : Option (Lent T) = None in let whole : b - a + (c - b) ≡ c - a = omega arith in
+      let nothing : Laid T = None in let whole : b - a + (c - b) ≡ c - a = omega arith in
       let both : no_lents (c - a) ≡ no_lents (b - a) ++ no_lents (c - b) =
       ap (λ (n : ℕ). replicate n nothing) (sym whole) ∙ sym (replicate-append-replicate (b - a) (c - b) nothing) in
       let at : a + length (no_lents (b - a)) ≡ b = omega (arith, length-replicate (b - a) nothing) in
-      ap (λ (xs : List (Option (Lent T))). stretch (placed r.plan r.number) a xs) both
+      ap (λ (xs : List (Laid T)). stretch (placed r.plan r.number) a xs) both
       ∙ stretch_both (placed r.plan r.number) a (no_lents (b - a)) (no_lents (c - b))
       ∙ ap (λ (n : ℕ). blanks_between r a b ++ stretch (placed r.plan r.number) n (no_lents (c - b))) at
 

@@ -1,26 +1,19 @@
 -- The slots of a receiver that are first in hand, with its parts in them and with nothing.
-use Rattle.std.proofs.Common.{◌≡◌, ℕ, ◌+◌, ◌-◌, ◌<◌, ◌≤◌, length, take, drop, Option, Some, None}
-use Rattle.std.proofs.Common.{refl, ap, ◌∙◌, arith}
+use Rattle.std.proofs.Common.{◌≡◌, ℕ, ◌+◌, ◌-◌, ◌<◌, ◌≤◌, length, take, drop, Some, None}
+use Rattle.std.proofs.Common.{ap, ◌∙◌, arith}
 use Rattle.std.proofs.lemmas.List.{length-map, length-take, length-drop, length-replicate}
 use mathlib.Core.Option.{some}
 use lib.ListN.{get_elem?}
-use Rattle.dr_cells.specs.declared.token.Token.{Token}
 use Rattle.dr_lent.proofs.Lists.{at_slice}
-use Rattle.dr_lent.proofs.Trading.{Holder}
 use Rattle.dr_lent.specs.declared.lent.Lent.{Lent}
 use Rattle.dr_runs.proofs.Lists.{map_there}
 use Rattle.dr_runs.proofs.Rows.{length_stretch, stretch_at, replicate_at}
 use Rattle.dr_plain.specs.Meaning.Lying.{placed}
+use Rattle.dr_plain.specs.Meaning.Records.{Laid}
 use Rattle.dr_plain.specs.declared.record.ReceiverRecord.{ReceiverRecord}
-use Rattle.dr_plain.specs.Calls.Ends.{EndOf}
-use Rattle.dr_plain.specs.Inside.Fits.{no_lents}
-use Rattle.dr_plain.specs.Inside.Hands.{with_hand}
+use Rattle.dr_plain.specs.Inside.Hands.{no_lents}
 use Rattle.dr_plain.specs.Inside.Seats.{lent_all}
 use Rattle.dr_plain.specs.Inside.Trades.{parts_between, blanks_between}
-
--- an end as what has a hand
-abbrev pub holds : {T K : Type 0} → Holder (EndOf T K) (Token T)
-holds = record { hand_of = λ e. e.hand; with_hand = λ e hand. with_hand e hand; reads = λ e hand. refl; again = λ e hand next. refl; own = λ e. refl }
 
 -- a receiver's slots for some sequences
 module _ {T : Type 0} (r : ReceiverRecord T) (first upto : ℕ) (le : upto ≤ length r.received) where
@@ -30,7 +23,7 @@ module _ {T : Type 0} (r : ReceiverRecord T) (first upto : ℕ) (le : upto ≤ l
       ∙ omega (arith, length-map few (λ (l : Lent T). Some l), length-take (upto - first) (drop first r.received), length-drop first r.received)
 
   pub blanks_count : length (blanks_between r first upto) ≡ upto - first
-  blanks_count = let nothing : Option (Lent T) = None in
+  blanks_count = let nothing : Laid T = None in
       length_stretch (placed r.plan r.number) first (no_lents (upto - first)) ∙ length-replicate (upto - first) nothing
 
   pub part_at : (s : ℕ) (l : Lent T) → first ≤ s → s < upto → get_elem? r.received s ≡ some l
@@ -41,6 +34,6 @@ module _ {T : Type 0} (r : ReceiverRecord T) (first upto : ℕ) (le : upto ≤ l
       ∙ ap (λ (m : ℕ). some (placed r.plan r.number m (Some l))) e
 
   pub blank_at : (s : ℕ) → first ≤ s → s < upto → get_elem? (blanks_between r first upto) (s - first) ≡ some (placed r.plan r.number s None)
-  blank_at s low lt = let e : first + (s - first) ≡ s = omega arith in let nothing : Option (Lent T) = None in
+  blank_at s low lt = let e : first + (s - first) ≡ s = omega arith in let nothing : Laid T = None in
       stretch_at (placed r.plan r.number) first (no_lents (upto - first)) (s - first) nothing (replicate_at (upto - first) (s - first) nothing (omega arith))
       ∙ ap (λ (m : ℕ). some (placed r.plan r.number m nothing)) e

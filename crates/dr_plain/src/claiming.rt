@@ -3,7 +3,7 @@
 ghost use Rattle.std.specs.Prelude.{◌≡◌, ◌≤◌, ◌++◌, if◌then◌else◌, length, IfSome};
 ghost use Rattle.dr_plain.specs.Meaning.Records.{halt_looked, SeesRoom};
 ghost use Rattle.dr_plain.specs.Inside.Fits.{IsSeenLeast};
-ghost use Rattle.dr_plain.specs.Calls.Ends.{HasLoaded};
+ghost use Rattle.dr_lent.specs.Ends.{HasLoaded};
 ghost use Rattle.dr_plain.specs.Inside.Scans.{Scans};
 ghost use Rattle.dr_plain.specs.Inside.Seats.{taken_by_claim};
 

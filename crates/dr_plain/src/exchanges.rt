@@ -9,7 +9,7 @@ ghost use Rattle.dr_lent.specs.declared.lent.Lent.{Lent};
 ghost use Rattle.dr_lent.specs.Trades.{PartsTaken, SamePlaces, ArePartsBetween};
 ghost use Rattle.dr_plain.specs.Meaning.Words.{cell_of, slot_of};
 ghost use Rattle.dr_plain.specs.Meaning.Lying.{part_of};
-ghost use Rattle.dr_plain.specs.Inside.Hands.{with_hand};
+ghost use Rattle.dr_lent.specs.Ends.{with_hand};
 ghost use Rattle.dr_plain.specs.Inside.Seats.{Hand};
 ghost use Rattle.dr_plain.specs.Inside.Trades.{parts_between, blanks_between};
 

@@ -3,7 +3,7 @@
 ghost use Rattle.std.specs.Prelude.{◌<◌, ◌≤◌, [], ◌∷◌, length, Contains};
 ghost use Rattle.dr_runs.specs.OneSender.Words.{cursor_word, count_word as count_word_of};
 ghost use Rattle.dr_runs.specs.Looks.{look};
-ghost use Rattle.dr_plain.specs.Calls.Ends.{HasLoaded};
+ghost use Rattle.dr_lent.specs.Ends.{HasLoaded};
 ghost use Rattle.dr_plain.specs.Calls.Finds.{FindsEvents};
 ghost use Rattle.dr_plain.specs.Inside.Polling.{receiver_saw, cursor_seen, IsNear, LooksAtFirst, LooksRound};
 ghost use Rattle.dr_plain.specs.Calls.Receiving.{ups_of};

@@ -59,7 +59,7 @@ impl<T> Receiver<T> {
         let closed = self.station.look_at_closed();
         let (cursor, available) = self.station.look_round(room);
         if available <= first {
-            return Ok(nothing_offered(closed, cursor, first));
+            return Ok(nothing_offered(closed == 1, cursor, first));
         }
         let count = (available - first).min(room);
         self.station.take_in(first, first + count, &mut self.parts);

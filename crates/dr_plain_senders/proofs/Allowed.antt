@@ -122,12 +122,12 @@ module _ {T : Type 0} where
       let inside = at_below w.stages z t here in
       let claim = K.claim in omega arith
 
-  pub sender_looks_at_claims : (k : Shape T) {slots : ℕ} (id : ℕ) (me : Sitting T)
-      → IsSender (end_of me) → MayLoad k slots id me claim_word SenderLookedAtClaims
-  sender_looks_at_claims k {slots = slots} id me is =
-      let r = sender_of me.0.ends in let kind = SenderLooksAtClaims r.number in
-      along_sender (λ m. MayLoad k slots id m claim_word SenderLookedAtClaims) me is
-      (by_end k slots id kind (λ xs. xs) me.0.pasts (Sends r) me.1 claim_word (λ n. n)
+  pub sender_looks_at_claims : (key : Shape T) {slots : ℕ} (id : ℕ) (me : Sitting T)
+      → IsSender (end_of me) → MayLoad key slots id me claim_word SenderLookedAtClaims
+  sender_looks_at_claims key {slots = slots} id me is =
+      let r = sender_of me.0.ends in let k = r.plan in let kind = SenderLooksAtClaims r.number in
+      along_sender (λ m. MayLoad key slots id m claim_word SenderLookedAtClaims) me is
+      (by_end key slots id kind (λ xs. xs) me.0.pasts (Sends r) me.1 claim_word (λ n. n)
       (SenderLookedAtClaims (step slots claim_word 0 0 none) (as_sender r me.1))
       (adds_nothing ring_ends _ kind (λ n. refl))
       (λ w at K small homes lies. let q = sender_looked r claim_word (word_at w.words claim_word) in record {
@@ -139,12 +139,12 @@ module _ {T : Type 0} where
         tells = (refl, sender_sees k w r claim_word at (omega arith) K, finds_own k w r at K);
       }))
 
-  looks_at_count : (k : Shape T) (slots id : ℕ) (me : Sitting T) (f : ℕ) → IsSender (end_of me)
-      → Contains (finals k.upstreams) f → MayLoad k slots id me (count_word f) SenderLookedAtCount
-  looks_at_count k slots id me f is has =
-      let r = sender_of me.0.ends in let i = count_word f in let kind = SenderLooksAtCount r.number f in
-      along_sender (λ m. MayLoad k slots id m i SenderLookedAtCount) me is
-      (by_end k slots id kind (λ xs. xs) me.0.pasts (Sends r) me.1 i (λ n. n) (SenderLookedAtCount (step slots i 0 0 none) (as_sender r me.1))
+  looks_at_count : (key : Shape T) (slots id : ℕ) (me : Sitting T) (f : ℕ) → IsSender (end_of me)
+      → Contains (finals (sender_of me.0.ends).plan.upstreams) f → MayLoad key slots id me (count_word f) SenderLookedAtCount
+  looks_at_count key slots id me f is has =
+      let r = sender_of me.0.ends in let k = r.plan in let i = count_word f in let kind = SenderLooksAtCount r.number f in
+      along_sender (λ m. MayLoad key slots id m i SenderLookedAtCount) me is
+      (by_end key slots id kind (λ xs. xs) me.0.pasts (Sends r) me.1 i (λ n. n) (SenderLookedAtCount (step slots i 0 0 none) (as_sender r me.1))
       (adds_nothing ring_ends _ kind (λ n. refl))
       (λ w at K small homes lies. let q = sender_looked r i (word_at w.words i) in let inside = final_inside k.upstreams f has in record {
         mine = Sends q;
@@ -155,12 +155,11 @@ module _ {T : Type 0} where
         tells = (refl, sender_sees k w r i at (omega arith) K);
       }))
 
-  pub sender_looks_at_count : (k sh : Shape T) {slots : ℕ} (id : ℕ) (me : Sitting T) (i f : ℕ)
-      → k ≡ sh → i ≡ count_word f → IsSender (end_of me) → Contains (finals sh.upstreams) f
-      → MayLoad k slots id me i SenderLookedAtCount
-  sender_looks_at_count k sh {slots = slots} id me i f same here is has =
-      subst (λ (i : ℕ). MayLoad k slots id me i SenderLookedAtCount) (sym here)
-      (looks_at_count k slots id me f is (subst (λ (p : Shape T). Contains (finals p.upstreams) f) (sym same) has))
+  pub sender_looks_at_count : (key : Shape T) {slots : ℕ} (id : ℕ) (me : Sitting T) (i f : ℕ)
+      → i ≡ count_word f → IsSender (end_of me) → Contains (finals (sender_of me.0.ends).plan.upstreams) f
+      → MayLoad key slots id me i SenderLookedAtCount
+  sender_looks_at_count key {slots = slots} id me i f here is has =
+      subst (λ (i : ℕ). MayLoad key slots id me i SenderLookedAtCount) (sym here) (looks_at_count key slots id me f is has)
 
   -- an exchange, by whether it finds what it expects
   abbrev exchanged_world : World T → SenderRecord T → ℕ → ℕ → Bool → World T
@@ -193,7 +192,7 @@ module _ {T : Type 0} where
   ClaimTells k r hand c n v m b me' =
       (laid : List (Laid T)) × LayIn k c (if b then n else 0) laid
       × (me' ≡ as_sender (learned r c n m b) (taken_by_claim k c laid ++ hand))
-      × FindsMore r.looks claim_word m × (m ≡ c → (z : ℕ) (t : Stage T) → Owns r z t → IsEarlier k c v z t) × LayAsLent k r c laid
+      × FindsMore r.looks claim_word m × (m ≡ c → (z : ℕ) (t : Stage T) → Owns r z t → IsEarlier k c v z t) × LayAsLent r c laid
 
   claim_acts : (k : Shape T) (w : World T) (r : SenderRecord T) (hand : Hand T) (homes : List (maybe.Option (Token T))) (c n v m : ℕ)
       → get_elem? w.senders r.number ≡ some r → 0 < n
@@ -251,38 +250,38 @@ module _ {T : Type 0} where
             }))
       ]
 
-  pub sender_claims_more : (k sh : Shape T) {slots : ℕ} (id : ℕ) (me : Sitting T) (c n v : ℕ) → k ≡ sh → v ≡ c + n → IsSender (end_of me) → 0 < n
-      → SeesRoom sh (sender_of me.0.ends) c n
-      → Allows (Ruled k) slots id me claim_word (λ m. either (m == c) v m)
-      (Stores (λ s e m. SenderClaims (sender_of e.0).number s.first (s.second - s.first)) (SenderClaimed sh) (step slots claim_word c v none) me)
-  sender_claims_more k sh {slots = slots} id me c n v same sum is some_one there =
-      let Goal : Shape T → Sitting T → Type 0 = λ p x. Allows (Ruled k) slots id x claim_word (λ m. either (m == c) v m)
-      (Stores (λ s e m. SenderClaims (sender_of e.0).number s.first (s.second - s.first)) (SenderClaimed p) (step slots claim_word c v none) x) in
-      let r = sender_of me.0.ends in let more = v - c in let all : n ≡ more = omega arith in let back : c + more ≡ v = omega arith in
-      let room : SeesRoom k r c more = subst (SeesRoom k r c) all (subst (λ (p : Shape T). SeesRoom p r c n) (sym same) there) in
+  pub sender_claims_more : (key : Shape T) {slots : ℕ} (id : ℕ) (me : Sitting T) (c n v : ℕ) → v ≡ c + n → IsSender (end_of me) → 0 < n
+      → SeesRoom (sender_of me.0.ends).plan (sender_of me.0.ends) c n
+      → Allows (Ruled key) slots id me claim_word (λ m. either (m == c) v m)
+      (Stores (λ s e m. SenderClaims (sender_of e.0).number s.first (s.second - s.first)) SenderClaimed (step slots claim_word c v none) me)
+  sender_claims_more key {slots = slots} id me c n v sum is some_one there =
+      let Goal : Sitting T → Type 0 = λ x. Allows (Ruled key) slots id x claim_word (λ m. either (m == c) v m)
+      (Stores (λ s e m. SenderClaims (sender_of e.0).number s.first (s.second - s.first)) SenderClaimed (step slots claim_word c v none) x) in
+      let r = sender_of me.0.ends in let k = r.plan in let more = v - c in let all : n ≡ more = omega arith in let back : c + more ≡ v = omega arith in
+      let room : SeesRoom k r c more = subst (SeesRoom k r c) all there in
       let kind = SenderClaims r.number c more in
-      subst (λ (p : Shape T). Goal p me) same
-      (along_sender (Goal k) me is
-      (by_end k slots id kind (λ xs. xs ++ kind ∷ []) me.0.pasts (Sends r) me.1 claim_word (λ m. either (m == c) v m)
-      (SenderClaimed k (step slots claim_word c v none) (as_sender r me.1))
+      along_sender Goal me is
+      (by_end key slots id kind (λ xs. xs ++ kind ∷ []) me.0.pasts (Sends r) me.1 claim_word (λ m. either (m == c) v m)
+      (SenderClaimed (step slots claim_word c v none) (as_sender r me.1))
       (adds_one ring_ends _ kind (λ n. refl))
-      (λ w at K small homes lies. claim_acts k w r me.1 homes c more v (word_at w.words claim_word) at (omega arith) room back refl K lies)))
+      (λ w at K small homes lies. claim_acts k w r me.1 homes c more v (word_at w.words claim_word) at (omega arith) room back refl K lies))
 
-  publishes : (k : Shape T) (slots id : ℕ) (me : Sitting T) (s : ℕ) (lents : List (Lent T)) (rest : Hand T)
-      → IsSender (end_of me) → 0 < length lents → length lents ≤ in_word k s
+  publishes : (key : Shape T) (slots id : ℕ) (me : Sitting T) (s : ℕ) (lents : List (Lent T)) (rest : Hand T)
+      → IsSender (end_of me) → (let k : Shape T = (sender_of me.0.ends).plan in 0 < length lents → length lents ≤ in_word k s
       → MayPublish (sender_of me.0.ends) s (length lents) → me.1 ≡ given_by_publication k s lents ++ rest
-      → MayFlip k slots id me (mark_word k s) (2 ^ (mark_bit k s + length lents) - 2 ^ mark_bit k s)
-      (λ e n. SenderPublishes (sender_of e.0).number s (events_of lents)) (SenderPublished k s lents)
-  publishes k slots id me s lents rest is some_one few may hand =
+      → MayFlip key slots id me (mark_word k s) (2 ^ (mark_bit k s + length lents) - 2 ^ mark_bit k s)
+      (λ e n. SenderPublishes (sender_of e.0).number s (events_of lents)) (SenderPublished s lents))
+  publishes key slots id me s lents rest is some_one few may hand =
       let r = sender_of me.0.ends in
+      let k = r.plan in
       let i = mark_word k s in
       let mask : ℕ = 2 ^ (mark_bit k s + length lents) - 2 ^ mark_bit k s in
       let given = given_by_publication k s lents in
-      let kind = SenderPublishes r.number s (events_of lents) in let tells : Tells T = SenderPublished k s lents in
-      let Goal : Sitting T → Type 0 = λ x. MayFlip k slots id x i mask (λ e n. SenderPublishes (sender_of e.0).number s (events_of lents)) tells in
+      let kind = SenderPublishes r.number s (events_of lents) in let tells : Tells T = SenderPublished s lents in
+      let Goal : Sitting T → Type 0 = λ x. MayFlip key slots id x i mask (λ e n. SenderPublishes (sender_of e.0).number s (events_of lents)) tells in
       along_sender Goal me is
       (subst (λ (c : Hand T). Goal (seat_at (as_sender r c) me.0.pasts)) (sym hand)
-      (by_end k slots id kind (λ xs. xs ++ kind ∷ []) me.0.pasts (Sends r) (given ++ rest) i (λ n. bit_xor n mask)
+      (by_end key slots id kind (λ xs. xs ++ kind ∷ []) me.0.pasts (Sends r) (given ++ rest) i (λ n. bit_xor n mask)
       (tells (step slots i mask 0 none) (as_sender r (given ++ rest)))
       (adds_one ring_ends _ kind (λ n. refl))
       (λ w at K small homes lies. let q = has_published r s lents in let M = publishes_many k w r s lents homes at some_one few may K lies in record {
@@ -300,31 +299,28 @@ module _ {T : Type 0} where
         tells = ap (λ (c : Hand T). as_sender q c) (sym (drop-append_seam given rest));
       })))
 
-  pub sender_publishes_many : (k sh : Shape T) {slots : ℕ} (id : ℕ) (me : Sitting T) (i s m v count : ℕ) (lents : List (Lent T)) (rest : Hand T)
-      → k ≡ sh → s ≡ m → length lents ≡ count
-      → 0 < count → count ≤ in_word sh s → i ≡ mark_word sh s → v ≡ 2 ^ (mark_bit sh s + count) - 2 ^ mark_bit sh s → IsSender (end_of me)
-      → MayPublish (sender_of me.0.ends) s count → me.1 ≡ given_by_publication sh s lents ++ rest
-      → MayFlip k slots id me i v (λ e n. SenderPublishes (sender_of e.0).number m (events_of lents)) (SenderPublished sh m lents)
-  sender_publishes_many k sh {slots = slots} id me i s m v count lents rest same named many some_one few here now is may hand =
-      subst (λ (p : Shape T).
-      count ≤ in_word p s → i ≡ mark_word p s → v ≡ 2 ^ (mark_bit p s + count) - 2 ^ mark_bit p s → me.1 ≡ given_by_publication p s lents ++ rest
-      → MayFlip k slots id me i v (λ e n. SenderPublishes (sender_of e.0).number m (events_of lents)) (SenderPublished p m lents)) same
-      (λ few here now hand.
-      subst (λ (j : ℕ). MayFlip k slots id me i v (λ e n. SenderPublishes (sender_of e.0).number j (events_of lents)) (SenderPublished k j lents)) named
-      (subst (λ (x : ℕ × ℕ). MayFlip k slots id me x.0 x.1 (λ e n. SenderPublishes (sender_of e.0).number s (events_of lents)) (SenderPublished k s lents))
+  pub sender_publishes_many : (key : Shape T) {slots : ℕ} (id : ℕ) (me : Sitting T) (i s m v count : ℕ) (lents : List (Lent T)) (rest : Hand T)
+      → s ≡ m → length lents ≡ count → 0 < count → count ≤ in_word (sender_of me.0.ends).plan s → i ≡ mark_word (sender_of me.0.ends).plan s
+      → v ≡ 2 ^ (mark_bit (sender_of me.0.ends).plan s + count) - 2 ^ mark_bit (sender_of me.0.ends).plan s → IsSender (end_of me)
+      → MayPublish (sender_of me.0.ends) s count → me.1 ≡ given_by_publication (sender_of me.0.ends).plan s lents ++ rest
+      → MayFlip key slots id me i v (λ e n. SenderPublishes (sender_of e.0).number m (events_of lents)) (SenderPublished m lents)
+  sender_publishes_many key {slots = slots} id me i s m v count lents rest named many some_one few here now is may hand =
+      let k = (sender_of me.0.ends).plan in
+      subst (λ (j : ℕ). MayFlip key slots id me i v (λ e n. SenderPublishes (sender_of e.0).number j (events_of lents)) (SenderPublished j lents)) named
+      (subst (λ (x : ℕ × ℕ). MayFlip key slots id me x.0 x.1 (λ e n. SenderPublishes (sender_of e.0).number s (events_of lents)) (SenderPublished s lents))
       (λ j. (sym here j, sym now j))
       (subst (λ (n : ℕ). 0 < n → n ≤ in_word k s → MayPublish (sender_of me.0.ends) s n
-      → MayFlip k slots id me (mark_word k s) (2 ^ (mark_bit k s + n) - 2 ^ mark_bit k s)
-      (λ e n. SenderPublishes (sender_of e.0).number s (events_of lents)) (SenderPublished k s lents))
+      → MayFlip key slots id me (mark_word k s) (2 ^ (mark_bit k s + n) - 2 ^ mark_bit k s)
+      (λ e n. SenderPublishes (sender_of e.0).number s (events_of lents)) (SenderPublished s lents))
       many
-      (λ some_one few may. publishes k slots id me s lents rest is some_one few may hand) some_one few may)))
-      few here now hand
+      (λ some_one few may. publishes key slots id me s lents rest is some_one few may hand) some_one few may))
 
-  looks_at_mark : (k : Shape T) (slots id : ℕ) (me : Sitting T) (s : ℕ) → IsSender (end_of me) → MayLoad k slots id me (mark_word k s) (SenderLookedAtMark s)
-  looks_at_mark k slots id me s is =
-      let r = sender_of me.0.ends in let i = mark_word k s in let kind = SenderLooksAtMark r.number s in
-      along_sender (λ m. MayLoad k slots id m i (SenderLookedAtMark s)) me is
-      (by_end k slots id kind (λ xs. xs) me.0.pasts (Sends r) me.1 i (λ n. n) (SenderLookedAtMark s (step slots i 0 0 none) (as_sender r me.1))
+  looks_at_mark : (key : Shape T) (slots id : ℕ) (me : Sitting T) (s : ℕ) → IsSender (end_of me)
+      → MayLoad key slots id me (mark_word (sender_of me.0.ends).plan s) (SenderLookedAtMark s)
+  looks_at_mark key slots id me s is =
+      let r = sender_of me.0.ends in let k = r.plan in let i = mark_word k s in let kind = SenderLooksAtMark r.number s in
+      along_sender (λ m. MayLoad key slots id m i (SenderLookedAtMark s)) me is
+      (by_end key slots id kind (λ xs. xs) me.0.pasts (Sends r) me.1 i (λ n. n) (SenderLookedAtMark s (step slots i 0 0 none) (as_sender r me.1))
       (adds_nothing ring_ends _ kind (λ n. refl))
       (λ w at K small homes lies. let q = mark_found r s (word_at w.words i) in record {
         mine = Sends q;
@@ -335,19 +331,18 @@ module _ {T : Type 0} where
         tells = refl;
       }))
 
-  pub sender_looks_at_mark : (k sh : Shape T) {slots : ℕ} (id : ℕ) (me : Sitting T) (i s m : ℕ) → k ≡ sh → s ≡ m → i ≡ mark_word sh s → IsSender (end_of me)
-      → MayLoad k slots id me i (SenderLookedAtMark m)
-  sender_looks_at_mark k sh {slots = slots} id me i s m same named here is =
-      subst (λ (j : ℕ). MayLoad k slots id me i (SenderLookedAtMark j)) named
-      (subst (λ (j : ℕ). MayLoad k slots id me j (SenderLookedAtMark s))
-      (sym (here ∙ ap (λ (p : Shape T). mark_word p s) (sym same))) (looks_at_mark k slots id me s is))
+  pub sender_looks_at_mark : (key : Shape T) {slots : ℕ} (id : ℕ) (me : Sitting T) (i s m : ℕ) → s ≡ m → i ≡ mark_word (sender_of me.0.ends).plan s
+      → IsSender (end_of me) → MayLoad key slots id me i (SenderLookedAtMark m)
+  sender_looks_at_mark key {slots = slots} id me i s m named here is =
+      subst (λ (j : ℕ). MayLoad key slots id me i (SenderLookedAtMark j)) named
+      (subst (λ (j : ℕ). MayLoad key slots id me j (SenderLookedAtMark s)) (sym here) (looks_at_mark key slots id me s is))
 
-  pub sender_halts : (k : Shape T) {slots : ℕ} (id : ℕ) (me : Sitting T) → IsSender (end_of me)
-      → MayHalt k slots id me (λ e n. SenderHalts (sender_of e.0).number) SenderHalted
-  sender_halts k {slots = slots} id me is =
-      let r = sender_of me.0.ends in let kind = SenderHalts r.number in
-      along_sender (λ m. MayHalt k slots id m (λ e n. SenderHalts (sender_of e.0).number) SenderHalted) me is
-      (by_end k slots id kind (λ xs. xs ++ kind ∷ []) me.0.pasts (Sends r) me.1 claim_word (λ n. bit_or n 9223372036854775808)
+  pub sender_halts : (key : Shape T) {slots : ℕ} (id : ℕ) (me : Sitting T) → IsSender (end_of me)
+      → MayHalt key slots id me (λ e n. SenderHalts (sender_of e.0).number) SenderHalted
+  sender_halts key {slots = slots} id me is =
+      let r = sender_of me.0.ends in let k = r.plan in let kind = SenderHalts r.number in
+      along_sender (λ m. MayHalt key slots id m (λ e n. SenderHalts (sender_of e.0).number) SenderHalted) me is
+      (by_end key slots id kind (λ xs. xs ++ kind ∷ []) me.0.pasts (Sends r) me.1 claim_word (λ n. bit_or n 9223372036854775808)
       (SenderHalted (step slots claim_word 9223372036854775808 0 none) (as_sender r me.1))
       (adds_one ring_ends _ kind (λ n. refl))
       (λ w at K small homes lies. let n = word_at w.words claim_word in let q = sender_looked r claim_word (halted_from n) in
@@ -366,11 +361,11 @@ module _ {T : Type 0} where
         tells = refl;
       }))
 
-  pub halter_halts : (k : Shape T) {slots : ℕ} (id : ℕ) (me : Sitting T) → IsHalter (end_of me) → MayHalt k slots id me (λ e n. HalterHalts) HalterHalted
-  halter_halts k {slots = slots} id me is =
-      let r = halter_of me.0.ends in
-      along_halter (λ m. MayHalt k slots id m (λ e n. HalterHalts) HalterHalted) me is
-      (by_end k slots id HalterHalts (λ xs. xs ++ HalterHalts ∷ []) me.0.pasts (Halts r) [] claim_word (λ n. bit_or n 9223372036854775808)
+  pub halter_halts : (key : Shape T) {slots : ℕ} (id : ℕ) (me : Sitting T) → IsHalter (end_of me) → MayHalt key slots id me (λ e n. HalterHalts) HalterHalted
+  halter_halts key {slots = slots} id me is =
+      let r = halter_of me.0.ends in let k = r.plan in
+      along_halter (λ m. MayHalt key slots id m (λ e n. HalterHalts) HalterHalted) me is
+      (by_end key slots id HalterHalts (λ xs. xs ++ HalterHalts ∷ []) me.0.pasts (Halts r) [] claim_word (λ n. bit_or n 9223372036854775808)
       (HalterHalted (step slots claim_word 9223372036854775808 0 none) (as_halter r))
       (adds_one ring_ends _ HalterHalts (λ n. refl))
       (λ w at K small homes lies. let n = word_at w.words claim_word in
@@ -381,7 +376,7 @@ module _ {T : Type 0} where
           after = u;
           happens = refl;
           words = ap (set w.words claim_word) (sym (or_top n small));
-          stands = ap (λ (x : HalterRecord). halter_halted x n) at;
+          stands = ap (λ (x : HalterRecord T). halter_halted x n) at;
           others = but_halter w u refl refl;
         };
         hand_after = [];
@@ -389,11 +384,12 @@ module _ {T : Type 0} where
         tells = refl;
       }))
 
-  pub halter_looks : (k : Shape T) {slots : ℕ} (id : ℕ) (me : Sitting T) (i : ℕ) → i < mark_start k → IsHalter (end_of me) → MayLoad k slots id me i HalterLooked
-  halter_looks k {slots = slots} id me i low is =
-      let r = halter_of me.0.ends in
-      along_halter (λ m. MayLoad k slots id m i HalterLooked) me is
-      (by_end k slots id (HalterLooks i) (λ xs. xs) me.0.pasts (Halts r) [] i (λ n. n)
+  pub halter_looks : (key : Shape T) {slots : ℕ} (id : ℕ) (me : Sitting T) (i : ℕ) → i < mark_start (halter_of me.0.ends).plan → IsHalter (end_of me)
+      → MayLoad key slots id me i HalterLooked
+  halter_looks key {slots = slots} id me i low is =
+      let r = halter_of me.0.ends in let k = r.plan in
+      along_halter (λ m. MayLoad key slots id m i HalterLooked) me is
+      (by_end key slots id (HalterLooks i) (λ xs. xs) me.0.pasts (Halts r) [] i (λ n. n)
       (HalterLooked (step slots i 0 0 none) (as_halter r))
       (adds_nothing ring_ends _ (HalterLooks i) (λ n. refl))
       (λ w at K small homes lies. let n = word_at w.words i in
@@ -404,15 +400,15 @@ module _ {T : Type 0} where
           after = u;
           happens = (low, refl);
           words = same_words w.words i;
-          stands = ap (λ (x : HalterRecord). halter_looked x i n) at;
+          stands = ap (λ (x : HalterRecord T). halter_looked x i n) at;
           others = but_halter w u refl refl;
         };
         hand_after = [];
         moves = stays k u [] homes lies;
         tells = (
           refl,
-          subst (λ (x : HalterRecord). FindsMore x.looks i n) at (last_look_le (mark_start k) w.words 0 w.halter.looks i (omega arith) K.halter),
-          subst (λ (x : HalterRecord). i ≡ claim_word → claimed_in (last_look 0 x.looks claim_word) ≤ claimed_in n) at
+          subst (λ (x : HalterRecord T). FindsMore x.looks i n) at (last_look_le (mark_start k) w.words 0 w.halter.looks i (omega arith) K.halter),
+          subst (λ (x : HalterRecord T). i ≡ claim_word → claimed_in (last_look 0 x.looks claim_word) ≤ claimed_in n) at
               (λ here. (let a = ap (λ (j : ℕ). claimed_in (word_at w.words j)) here in let b = K.claim in let c = K.halter_claims in omega arith)),
         );
       }))

@@ -17,7 +17,7 @@ use Rattle.dr_plain_senders.specs.declared.record.ReceiverRecord.{ReceiverRecord
 use Rattle.dr_plain_senders.specs.declared.record.EndRecord.TheVariants.{Receives}
 use Rattle.dr_plain_senders.specs.declared.record.Step.{Step}
 use Rattle.dr_plain_senders.specs.declared.record.Step.TheVariants.{ReceiverLooksAtClaims, ReceiverLooksAtMark, ReceiverLooksAtCount, ReceiverCompletes}
-use Rattle.dr_plain_senders.specs.Meaning.Records.{claims_looked, taken_at_mark, mark_looked, taken_at_count, receiver_looked, completed_to}
+use Rattle.dr_plain_senders.specs.Meaning.Records.{claims_looked, taken_at_mark, mark_looked, taken_at, receiver_looked, completed_to}
 use Rattle.dr_plain_senders.specs.Meaning.Rule.{World, KeepsRule}
 use Rattle.dr_plain_senders.specs.Meaning.Steps.{Happens, receiver_knows}
 use Rattle.dr_plain_senders.specs.Calls.Finds.{FindsClaims, FindsEvents, FindsNext}
@@ -57,12 +57,12 @@ module _ {T : Type 0} where
         λ told. (let t = was.told told in let e = t.1 in (t.0, omega arith)),
       )
 
-  pub receiver_looks_at_claims : (k : Shape T) {slots : ℕ} (id : ℕ) (me : Sitting T)
-      → IsReceiver (end_of me) → MayLoad k slots id me claim_word ReceiverLookedAtClaims
-  receiver_looks_at_claims k {slots = slots} id me is =
-      let r = receiver_of me.0.ends in let kind = ReceiverLooksAtClaims r.number in
-      along_receiver (λ m. MayLoad k slots id m claim_word ReceiverLookedAtClaims) me is
-      (by_end k slots id kind (λ xs. xs) me.0.pasts (Receives r) me.1 claim_word (λ n. n)
+  pub receiver_looks_at_claims : (key : Shape T) {slots : ℕ} (id : ℕ) (me : Sitting T)
+      → IsReceiver (end_of me) → MayLoad key slots id me claim_word ReceiverLookedAtClaims
+  receiver_looks_at_claims key {slots = slots} id me is =
+      let r = receiver_of me.0.ends in let k = r.plan in let kind = ReceiverLooksAtClaims r.number in
+      along_receiver (λ m. MayLoad key slots id m claim_word ReceiverLookedAtClaims) me is
+      (by_end key slots id kind (λ xs. xs) me.0.pasts (Receives r) me.1 claim_word (λ n. n)
       (ReceiverLookedAtClaims (step slots claim_word 0 0 none) (as_receiver r me.1))
       (adds_nothing ring_ends _ kind (λ n. refl))
       (λ w at K small homes lies. let q = claims_looked r (word_at w.words claim_word) in record {
@@ -75,97 +75,94 @@ module _ {T : Type 0} where
       }))
 
   finds_next : (k : Shape T) (w : World T) (r : ReceiverRecord T) → get_elem? w.receivers r.number ≡ some r
-      → KeepsRule k w → FindsNext k r (word_at w.words (mark_word k (length r.received)))
+      → KeepsRule k w → FindsNext r (word_at w.words (mark_word k (length r.received)))
   finds_next k w r at K =
       let all = marked_claimed k w r.number r at K in
       let was = K.received r.number r at in
+      let size = ap (λ (p : Shape T). p.size) was.plan in
       let a = above k w K r.number (handler_inside k w r.number r at K) in
       let c = was.count in
       ((λ told. let t = (was.told told).1 in omega arith), omega arith)
 
-  looks_at_next : (k : Shape T) (slots id : ℕ) (me : Sitting T) (room : ℕ)
-      → IsReceiver (end_of me) → upstreams_of k.upstreams (receiver_of me.0.ends).number ≡ []
-      → MayLoad k slots id me (mark_word k (length (receiver_of me.0.ends).received)) (ReceiverLookedAtMark k room)
-  looks_at_next k slots id me room is first =
-      let r = receiver_of me.0.ends in let i = mark_word k (length r.received) in let kind = ReceiverLooksAtMark r.number room in
-      along_receiver (λ m. MayLoad k slots id m i (ReceiverLookedAtMark k room)) me is
-      (by_end k slots id kind (λ xs. xs) me.0.pasts (Receives r) me.1 i (λ n. n) (ReceiverLookedAtMark k room (step slots i 0 0 none) (as_receiver r me.1))
+  looks_at_next : (key : Shape T) (slots id : ℕ) (me : Sitting T) (room : ℕ) → IsReceiver (end_of me)
+      → (let r : ReceiverRecord T = receiver_of me.0.ends in upstreams_of r.plan.upstreams r.number ≡ []
+      → MayLoad key slots id me (mark_word r.plan (length r.received)) (ReceiverLookedAtMark room))
+  looks_at_next key slots id me room is first =
+      let r = receiver_of me.0.ends in let k = r.plan in let i = mark_word k (length r.received) in let kind = ReceiverLooksAtMark r.number room in
+      along_receiver (λ m. MayLoad key slots id m i (ReceiverLookedAtMark room)) me is
+      (by_end key slots id kind (λ xs. xs) me.0.pasts (Receives r) me.1 i (λ n. n) (ReceiverLookedAtMark room (step slots i 0 0 none) (as_receiver r me.1))
       (adds_nothing ring_ends _ kind (λ n. refl))
-      (λ w at K small homes lies. let found = word_at w.words i in let n = taken_at_mark k r found room in
+      (λ w at K small homes lies. let found = word_at w.words i in let n = taken_at_mark r found room in
       let next = next_of k w r.number n r (offers_at_mark k w r.number room r at first K) in let q = mark_looked r found next.0 in record {
         mine = Receives q;
         same = refl;
         does = receiver_learns k kind w r q i at refl (r, at, (first, next.0, next.1, refl));
-        hand_after = taken_by_poll k r next.0 ++ me.1;
+        hand_after = taken_by_poll r next.0 ++ me.1;
         moves = poll_moves k w r.number n r q next.0 me.1 homes at next.1 refl refl K lies;
         tells = (next.0, next.1.count, refl, finds_next k w r at K);
       }))
 
-  pub receiver_looks_at_mark : (k sh : Shape T) {slots : ℕ} (id : ℕ) (me : Sitting T) (i s room m : ℕ)
-      → k ≡ sh → room ≡ m → s ≡ length (receiver_of me.0.ends).received → i ≡ mark_word sh s
-      → IsReceiver (end_of me) → upstreams_of sh.upstreams (receiver_of me.0.ends).number ≡ []
-      → MayLoad k slots id me i (ReceiverLookedAtMark sh m)
-  receiver_looks_at_mark k sh {slots = slots} id me i s room m same named next here is first =
-      subst (λ (p : Shape T).
-      i ≡ mark_word p s → upstreams_of p.upstreams (receiver_of me.0.ends).number ≡ [] → MayLoad k slots id me i (ReceiverLookedAtMark p m))
-      same
-      (λ here first. subst (λ (j : ℕ). MayLoad k slots id me i (ReceiverLookedAtMark k j)) named
-      (subst (λ (j : ℕ). MayLoad k slots id me j (ReceiverLookedAtMark k room)) (sym (here ∙ ap (mark_word k) next))
-      (looks_at_next k slots id me room is first))) here first
+  pub receiver_looks_at_mark : (key : Shape T) {slots : ℕ} (id : ℕ) (me : Sitting T) (i s room m : ℕ)
+      → room ≡ m → s ≡ length (receiver_of me.0.ends).received → i ≡ mark_word (receiver_of me.0.ends).plan s → IsReceiver (end_of me)
+      → (let r : ReceiverRecord T = receiver_of me.0.ends in upstreams_of r.plan.upstreams r.number ≡ [])
+      → MayLoad key slots id me i (ReceiverLookedAtMark m)
+  receiver_looks_at_mark key {slots = slots} id me i s room m named next here is first =
+      subst (λ (j : ℕ). MayLoad key slots id me i (ReceiverLookedAtMark j)) named
+      (subst (λ (j : ℕ). MayLoad key slots id me j (ReceiverLookedAtMark room)) (sym (here ∙ ap (mark_word (receiver_of me.0.ends).plan) next))
+      (looks_at_next key slots id me room is first))
 
   -- what a look at an upstream's count finds
   finds_events : (k : Shape T) (w : World T) (r : ReceiverRecord T) (u : ℕ)
       → get_elem? w.receivers r.number ≡ some r → Contains (upstreams_of k.upstreams r.number) u
       → KeepsRule k w
-      → FindsEvents k r (count_word u) (word_at w.words (count_word u))
+      → FindsEvents r (count_word u) (word_at w.words (count_word u))
   finds_events k w r u at has K =
       let was = K.received r.number r at in let own = handler_inside k w r.number r at K in let inside = upstream_inside k K.shape.graph r.number u own has in
       let o = receiver_of_handler k w K u inside in let a = o.2.count in let b = o.2.completed in let c = taken_claimed k w u o.0 o.1 K in
-      let d = above k w K r.number own in let e = was.count in (
+      let d = above k w K r.number own in let e = was.count in let size = ap (λ (p : Shape T). p.size) was.plan in (
         last_look_le (mark_start k) w.words 0 r.looks (count_word u) (omega arith) was.looks,
         was.after u has,
         λ told. (let t = (was.told told).1 in omega arith),
         omega arith,
       )
 
-  looks_upstream : (k : Shape T) (slots id : ℕ) (me : Sitting T) (u room : ℕ)
-      → IsReceiver (end_of me) → Contains (upstreams_of k.upstreams (receiver_of me.0.ends).number) u
-      → MayLoad k slots id me (count_word u) (ReceiverLookedAtCount k room)
-  looks_upstream k slots id me u room is has =
-      let r = receiver_of me.0.ends in let i = count_word u in let kind = ReceiverLooksAtCount r.number u room in
-      along_receiver (λ m. MayLoad k slots id m i (ReceiverLookedAtCount k room)) me is
-      (by_end k slots id kind (λ xs. xs) me.0.pasts (Receives r) me.1 i (λ n. n) (ReceiverLookedAtCount k room (step slots i 0 0 none) (as_receiver r me.1))
+  looks_upstream : (key : Shape T) (slots id : ℕ) (me : Sitting T) (u room : ℕ) → IsReceiver (end_of me)
+      → (let r : ReceiverRecord T = receiver_of me.0.ends in Contains (upstreams_of r.plan.upstreams r.number) u)
+      → MayLoad key slots id me (count_word u) (ReceiverLookedAtCount room)
+  looks_upstream key slots id me u room is has =
+      let r = receiver_of me.0.ends in let k = r.plan in let i = count_word u in let kind = ReceiverLooksAtCount r.number u room in
+      along_receiver (λ m. MayLoad key slots id m i (ReceiverLookedAtCount room)) me is
+      (by_end key slots id kind (λ xs. xs) me.0.pasts (Receives r) me.1 i (λ n. n) (ReceiverLookedAtCount room (step slots i 0 0 none) (as_receiver r me.1))
       (adds_nothing ring_ends _ kind (λ n. refl))
-      (λ w at K small homes lies. let found = word_at w.words i in let n = taken_at_count k r i found room in
+      (λ w at K small homes lies. let found = word_at w.words i in let n = taken_at r i found room in
       let inside = upstream_inside k K.shape.graph r.number u (handler_inside k w r.number r at K) has in
       let next = next_of k w r.number n r (offers_at_count k w r.number i room r (omega arith) at K) in let q = receiver_looked r i found next.0 in record {
         mine = Receives q;
         same = refl;
         does = receiver_learns k kind w r q i at refl (r, at, (has, next.0, next.1, refl));
-        hand_after = taken_by_poll k r next.0 ++ me.1;
+        hand_after = taken_by_poll r next.0 ++ me.1;
         moves = poll_moves k w r.number n r q next.0 me.1 homes at next.1 refl refl K lies;
         tells = (next.0, next.1.count, refl, finds_events k w r u at has K);
       }))
 
-  pub receiver_looks_at_count : (k sh : Shape T) {slots : ℕ} (id : ℕ) (me : Sitting T) (i u room m : ℕ)
-      → k ≡ sh → room ≡ m → i ≡ count_word u → IsReceiver (end_of me)
-      → Contains (upstreams_of sh.upstreams (receiver_of me.0.ends).number) u
-      → MayLoad k slots id me i (ReceiverLookedAtCount sh m)
-  receiver_looks_at_count k sh {slots = slots} id me i u room m same named here is has =
-      subst (λ (p : Shape T). Contains (upstreams_of p.upstreams (receiver_of me.0.ends).number) u → MayLoad k slots id me i (ReceiverLookedAtCount p m)) same
-      (λ has. subst (λ (j : ℕ). MayLoad k slots id me i (ReceiverLookedAtCount k j)) named
-      (subst (λ (j : ℕ). MayLoad k slots id me j (ReceiverLookedAtCount k room)) (sym here) (looks_upstream k slots id me u room is has))) has
+  pub receiver_looks_at_count : (key : Shape T) {slots : ℕ} (id : ℕ) (me : Sitting T) (i u room m : ℕ)
+      → room ≡ m → i ≡ count_word u → IsReceiver (end_of me)
+      → (let r : ReceiverRecord T = receiver_of me.0.ends in Contains (upstreams_of r.plan.upstreams r.number) u)
+      → MayLoad key slots id me i (ReceiverLookedAtCount m)
+  receiver_looks_at_count key {slots = slots} id me i u room m named here is has =
+      subst (λ (j : ℕ). MayLoad key slots id me i (ReceiverLookedAtCount j)) named
+      (subst (λ (j : ℕ). MayLoad key slots id me j (ReceiverLookedAtCount room)) (sym here) (looks_upstream key slots id me u room is has))
 
-  completes : (k : Shape T) (slots id : ℕ) (me : Sitting T) (n : ℕ) (rest : Hand T) → IsReceiver (end_of me)
-      → (receiver_of me.0.ends).completed ≤ n → n ≤ length (receiver_of me.0.ends).received → me.1 ≡ given_by_completion k (receiver_of me.0.ends) n ++ rest
-      → MayStore k slots id me (count_word (receiver_of me.0.ends).number) n (λ e m. ReceiverCompletes (receiver_of e.0).number m) (ReceiverCompleted k)
-  completes k slots id me n rest is rises taken hand =
-      let r = receiver_of me.0.ends in let i = count_word r.number in let kind = ReceiverCompletes r.number n in let given = given_by_completion k r n in
-      let Goal : Sitting T → Type 0 = λ x. MayStore k slots id x i n (λ e m. ReceiverCompletes (receiver_of e.0).number m) (ReceiverCompleted k) in
+  completes : (key : Shape T) (slots id : ℕ) (me : Sitting T) (n : ℕ) (rest : Hand T) → IsReceiver (end_of me)
+      → (receiver_of me.0.ends).completed ≤ n → n ≤ length (receiver_of me.0.ends).received → me.1 ≡ given_by_completion (receiver_of me.0.ends) n ++ rest
+      → MayStore key slots id me (count_word (receiver_of me.0.ends).number) n (λ e m. ReceiverCompletes (receiver_of e.0).number m) ReceiverCompleted
+  completes key slots id me n rest is rises taken hand =
+      let r = receiver_of me.0.ends in let k = r.plan in let i = count_word r.number in let kind = ReceiverCompletes r.number n in let given = given_by_completion r n in
+      let Goal : Sitting T → Type 0 = λ x. MayStore key slots id x i n (λ e m. ReceiverCompletes (receiver_of e.0).number m) ReceiverCompleted in
       along_receiver Goal me is
       (subst (λ (c : Hand T). Goal (seat_at (as_receiver r c) me.0.pasts)) (sym hand)
-      (by_end k slots id kind (λ xs. xs ++ kind ∷ []) me.0.pasts (Receives r) (given ++ rest) i (λ _. n)
-      (λ _. ReceiverCompleted k (step slots i n 0 none) (as_receiver r (given ++ rest)) n)
+      (by_end key slots id kind (λ xs. xs ++ kind ∷ []) me.0.pasts (Receives r) (given ++ rest) i (λ _. n)
+      (λ _. ReceiverCompleted (step slots i n 0 none) (as_receiver r (given ++ rest)) n)
       (adds_one ring_ends _ kind (λ n. refl))
       (λ w at K small homes lies. let q = completed_to r n in
       let u : World T = record w { words = set w.words i n; receivers = set w.receivers r.number q } in record {
@@ -183,14 +180,12 @@ module _ {T : Type 0} where
         tells = ap (λ (c : Hand T). as_receiver q c) (sym (drop-append_seam given rest));
       })))
 
-  pub receiver_completes : (k sh : Shape T) {slots : ℕ} (id : ℕ) (me : Sitting T) (i h n : ℕ) (rest : Hand T)
-      → k ≡ sh → i ≡ count_word h → IsReceiver (end_of me)
+  pub receiver_completes : (key : Shape T) {slots : ℕ} (id : ℕ) (me : Sitting T) (i h n : ℕ) (rest : Hand T)
+      → i ≡ count_word h → IsReceiver (end_of me)
       → (receiver_of me.0.ends).number ≡ h → (receiver_of me.0.ends).completed ≤ n → n ≤ length (receiver_of me.0.ends).received
-      → me.1 ≡ given_by_completion sh (receiver_of me.0.ends) n ++ rest
-      → MayStore k slots id me i n (λ e m. ReceiverCompletes (receiver_of e.0).number m) (ReceiverCompleted sh)
-  receiver_completes k sh {slots = slots} id me i h n rest same here is own rises taken hand =
-      subst (λ (p : Shape T). me.1 ≡ given_by_completion p (receiver_of me.0.ends) n ++ rest
-      → MayStore k slots id me i n (λ e m. ReceiverCompletes (receiver_of e.0).number m) (ReceiverCompleted p)) same
-      (λ hand. subst (λ (j : ℕ). MayStore k slots id me j n (λ e m. ReceiverCompletes (receiver_of e.0).number m) (ReceiverCompleted k))
+      → me.1 ≡ given_by_completion (receiver_of me.0.ends) n ++ rest
+      → MayStore key slots id me i n (λ e m. ReceiverCompletes (receiver_of e.0).number m) ReceiverCompleted
+  receiver_completes key {slots = slots} id me i h n rest here is own rises taken hand =
+      subst (λ (j : ℕ). MayStore key slots id me j n (λ e m. ReceiverCompletes (receiver_of e.0).number m) ReceiverCompleted)
       (sym (here ∙ ap count_word (sym own)))
-      (completes k slots id me n rest is rises taken hand)) hand
+      (completes key slots id me n rest is rises taken hand)

@@ -11,9 +11,9 @@ use Rattle.dr_runs.proofs.Elements.{at_below, contains_none, word_at}
 use Rattle.dr_runs.proofs.Looks.{last_look_le, past_more}
 use Rattle.dr_lent.specs.declared.lent.Lent.{Lent}
 use Rattle.dr_plain_senders.specs.Meaning.Shape.{Shape, handlers_of}
-use Rattle.dr_plain_senders.specs.Meaning.Words.{count_word, mark_start, mark_word, in_word, is_there}
+use Rattle.dr_plain_senders.specs.Meaning.Words.{count_word, mark_start, mark_word, in_word, is_there, marked_from}
 use Rattle.dr_plain_senders.specs.declared.record.ReceiverRecord.{ReceiverRecord}
-use Rattle.dr_plain_senders.specs.Meaning.Records.{barrier_seen, marked_next, taken_at_mark, taken_at_count}
+use Rattle.dr_plain_senders.specs.Meaning.Records.{barrier_seen, marked_next, taken_at_mark, taken_at}
 use Rattle.dr_plain_senders.specs.Meaning.Rule.{World, ArePast, IsOut, IsOutWith, has_mark, KeepsRule}
 use Rattle.dr_plain_senders.specs.Meaning.Steps.{AreNext}
 use Rattle.dr_plain_senders.proofs.Facts.{receiver_of_handler, handler_inside, upstream_inside, above, taken_out, taken_claimed}
@@ -54,12 +54,12 @@ module _ {T : Type 0} where
       let o = receiver_of_handler k w K u up in let a = o.2.count in let b = o.2.completed in let c = below u has in taken_out k w u s o.0 o.1 (omega arith) K
 
   pub offers_at_count : (k : Shape T) (w : World T) (h i room : ℕ) (r : ReceiverRecord T) → i < mark_start k → get_elem? w.receivers h ≡ some r → KeepsRule k w
-      → Offers k w h r (taken_at_count k r i (word_at w.words i) room)
+      → Offers k w h r (taken_at r i (word_at w.words i) room)
   offers_at_count k w h i room r low at K =
-      let was = K.received h r at in let found = word_at w.words i in let looks = r.looks ++ look i found ∷ [] in let n = taken_at_count k r i found room in
+      let was = K.received h r at in let found = word_at w.words i in let looks = r.looks ++ look i found ∷ [] in let n = taken_at r i found room in
       let past : ArePast k w.words looks = past_more (mark_start k) w.words i found r.looks low (omega arith) was.looks in
       let inside = handler_inside k w h r at K in
-      let seen : barrier_seen k r.number looks ≡ barrier_seen k h looks = ap (λ (g : ℕ). barrier_seen k g looks) was.number in
+      let seen : barrier_seen r.plan r.number looks ≡ barrier_seen k h looks = (λ j. barrier_seen (was.plan j) (was.number j) looks) in
       let completed : (u : ℕ) → Contains (upstreams_of k.upstreams h) u → length r.received + n ≤ word_at w.words (count_word u) =
       λ u up. (let a = below_upstream k w.words h u looks (upstream_inside k K.shape.graph h u inside up) past up in let b = was.after u up in
       elim (cases_lt 0 n) [ inl some_one ↦ omega arith | inr none ↦ omega arith ]) in record {
@@ -75,27 +75,28 @@ module _ {T : Type 0} where
 
   -- what a receiver without upstreams finds marked is published
   pub marked_next_out : (k : Shape T) (w : World T) (h : ℕ) (r : ReceiverRecord T) → get_elem? w.receivers h ≡ some r → KeepsRule k w
-      → (j : ℕ) → j < marked_next k r (word_at w.words (mark_word k (length r.received))) → IsOut w.stages (length r.received + j)
+      → (j : ℕ) → j < marked_next r (word_at w.words (mark_word k (length r.received))) → IsOut w.stages (length r.received + j)
   marked_next_out k w h r at K j lt =
       let s = length r.received in let found = word_at w.words (mark_word k s) in let few = run_few k s found (in_word k s) in let pos = K.shape.some_slot in
+      let was = K.received h r at in let marked : j < marked_from k s found = subst (λ (p : Shape T). j < marked_from p s found) was.plan lt in
       let inside : j < in_word k s = omega arith in let near = few_in_word k s in let size = near.1 in
-      let room = above k w K h (handler_inside k w h r at K) in let was = K.received h r at in let c = was.count in let d = was.completed in
+      let room = above k w K h (handler_inside k w h r at K) in let c = was.count in let d = was.completed in
       let there : has_mark k w (s + j) ≡ true =
-      ap (λ (i : ℕ). is_there k (s + j) (word_at w.words i)) (same_word k s j inside) ∙ run_there k s found (in_word k s) j lt in
+      ap (λ (i : ℕ). is_there k (s + j) (word_at w.words i)) (same_word k s j inside) ∙ run_there k s found (in_word k s) j marked in
       K.marks (s + j) (λ z e. taken_out k w h z r at (omega arith) K) (omega arith) there
 
   -- and so is claimed
   pub marked_claimed : (k : Shape T) (w : World T) (h : ℕ) (r : ReceiverRecord T) → get_elem? w.receivers h ≡ some r → KeepsRule k w
-      → length r.received + marked_next k r (word_at w.words (mark_word k (length r.received))) ≤ length w.stages
+      → length r.received + marked_next r (word_at w.words (mark_word k (length r.received))) ≤ length w.stages
   marked_claimed k w h r at K =
-      let s = length r.received in let m = marked_next k r (word_at w.words (mark_word k s)) in elim (cases_lt 0 m) [
+      let s = length r.received in let m = marked_next r (word_at w.words (mark_word k s)) in elim (cases_lt 0 m) [
         | inl some_one ↦ (let x = marked_next_out k w h r at K (m - 1) (omega arith) in let b = at_below w.stages (s + (m - 1)) x.1.0 x.1.1 in omega arith)
         | inr none ↦ (let taken = taken_claimed k w h r at K in omega arith)
       ]
 
   pub offers_at_mark : (k : Shape T) (w : World T) (h room : ℕ) (r : ReceiverRecord T)
       → get_elem? w.receivers h ≡ some r → upstreams_of k.upstreams h ≡ [] → KeepsRule k w
-      → Offers k w h r (taken_at_mark k r (word_at w.words (mark_word k (length r.received))) room)
+      → Offers k w h r (taken_at_mark r (word_at w.words (mark_word k (length r.received))) room)
   offers_at_mark k w h room r at none K = record {
     completed = λ u up. absurd (contains_none u (subst (λ (xs : List ℕ). Contains xs u) none up));
     out = λ j lt. marked_next_out k w h r at K j (omega arith);

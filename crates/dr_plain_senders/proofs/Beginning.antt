@@ -20,31 +20,31 @@ no_counts m a zero = refl
 no_counts m a (suc n) = λ i. all_zero m (count_word a) i ∷ no_counts m (a + 1) n i
 
 module _ {T : Type 0} where
-  pub receiver_fresh : (h n i : ℕ) (r : ReceiverRecord T) → get_elem? (fresh_receivers h n) i ≡ some r → r ≡ fresh_receiver (h + i)
-  receiver_fresh h zero i r e = absurd (some-ne-none r (sym e))
-  receiver_fresh h (suc n) zero r e = sym (some-injective _ r e) ∙ (let z : h ≡ h + 0 = omega arith in ap fresh_receiver z)
-  receiver_fresh h (suc n) (suc i) r e = receiver_fresh (suc h) n i r e ∙ (let s : suc h + i ≡ h + suc i = omega arith in ap fresh_receiver s)
+  pub receiver_fresh : (k : Shape T) (h n i : ℕ) (r : ReceiverRecord T) → get_elem? (fresh_receivers k h n) i ≡ some r → r ≡ fresh_receiver k (h + i)
+  receiver_fresh k h zero i r e = absurd (some-ne-none r (sym e))
+  receiver_fresh k h (suc n) zero r e = sym (some-injective _ r e) ∙ (let z : h ≡ h + 0 = omega arith in ap (fresh_receiver k) z)
+  receiver_fresh k h (suc n) (suc i) r e = receiver_fresh k (suc h) n i r e ∙ (let s : suc h + i ≡ h + suc i = omega arith in ap (fresh_receiver k) s)
 
-  pub sender_fresh : (p n i : ℕ) (r : SenderRecord T) → get_elem? (fresh_senders p n) i ≡ some r → r ≡ fresh_sender (p + i)
-  sender_fresh p zero i r e = absurd (some-ne-none r (sym e))
-  sender_fresh p (suc n) zero r e = sym (some-injective _ r e) ∙ (let z : p ≡ p + 0 = omega arith in ap fresh_sender z)
-  sender_fresh p (suc n) (suc i) r e = sender_fresh (suc p) n i r e ∙ (let s : suc p + i ≡ p + suc i = omega arith in ap fresh_sender s)
+  pub sender_fresh : (k : Shape T) (p n i : ℕ) (r : SenderRecord T) → get_elem? (fresh_senders k p n) i ≡ some r → r ≡ fresh_sender k (p + i)
+  sender_fresh k p zero i r e = absurd (some-ne-none r (sym e))
+  sender_fresh k p (suc n) zero r e = sym (some-injective _ r e) ∙ (let z : p ≡ p + 0 = omega arith in ap (fresh_sender k) z)
+  sender_fresh k p (suc n) (suc i) r e = sender_fresh k (suc p) n i r e ∙ (let s : suc p + i ≡ p + suc i = omega arith in ap (fresh_sender k) s)
 
 module _ (T : Type 0) where
-  pub receivers_count : (h n : ℕ) → length (fresh_receivers {T = T} h n) ≡ n
-  receivers_count h zero = refl
-  receivers_count h (suc n) = ap suc (receivers_count (suc h) n)
+  pub receivers_count : (k : Shape T) (h n : ℕ) → length (fresh_receivers k h n) ≡ n
+  receivers_count k h zero = refl
+  receivers_count k h (suc n) = ap suc (receivers_count k (suc h) n)
 
-  pub senders_count : (p n : ℕ) → length (fresh_senders {T = T} p n) ≡ n
-  senders_count p zero = refl
-  senders_count p (suc n) = ap suc (senders_count (suc p) n)
+  pub senders_count : (k : Shape T) (p n : ℕ) → length (fresh_senders k p n) ≡ n
+  senders_count k p zero = refl
+  senders_count k p (suc n) = ap suc (senders_count k (suc p) n)
 
   pub kept_new_world : (k : Shape T) → IsShape k → KeepsRule {T = T} k (new_world k)
   kept_new_world k shape = let n = words_of k in let ws = zeros n in record {
     shape = shape;
     wide = (let z : ℕ = 0 in length-replicate n z);
-    inlets = senders_count 0 k.senders;
-    outlets = receivers_count 0 (handlers_of k);
+    inlets = senders_count k 0 k.senders;
+    outlets = receivers_count k 0 (handlers_of k);
     claim = ap claimed_in (all_zero n claim_word);
     limit = omega arith;
     room = λ f final. omega arith;
@@ -53,17 +53,19 @@ module _ (T : Type 0) where
       | inr later ↦ (let x = free (s - k.size) (omega arith) in some-ne-none x.1.0 (sym x.1.1))
     ]);
     marked = λ s x near. absurd (some-ne-none x.1.0 (sym x.1.1));
-    sent = λ p r at. (let e : r ≡ fresh_sender p = sender_fresh 0 k.senders p r at ∙ (let z : 0 + p ≡ p = omega arith in ap fresh_sender z) in
+    sent = λ p r at. (let e : r ≡ fresh_sender k p = sender_fresh k 0 k.senders p r at ∙ (let z : 0 + p ≡ p = omega arith in ap (fresh_sender k) z) in
         subst (λ (q : SenderRecord T). SenderKept k ws [] p q) (sym e)
         (record {
+          plan = refl;
           number = refl;
           own = λ i o there. absurd (some-ne-none o (sym there));
           all = λ s t there mine. absurd (some-ne-none t (sym there));
           looks = λ i x there. absurd (some-ne-none x (sym there));
         }));
-    received = λ h r at. (let e : r ≡ fresh_receiver h = receiver_fresh 0 (handlers_of k) h r at ∙ (let z : 0 + h ≡ h = omega arith in ap fresh_receiver z) in
+    received = λ h r at. (let e : r ≡ fresh_receiver k h = receiver_fresh k 0 (handlers_of k) h r at ∙ (let z : 0 + h ≡ h = omega arith in ap (fresh_receiver k) z) in
         subst (λ (q : ReceiverRecord T). ReceiverKept k ws [] h q) (sym e)
         (record {
+          plan = refl;
           number = refl;
           count = all_zero n (count_word h);
           completed = omega arith;
@@ -73,17 +75,18 @@ module _ (T : Type 0) where
           claims = omega arith;
           looks = λ i x there. absurd (some-ne-none x (sym there));
         }));
+    halter_plan = refl;
     halter = λ i x there. absurd (some-ne-none x (sym there));
     halter_claims = omega arith;
   }
 
-  none_taken : (h n : ℕ) → map taken_of (fresh_receivers {T = T} h n) ≡ replicate n 0
-  none_taken h zero = refl
-  none_taken h (suc n) = ap (λ (xs : List ℕ). 0 ∷ xs) (none_taken (suc h) n)
+  none_taken : (k : Shape T) (h n : ℕ) → map taken_of (fresh_receivers k h n) ≡ replicate n 0
+  none_taken k h zero = refl
+  none_taken k h (suc n) = ap (λ (xs : List ℕ). 0 ∷ xs) (none_taken k (suc h) n)
 
   pub opens : (k : Shape T) → picture_of {T = T} k (new_world k) ≡ machine.opening (ring_setup k)
   opens k = let n = words_of k in λ i. record (machine.opening (ring_setup k)) {
-    taken = none_taken 0 (handlers_of k) i;
+    taken = none_taken k 0 (handlers_of k) i;
     completed = no_counts n 0 (handlers_of k) i;
     halted = (ap is_halted (all_zero n claim_word)) i;
   }

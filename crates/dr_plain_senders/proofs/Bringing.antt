@@ -132,16 +132,16 @@ module _ {T : Type 0} where
       ]
 
   -- which of a sender's sequences are open, by what it knows and by its marks
-  open_marked : (k : Shape T) (r : SenderRecord T) (o : Owned) (s : ℕ) (t : Stage T) → MarksFit k r o → Owns r s t → t.lent ≡ None → is_open o s ≡ true
-  open_marked k r o s t F own none =
+  open_marked : (r : SenderRecord T) (o : Owned) (s : ℕ) (t : Stage T) → MarksFit r o → Owns r s t → t.lent ≡ None → is_open o s ≡ true
+  open_marked r o s t F own none =
       let hidden : is_published t ≡ false = ap is_some none in
       elim (cases_Bool (is_marked o.claimed s)) [
         | inl marked ↦ (let shown : is_marked o.published s ≡ false = sym (F.shown s t own marked) ∙ hidden in λ i. marked i && not (shown i))
         | inr unmarked ↦ absurd (let shown = (F.old s t own unmarked).0 in cc)
       ]
 
-  marked_open : (k : Shape T) (r : SenderRecord T) (o : Owned) (s : ℕ) → MarksFit k r o → is_open o s ≡ true → (t : Stage T) × Owns r s t × (t.lent ≡ None)
-  marked_open k r o s F so =
+  marked_open : (r : SenderRecord T) (o : Owned) (s : ℕ) → MarksFit r o → is_open o s ≡ true → (t : Stage T) × Owns r s t × (t.lent ≡ None)
+  marked_open r o s F so =
       let both = both_of (is_marked o.claimed s) (is_marked o.published s) so in let own = F.own s both.0 in
       (own.0, own.1, no_lent own.0.lent (F.shown s own.0 own.1 both.0 ∙ both.1))
     where
@@ -174,16 +174,16 @@ module _ {T : Type 0} where
   -- one sender more has brought its cells
   module _ (k : Shape T) (ss : List (SenderEnd T)) (e : SenderEnd T) (at : SenderStand T)
       (o : Owned) (end : ℕ) (own tokens tokens' : List (Token T)) (brought brought' : List Bool)
-      (F : SenderFits at o end own) (plan : at.plan ≡ k) (knows : at.knows ≡ e.knows) (cells : cells_of own ≡ e.cells)
+      (F : SenderFits at o end own) (plan : at.knows.plan ≡ k) (knows : at.knows ≡ e.knows) (cells : cells_of own ≡ e.cells)
       (A : AreTaken k (is_open o) (end - k.size) end own tokens tokens' brought brought') where
     open_inside : (s : ℕ) → is_open o s ≡ true → (end - k.size ≤ s) × (s < end)
     open_inside s so =
-        let x = marked_open at.plan at.knows o s F.marks so in let lt = F.below s x.0 x.1 in let near = F.near s so in
-        let size : at.plan.size ≡ k.size = ap (λ (p : Shape T). p.size) plan in (omega arith, lt)
+        let x = marked_open at.knows o s F.marks so in let lt = F.below s x.0 x.1 in let near = F.near s so in
+        let size : at.knows.plan.size ≡ k.size = ap (λ (p : Shape T). p.size) plan in (omega arith, lt)
 
     own_cell : (s : ℕ) → is_open o s ≡ true → 0 < k.size → HasCellOf k tokens' (cell_of k s) e
     own_cell s so some_slot =
-        let size : at.plan.size ≡ k.size = ap (λ (p : Shape T). p.size) plan in let count = F.count in let inside : cell_of k s < k.size = mod-lt s some_slot in
+        let size : at.knows.plan.size ≡ k.size = ap (λ (p : Shape T). p.size) plan in let count = F.count in let inside : cell_of k s < k.size = mod-lt s some_slot in
         let t = there own (cell_of k s) (omega arith) in let in_window = open_inside s so in
         let all = F.whole s t.0 so (ap (λ (p : Shape T). get_elem? own (cell_of p s)) plan ∙ t.1) in
         let now = A.here s t.0 in_window.0 in_window.1 so t.1 in (
@@ -201,7 +201,7 @@ module _ {T : Type 0} where
       by = λ i so. (
           let inside : i < k.size = (let b = at_below brought' i true so in let n = A.many in let m = B.many in omega arith) in
           elim (taken_at k (is_open o) (end - k.size) end own tokens tokens' brought brought' A (omega arith) i inside) [
-            | inl q ↦ (let x = marked_open at.plan at.knows o q.0 F.marks q.3 in record {
+            | inl q ↦ (let x = marked_open at.knows o q.0 F.marks q.3 in record {
               number = 0;
               sequence = q.0;
               end = e;
@@ -217,13 +217,13 @@ module _ {T : Type 0} where
         marked_of : (p s : ℕ) (x : SenderEnd T) → get_elem? (e ∷ ss) p ≡ some x → IsOpenOf x s → get_elem? brought' (cell_of k s) ≡ some true
         marked_of zero s x at_x opens =
             let same = some-injective e x at_x in let mine = subst (λ (y : SenderEnd T). IsOpenOf y s) (sym same) opens in
-            let so = open_marked at.plan at.knows o s mine.0 F.marks (subst (λ (r : SenderRecord T). Owns r s mine.0) (sym knows) mine.1) mine.2 in
-            let in_window = open_inside s so in let size : at.plan.size ≡ k.size = ap (λ (p : Shape T). p.size) plan in let count = F.count in
+            let so = open_marked at.knows o s mine.0 F.marks (subst (λ (r : SenderRecord T). Owns r s mine.0) (sym knows) mine.1) mine.2 in
+            let in_window = open_inside s so in let size : at.knows.plan.size ≡ k.size = ap (λ (p : Shape T). p.size) plan in let count = F.count in
             let inside : cell_of k s < k.size = mod-lt s some_slot in let t = there own (cell_of k s) (omega arith) in
             (A.here s t.0 in_window.0 in_window.1 so t.1).1
         marked_of (suc p) s x at_x opens =
             elim (taken_at k (is_open o) (end - k.size) end own tokens tokens' brought brought' A (omega arith) (cell_of k s) (mod-lt s some_slot)) [
-              | inl q ↦ (let size : at.plan.size ≡ k.size = ap (λ (p : Shape T). p.size) plan in let count = F.count in
+              | inl q ↦ (let size : at.knows.plan.size ≡ k.size = ap (λ (p : Shape T). p.size) plan in let count = F.count in
                   let inside : cell_of k q.0 < k.size = mod-lt q.0 some_slot in let t = there own (cell_of k q.0) (omega arith) in
                   ap (λ (i : ℕ). get_elem? brought' i) (sym q.4) ∙ (A.here q.0 t.0 q.1 q.2 q.3 t.1).1)
               | inr same ↦ same.1 ∙ B.marked p s x at_x opens
@@ -234,14 +234,14 @@ module _ {T : Type 0} where
     pub count : length hands ≡ n
     pub whole : left + length seen ≡ n
     pub each : (i : ℕ) (e : ReceiverEnd T) (parts : List (Token T)) → get_elem? seen i ≡ some e → get_elem? hands (left + i) ≡ some parts
-        → PartsFit e.plan e.knows parts
+        → PartsFit e.knows parts
 
   pub handed_none : (n : ℕ) (hands : List (List (Token T))) → length hands ≡ n → Handed n [] hands n
   handed_none n hands count = record { count = count; whole = omega arith; each = λ i e parts at here. absurd (some-ne-none e (sym at)) }
 
   pub handed_more : (left : ℕ) (seen : List (ReceiverEnd T)) (was now : List (List (Token T))) (n m : ℕ) (e : ReceiverEnd T) (parts : List (Token T))
       → Handed m seen was n → m ≡ left + 1
-      → PartsFit e.plan e.knows parts → now ≡ set was left parts → Handed left (e ∷ seen) now n
+      → PartsFit e.knows parts → now ≡ set was left parts → Handed left (e ∷ seen) now n
   handed_more left seen was now n m e parts H next fits put = let all = H.whole in let count = H.count in record {
     count = ap length put ∙ length-set was left parts ∙ H.count;
     whole = omega arith;
@@ -253,12 +253,12 @@ module _ {T : Type 0} where
   }
     where
       each_of : (i : ℕ) (x : ReceiverEnd T) (ps : List (Token T)) → get_elem? (e ∷ seen) i ≡ some x
-          → get_elem? (set was left parts) (left + i) ≡ some ps → PartsFit x.plan x.knows ps
+          → get_elem? (set was left parts) (left + i) ≡ some ps → PartsFit x.knows ps
       each_of zero x ps at here =
           let all = H.whole in let count = H.count in let z : left + 0 ≡ left = omega arith in
           let same : parts ≡ ps =
           some-injective parts ps (sym (set_here was left parts (omega arith)) ∙ ap (λ (j : ℕ). get_elem? (set was left parts) j) (sym z) ∙ here) in
-          subst (λ (y : ReceiverEnd T × List (Token T)). PartsFit y.0.plan y.0.knows y.1) (λ j. (some-injective e x at j, same j)) fits
+          subst (λ (y : ReceiverEnd T × List (Token T)). PartsFit y.0.knows y.1) (λ j. (some-injective e x at j, same j)) fits
       each_of (suc i) x ps at here =
           let z : m + i ≡ left + suc i = omega arith in
           H.each i x ps at (ap (λ (j : ℕ). get_elem? was j) z ∙ sym (set_else was left (left + suc i) parts (λ (q : left + suc i ≡ left). omega arith)) ∙ here)

@@ -20,7 +20,8 @@ use Rattle.dr_meaning.specs.declared.claim_fault.ClaimFault.TheVariants.{Refused
 use Rattle.dr_plain_senders.specs.Meaning.Records.{sender_looked, claimed_from, SeesRoom, Owns}
 use Rattle.dr_runs.specs.Runs.{IsBeginning}
 use Rattle.dr_runs.proofs.Beginnings.{begins_on}
-use Rattle.dr_plain_senders.specs.Calls.Ends.{SenderStand, HasLoaded, HasStored, Stays, count_looks}
+use Rattle.dr_lent.specs.Ends.{HasLoaded, HasStored}
+use Rattle.dr_plain_senders.specs.Calls.Ends.{SenderStand, count_looks}
 use Rattle.dr_plain_senders.specs.Calls.Sending.{gate_looks, FoundRoom, ClaimCall, knows_after, IsCount}
 use Rattle.dr_plain_senders.specs.Calls.Finds.{after_exchange, exchanged, IsEarlier}
 use Rattle.dr_plain_senders.specs.Inside.Scans.{sender_saw, IsEnough, Scans, ClaimsApart, ClaimTakes}
@@ -47,14 +48,18 @@ first_looks k c counts = look claim_word c ∷ gate_looks k counts
 
 module _ {T : Type 0} where
   -- and is seen by the exchange
-  pub sees_room : (k : Shape T) (r q s : SenderRecord T) (c n need : ℕ) → c + n ≤ k.limit → need ≡ c + n - k.size → q ≡ sender_looked r claim_word c
-      → Scans k q need s true → SeesRoom k s c n
-  sees_room k r q s c n need limit is first S = record {
-    limit = limit;
-    completed = λ f has. (let a = seen_high (finals k.upstreams) S.0 q.looks f need S.2.all S.2.high (inl (has.0, has.1, has.2)) in
-        let e : last_look 0 s.looks (count_word f) ≡ last_look 0 (q.looks ++ count_looks (finals k.upstreams) S.0) (count_word f) =
-        ap (λ (x : SenderRecord T). last_look 0 x.looks (count_word f)) S.1 in omega arith);
-  }
+  pub sees_room : (r q s : SenderRecord T) (c n need : ℕ) → c + n ≤ r.plan.limit → need ≡ c + n - r.plan.size → q ≡ sender_looked r claim_word c
+      → Scans q need s true → SeesRoom s.plan s c n
+  sees_room r q s c n need limit is first S =
+      let scan : Scans (sender_looked r claim_word c) need s true = subst (λ (x : SenderRecord T). Scans x need s true) first S in
+      subst (λ (k : Shape T). SeesRoom k s c n) (sym (ap (λ (x : SenderRecord T). x.plan) scan.1)) (record {
+        limit = limit;
+        completed = λ f has. (
+            let a = seen_high (finals r.plan.upstreams) scan.0 (sender_looked r claim_word c).looks f need scan.2.all scan.2.high (inl (has.0, has.1, has.2)) in
+            let e : last_look 0 s.looks (count_word f)
+            ≡ last_look 0 ((sender_looked r claim_word c).looks ++ count_looks (finals r.plan.upstreams) scan.0) (count_word f) =
+            ap (λ (x : SenderRecord T). last_look 0 x.looks (count_word f)) scan.1 in omega arith);
+      })
 
   pub looked_first : (k : Shape T) (r q s : SenderRecord T) (c : ℕ) (counts : List ℕ)
       → q ≡ sender_looked r claim_word c → s ≡ sender_saw q (gate_looks k counts)
@@ -82,32 +87,33 @@ module _ {T : Type 0} where
 
   -- an exchange for which there was room, by what it found
   pub record Tried (e : SenderStand T) (n c found : ℕ) (e' : SenderStand T) : Type 0 where
-    pub stays : Stays e e'
-    pub counted : IsCount e.plan n
+    pub ring : e'.ring ≡ e.ring
+    pub counted : IsCount e.knows.plan n
     pub counts : List ℕ
-    pub room : FoundRoom e.plan c n counts
+    pub room : FoundRoom e.knows.plan c n counts
     pub middle : SenderRecord T
-    pub looked : middle ≡ sender_saw e.knows (first_looks e.plan c counts)
+    pub looked : middle ≡ sender_saw e.knows (first_looks e.knows.plan c counts)
     pub knows : e'.knows ≡ after_exchange middle c n found
     pub stored : e'.stored ≡ e.stored ++ SenderClaims e.knows.number c n ∷ []
     pub past : IsBeginning e.past e'.past
-    pub few : e.plan.limit ≤ 2 ^ 62
-    pub size : IsSize e.plan.size
+    pub few : e.knows.plan.limit ≤ 2 ^ 62
+    pub size : IsSize e.knows.plan.size
 
   pub tried : (e a b e' : SenderStand T) (h : Hand T) (n c need found : ℕ)
       → HasLoaded e (sender_looked e.knows claim_word c) e.hand a → HasLoaded a b.knows a.hand b
-      → Scans a.plan a.knows need b.knows true
+      → Scans a.knows need b.knows true
       → HasStored b (SenderClaims b.knows.number c n) (after_exchange b.knows c n found) h e'
-      → IsCount e.plan n → c < 9223372036854775808 → c + n ≤ e.plan.limit
-      → need ≡ c + n - e.plan.size → e.plan.limit ≤ 2 ^ 62 → IsSize e.plan.size
+      → IsCount e.knows.plan n → c < 9223372036854775808 → c + n ≤ e.knows.plan.limit
+      → need ≡ c + n - e.knows.plan.size → e.knows.plan.limit ≤ 2 ^ 62 → IsSize e.knows.plan.size
       → Tried e n c found e'
   tried e a b e' h n c need found A B S C counted low limit is few size =
-      let scan : Scans e.plan a.knows need b.knows true = subst (λ (k : Shape T). Scans k a.knows need b.knows true) A.0.1 S in
-      let mid = looked_first e.plan e.knows a.knows b.knows c scan.0 A.1 scan.1 in record {
-        stays = (C.0.0 ∙ B.0.0 ∙ A.0.0, C.0.1 ∙ B.0.1 ∙ A.0.1);
+      let q = sender_looked e.knows claim_word c in
+      let scan : Scans q need b.knows true = subst (λ (r : SenderRecord T). Scans r need b.knows true) A.1 S in
+      let mid = looked_first e.knows.plan e.knows q b.knows c scan.0 refl scan.1 in record {
+        ring = C.0 ∙ B.0 ∙ A.0;
         counted = counted;
         counts = scan.0;
-        room = found_room e.plan c n need scan.0 (going c low) limit is scan.2;
+        room = found_room e.knows.plan c n need scan.0 (going c low) limit is scan.2;
         middle = b.knows;
         looked = mid;
         knows = C.1;
@@ -121,11 +127,11 @@ module _ {T : Type 0} where
   pub claim_given : (e e' : SenderStand T) (n c hi found : ℕ) → Tried e n c found e'
       → found ≡ c → hi ≡ c + n - 1 → ClaimCall e n e' (Ok record { lo = c; hi = hi })
   claim_given e e' n c hi found T same last = record {
-    stays = T.stays;
+    ring = T.ring;
     counts = T.counted;
-    seen = first_looks e.plan c T.counts ++ look claim_word (c + n) ∷ [];
+    seen = first_looks e.knows.plan c T.counts ++ look claim_word (c + n) ∷ [];
     looks = (T.counts, T.room, last, refl, refl);
-    knows = hit e.knows T.middle e'.knows (first_looks e.plan c T.counts) c hi n found T.looked T.knows same;
+    knows = hit e.knows T.middle e'.knows (first_looks e.knows.plan c T.counts) c hi n found T.looked T.knows same;
     steps = SenderClaims e.knows.number c n ∷ [];
     stored = T.stored;
     past = T.past;
@@ -136,11 +142,11 @@ module _ {T : Type 0} where
   pub claim_halted : (e e' : SenderStand T) (n c found : ℕ) → Tried e n c found e'
       → found ≢ c → 9223372036854775808 ≤ found → ClaimCall e n e' (Err (Refused Halted))
   claim_halted e e' n c found T other high = record {
-    stays = T.stays;
+    ring = T.ring;
     counts = T.counted;
-    seen = first_looks e.plan c T.counts ++ look claim_word found ∷ [];
+    seen = first_looks e.knows.plan c T.counts ++ look claim_word found ∷ [];
     looks = (found, stopped found high, inr (c, T.counts, T.room, refl, refl));
-    knows = missed e.knows T.middle e'.knows (first_looks e.plan c T.counts) c n found T.looked T.knows other;
+    knows = missed e.knows T.middle e'.knows (first_looks e.knows.plan c T.counts) c n found T.looked T.knows other;
     steps = SenderClaims e.knows.number c n ∷ [];
     stored = T.stored;
     past = T.past;
@@ -151,11 +157,11 @@ module _ {T : Type 0} where
   pub claim_contended : (e e' : SenderStand T) (n c found : ℕ) → Tried e n c found e'
       → found ≢ c → found < 9223372036854775808 → ClaimCall e n e' (Err Contended)
   claim_contended e e' n c found T other low = record {
-    stays = T.stays;
+    ring = T.ring;
     counts = T.counted;
-    seen = first_looks e.plan c T.counts ++ look claim_word found ∷ [];
+    seen = first_looks e.knows.plan c T.counts ++ look claim_word found ∷ [];
     looks = (c, found, T.counts, T.room, other, going found low, refl, refl);
-    knows = missed e.knows T.middle e'.knows (first_looks e.plan c T.counts) c n found T.looked T.knows other;
+    knows = missed e.knows T.middle e'.knows (first_looks e.knows.plan c T.counts) c n found T.looked T.knows other;
     steps = SenderClaims e.knows.number c n ∷ [];
     stored = T.stored;
     past = T.past;
@@ -165,26 +171,26 @@ module _ {T : Type 0} where
 
   -- what an exchange tells of the sequences that the sender had
   pub claim_apart : (e a b : SenderStand T) (n c need found : ℕ) → HasLoaded e (sender_looked e.knows claim_word c) e.hand a → HasLoaded a b.knows a.hand b
-      → Scans a.plan a.knows need b.knows true
-      → (found ≡ c → (s : ℕ) (t : Stage T) → Owns b.knows s t → IsEarlier b.plan c (c + n) s t) → found ≡ c → ClaimsApart e c n
+      → Scans a.knows need b.knows true
+      → (found ≡ c → (s : ℕ) (t : Stage T) → Owns b.knows s t → IsEarlier b.knows.plan c (c + n) s t) → found ≡ c → ClaimsApart e c n
   claim_apart e a b n c need found A B S earlier hit s t own =
-      let plan : b.plan ≡ e.plan = B.0.1 ∙ A.0.1 in
+      let plan : b.knows.plan ≡ e.knows.plan = ap (λ (r : SenderRecord T). r.plan) S.1 ∙ ap (λ (r : SenderRecord T). r.plan) A.1 in
       let list : b.knows.own ≡ e.knows.own = ap (λ (r : SenderRecord T). r.own) S.1 ∙ ap (λ (r : SenderRecord T). r.own) A.1 in
       subst (λ (k : Shape T). IsEarlier k c (c + n) s t) plan (earlier hit s t (own.0, ap (λ (xs : List (Own T)). get_elem? xs own.0) list ∙ own.1))
 
   -- and what it took
   pub claim_taken : (e a b b' : SenderStand T) (n c need found : ℕ) (claimed : Claimed)
       → HasLoaded e (sender_looked e.knows claim_word c) e.hand a → HasLoaded a b.knows a.hand b
-      → Scans a.plan a.knows need b.knows true → (laid : List (Laid T))
-      → LayIn b.plan c (exchanged c n found) laid → b'.hand ≡ taken_by_claim b.plan c laid ++ b.hand
-      → LayAsLent b.plan b.knows c laid → found ≡ c → claimed.lo ≡ c → ClaimTakes e n b' (Ok claimed)
+      → Scans a.knows need b.knows true → (laid : List (Laid T))
+      → LayIn b.knows.plan c (exchanged c n found) laid → b'.hand ≡ taken_by_claim b.knows.plan c laid ++ b.hand
+      → LayAsLent b.knows c laid → found ≡ c → claimed.lo ≡ c → ClaimTakes e n b' (Ok claimed)
   claim_taken e a b b' n c need found claimed A B S laid L hand O hit lo =
-      let plan : b.plan ≡ e.plan = B.0.1 ∙ A.0.1 in
+      let plan : b.knows.plan ≡ e.knows.plan = ap (λ (r : SenderRecord T). r.plan) S.1 ∙ ap (λ (r : SenderRecord T). r.plan) A.1 in
       let list : b.knows.own ≡ e.knows.own = ap (λ (r : SenderRecord T). r.own) S.1 ∙ ap (λ (r : SenderRecord T). r.own) A.1 in
       let same : b.hand ≡ e.hand = B.2 ∙ A.2 in
       let all : exchanged c n found ≡ n = ap (λ (x : Bool). if x then n else 0) (eq-eqb found c hit) in
-      let lay : LayIn e.plan c n laid = subst (λ (k : Shape T). LayIn k c n laid) plan (subst (λ (m : ℕ). LayIn b.plan c m laid) all L) in
-      subst (λ (q : ℕ). (xs : List (Laid T)) × LayIn e.plan q n xs × (b'.hand ≡ taken_by_claim e.plan q xs ++ e.hand) × LayAsLent e.plan e.knows q xs)
+      let lay : LayIn e.knows.plan c n laid = subst (λ (k : Shape T). LayIn k c n laid) plan (subst (λ (m : ℕ). LayIn b.knows.plan c m laid) all L) in
+      subst (λ (q : ℕ). (xs : List (Laid T)) × LayIn e.knows.plan q n xs × (b'.hand ≡ taken_by_claim e.knows.plan q xs ++ e.hand) × LayAsLent e.knows q xs)
       (sym lo) (
         laid,
         lay,
@@ -194,10 +200,10 @@ module _ {T : Type 0} where
       )
 
   -- the first look found the ring halted
-  pub claim_stopped : (e a : SenderStand T) (n c : ℕ) → HasLoaded e (sender_looked e.knows claim_word c) e.hand a → IsCount e.plan n → 9223372036854775808 ≤ c
-      → e.plan.limit ≤ 2 ^ 62 → IsSize e.plan.size → ClaimCall e n a (Err (Refused Halted))
+  pub claim_stopped : (e a : SenderStand T) (n c : ℕ) → HasLoaded e (sender_looked e.knows claim_word c) e.hand a → IsCount e.knows.plan n → 9223372036854775808 ≤ c
+      → e.knows.plan.limit ≤ 2 ^ 62 → IsSize e.knows.plan.size → ClaimCall e n a (Err (Refused Halted))
   claim_stopped e a n c A counted high few size = record {
-    stays = A.0;
+    ring = A.0;
     counts = counted;
     seen = look claim_word c ∷ [];
     steps = [];
@@ -211,13 +217,14 @@ module _ {T : Type 0} where
 
   -- a final was too far behind
   pub claim_no_room : (e a b : SenderStand T) (n c need : ℕ) → HasLoaded e (sender_looked e.knows claim_word c) e.hand a → HasLoaded a b.knows a.hand b
-      → Scans a.plan a.knows need b.knows false → IsCount e.plan n → c < 9223372036854775808 → c + n ≤ e.plan.limit → need ≡ c + n - e.plan.size
-      → e.plan.limit ≤ 2 ^ 62 → IsSize e.plan.size → ClaimCall e n b (Err (Refused NoRoom))
+      → Scans a.knows need b.knows false → IsCount e.knows.plan n → c < 9223372036854775808 → c + n ≤ e.knows.plan.limit → need ≡ c + n - e.knows.plan.size
+      → e.knows.plan.limit ≤ 2 ^ 62 → IsSize e.knows.plan.size → ClaimCall e n b (Err (Refused NoRoom))
   claim_no_room e a b n c need A B S counted low limit is few size =
-      let scan : Scans e.plan a.knows need b.knows false = subst (λ (k : Shape T). Scans k a.knows need b.knows false) A.0.1 S in let short = scan.2 in record {
-        stays = (B.0.0 ∙ A.0.0, B.0.1 ∙ A.0.1);
+      let q = sender_looked e.knows claim_word c in
+      let scan : Scans q need b.knows false = subst (λ (r : SenderRecord T). Scans r need b.knows false) A.1 S in let short = scan.2 in record {
+        ring = B.0 ∙ A.0;
         counts = counted;
-        seen = first_looks e.plan c scan.0;
+        seen = first_looks e.knows.plan c scan.0;
         steps = [];
         looks = (
           c,
@@ -234,7 +241,7 @@ module _ {T : Type 0} where
           refl,
           refl,
         );
-        knows = looked_first e.plan e.knows a.knows b.knows c scan.0 A.1 scan.1;
+        knows = looked_first e.knows.plan e.knows q b.knows c scan.0 refl scan.1;
         stored = B.4 ∙ A.4 ∙ sym (append-nil e.stored);
         past = begins_on e.past a.past b.past A.3 B.3;
         few = few;

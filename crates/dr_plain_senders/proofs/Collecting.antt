@@ -17,8 +17,7 @@ use Rattle.dr_lent.proofs.Lists.{drop_seam, drop_at}
 use Rattle.dr_plain_senders.specs.Meaning.Shape.{Shape}
 use Rattle.dr_plain_senders.specs.Meaning.Words.{cell_of, lanes_of}
 use Rattle.dr_plain_senders.specs.Meaning.Lying.{Laid, unlent, lent, kept_of}
-use Rattle.dr_plain_senders.specs.Calls.Ends.{EndOf}
-use Rattle.dr_plain_senders.specs.Inside.Hands.{with_hand}
+use Rattle.dr_lent.specs.Ends.{StandOf, with_hand}
 use Rattle.dr_plain_senders.specs.Inside.Rows.{row, blank_row, blank_rows, IsWholeOf, AreCollected, first_in, events_in, HaveThoseOf}
 use Rattle.dr_plain_senders.specs.Inside.Seats.{Hand, LayIn, IsOfRound, taken_by_claim}
 use Rattle.dr_plain_senders.specs.Inside.Finishing.{value_of}
@@ -40,8 +39,8 @@ rows_count k s (a ∷ laid) =
     omega (arith, length-append (row k s a) (taken_by_claim k (s + 1) laid), mul-suc (lanes_of k) (length laid))
 
 -- a loop of a sender over rows that a claim took, where it began with e: those that are left stand in front, and those that are blank behind the others
-module _ {T K : Type 0} (e : EndOf T K) (k : Shape T) (first n : ℕ) (laid : List (Laid T)) (L : LayIn k first n laid) where
-  abbrev pub Collecting : ℕ → EndOf T K → Type 0
+module _ {T S K : Type 0} (e : StandOf T S K) (k : Shape T) (first n : ℕ) (laid : List (Laid T)) (L : LayIn k first n laid) where
+  abbrev pub Collecting : ℕ → StandOf T S K → Type 0
   Collecting s now = now ≡ with_hand e (taken_by_claim k s (drop (s - first) laid) ++ (drop (lanes_of k * n) e.hand ++ blank_rows k first (s - first)))
 
   pub collecting_none : (others : Hand T) → e.hand ≡ taken_by_claim k first laid ++ others → Collecting first e
@@ -54,14 +53,14 @@ module _ {T K : Type 0} (e : EndOf T K) (k : Shape T) (first n : ℕ) (laid : Li
       (is ∙ (λ i. taken_by_claim k first (drop (none i) laid) ++ sym (append-nil (left i)) i)
       ∙ ap (λ (m : ℕ). taken_by_claim k first (drop (first - first) laid) ++ (drop (lanes_of k * n) e.hand ++ blank_rows k first m)) none)
 
-  front : (s : ℕ) (now : EndOf T K) (a : Laid T) → get_elem? laid (s - first) ≡ some a → Collecting s now
+  front : (s : ℕ) (now : StandOf T S K) (a : Laid T) → get_elem? laid (s - first) ≡ some a → Collecting s now
       → now.hand ≡ row k s a ++ (taken_by_claim k (s + 1) (drop (s - first + 1) laid) ++ (drop (lanes_of k * n) e.hand ++ blank_rows k first (s - first)))
   front s now a at C = let behind = drop (lanes_of k * n) e.hand ++ blank_rows k first (s - first) in
-      ap (λ (x : EndOf T K). x.hand) C ∙ ap (λ (xs : List (Laid T)). taken_by_claim k s xs ++ behind) (drop_at laid (s - first) a at)
+      ap (λ (x : StandOf T S K). x.hand) C ∙ ap (λ (xs : List (Laid T)). taken_by_claim k s xs ++ behind) (drop_at laid (s - first) a at)
       ∙ append_assoc (row k s a) (taken_by_claim k (s + 1) (drop (s - first + 1) laid)) behind
 
   -- what lies in the row that is next
-  pub row_next : (s : ℕ) (now : EndOf T K) → first ≤ s → s < first + n → Collecting s now
+  pub row_next : (s : ℕ) (now : StandOf T S K) → first ≤ s → s < first + n → Collecting s now
       → (a : Laid T) × (others : Hand T) × IsOfRound k s a × (now.hand ≡ row k s a ++ others)
   row_next s now low lt C = let count = L.count in let t = there laid (s - first) (omega arith) in let at : first + (s - first) ≡ s = omega arith in (
     t.0,
@@ -70,7 +69,7 @@ module _ {T K : Type 0} (e : EndOf T K) (k : Shape T) (first n : ℕ) (laid : Li
     front s now t.0 t.1 C,
   )
 
-  pub collecting_next : (s : ℕ) (now next : EndOf T K) → first ≤ s → s < first + n → Collecting s now
+  pub collecting_next : (s : ℕ) (now next : StandOf T S K) → first ≤ s → s < first + n → Collecting s now
       → next ≡ with_hand now (drop (lanes_of k) now.hand ++ blank_row k s) → Collecting (s + 1) next
   collecting_next s now next low lt C new =
       let count = L.count in let t = there laid (s - first) (omega arith) in let later : s - first + 1 ≡ s + 1 - first = omega arith in
@@ -84,9 +83,9 @@ module _ {T K : Type 0} (e : EndOf T K) (k : Shape T) (first n : ℕ) (laid : Li
       ∙ ap (λ (h : Hand T). left ++ h) (append_assoc others blank (blank_row k s))
       ∙ ap (λ (h : Hand T). left ++ (others ++ h)) (blank_rows_more k first (s - first) (s + 1 - first) s (omega arith) (omega arith))
       ∙ ap (λ (m : ℕ). taken_by_claim k (s + 1) (drop m laid) ++ (others ++ blank_rows k first (s + 1 - first))) later in
-      new ∙ ap (λ (x : EndOf T K). with_hand x (drop (lanes_of k) now.hand ++ blank_row k s)) C ∙ ap (λ (h : Hand T). with_hand e h) hand
+      new ∙ ap (λ (x : StandOf T S K). with_hand x (drop (lanes_of k) now.hand ++ blank_row k s)) C ∙ ap (λ (h : Hand T). with_hand e h) hand
 
-  pub collecting_all : (s : ℕ) (now : EndOf T K) → s ≡ first + n → Collecting s now
+  pub collecting_all : (s : ℕ) (now : StandOf T S K) → s ≡ first + n → Collecting s now
       → now ≡ with_hand e (drop (lanes_of k * n) e.hand ++ blank_rows k first n)
   collecting_all s now end C =
       let all : s - first ≡ n = omega arith in let others : Hand T = drop (lanes_of k * n) e.hand in
@@ -100,7 +99,7 @@ module _ {T : Type 0} where
   kept_event k s (lent l) = refl
 
   -- the first in hand is what is kept of the row that is next
-  pub row_event : {K : Type 0} (e : EndOf T K) (k : Shape T) (first n : ℕ) (laid : List (Laid T)) (L : LayIn k first n laid) (s : ℕ) (now : EndOf T K)
+  pub row_event : {S K : Type 0} (e : StandOf T S K) (k : Shape T) (first n : ℕ) (laid : List (Laid T)) (L : LayIn k first n laid) (s : ℕ) (now : StandOf T S K)
       → first ≤ s
       → s < first + n → Collecting e k first n laid L s now → (a : Laid T) × (get_elem? laid (s - first) ≡ some a) × (first_in now.hand ≡ Some (value_of a))
   row_event e k first n laid L s now low lt C =

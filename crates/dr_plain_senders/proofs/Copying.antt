@@ -18,7 +18,7 @@ module _ {T : Type 0} where
   pub takes_batch : (e e' : ReceiverEnd T) (room first count : ℕ) (last : _) (polled : Polled)
       → PollCall e room e' (Ok polled) → polled ≡ Batch first count last → TakesBatch e e' first count
   takes_batch e e' room first count last polled call is =
-      let sees = call.1.1 in let A = subst (λ (p : Polled). AnswersAsSeen e.plan e.knows room e'.knows sees.0 p) is sees.2 in record {
+      let sees = call.1.1 in let A = subst (λ (p : Polled). AnswersAsSeen e.knows room e'.knows sees.0 p) is sees.2 in record {
         next = A.0;
         lents = A.5.0;
         many = A.5.1;

@@ -54,19 +54,19 @@ module _ {T : Type 0} where
   }
 
   -- an end's own seat has it in its view
-  pub sender_in : (ring : TableId) (k : Shape T) (me : Sitting T) (o : Owned) (own : List (Token T)) (s : SenderEnd T) → IsSender (end_of me)
-      → sender_end (sender_stand ring k me) o own ≡ s → IsInView ring_ends me.0 (sender_known s)
-  sender_in ring k me o own s is same =
+  pub sender_in : (ring : TableId) (me : Sitting T) (o : Owned) (own : List (Token T)) (s : SenderEnd T) → IsSender (end_of me)
+      → sender_end (sender_stand ring me) o own ≡ s → IsInView ring_ends me.0 (sender_known s)
+  sender_in ring me o own s is same =
       own_sender me s is (ap (λ (e : SenderEnd T). e.knows) same) (ap (λ (e : SenderEnd T). e.past) same) (ap (λ (e : SenderEnd T). e.stored) same)
 
-  pub receiver_in : (ring : TableId) (k : Shape T) (me : Sitting T) (r : ReceiverEnd T) → IsReceiver (end_of me) → receiver_end (receiver_stand ring k me) ≡ r
+  pub receiver_in : (ring : TableId) (me : Sitting T) (r : ReceiverEnd T) → IsReceiver (end_of me) → receiver_end (receiver_stand ring me) ≡ r
       → IsInView ring_ends me.0 (receiver_known r)
-  receiver_in ring k me r is same =
+  receiver_in ring me r is same =
       own_receiver me r is (ap (λ (e : ReceiverEnd T). e.knows) same) (ap (λ (e : ReceiverEnd T). e.past) same) (ap (λ (e : ReceiverEnd T). e.stored) same)
 
-  pub halter_in : (ring : TableId) (k : Shape T) (me : Sitting T) (t : HalterEnd T) → IsHalter (end_of me) → halter_end ring k me ≡ t
+  pub halter_in : (ring : TableId) (me : Sitting T) (t : HalterEnd T) → IsHalter (end_of me) → halter_end ring me ≡ t
       → IsInView ring_ends me.0 (halter_known t)
-  halter_in ring k me t is same =
+  halter_in ring me t is same =
       own_halter me t is (ap (λ (e : HalterEnd T). e.knows) same) (ap (λ (e : HalterEnd T). e.past) same) (ap (λ (e : HalterEnd T). e.stored) same)
 
   -- All ends are together, and their seat took what lies in the slots.

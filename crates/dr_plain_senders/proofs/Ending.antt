@@ -253,7 +253,7 @@ module _ {T : Type 0} (k : Shape T) where
 
   module _ (st : State (Token T) (View (EndRecord T) (Step T))) (R : seats.Ruled (exchange k) st)
       (id : ℕ) (v : View (EndRecord T) (Step T)) (at : get_elem? st.views id ≡ some v)
-      (ss : List (SenderEnd T)) (rs : List (ReceiverEnd T)) (t : HalterEnd T) (H : HasAllEnds v ss rs t) (plan : k ≡ t.plan) where
+      (ss : List (SenderEnd T)) (rs : List (ReceiverEnd T)) (t : HalterEnd T) (H : HasAllEnds v ss rs t) (plan : k ≡ t.knows.plan) where
     ran_of : ViewRan (exchange k) v
     ran_of = let seen = Saw (exchange k) R.reached.steps in record {
       world = R.world;
@@ -300,7 +300,7 @@ module _ {T : Type 0} (k : Shape T) where
     ]
 
   pub takes_all : (slots id : ℕ) (me : Sitting T) (ss : List (SenderEnd T)) (rs : List (ReceiverEnd T)) (t : HalterEnd T)
-      → HasAllEnds me.0 ss rs t → k ≡ t.plan
+      → HasAllEnds me.0 ss rs t → k ≡ t.knows.plan
       → Allows (Ruled k) slots id me claim_word (λ n. n) (TookAll k me)
   unfolding ran_of
   takes_all slots id me ss rs t H plan st rule len at small = elim rule [

@@ -55,12 +55,12 @@ module _ {T : Type 0} where
     pub senders : w.senders ≡ map knows_of_sender ss
     pub receivers : w.receivers ≡ map knows_of rs
     pub all : AreAllEnds ss rs t
-    pub plan : k ≡ t.plan
+    pub plan : k ≡ t.knows.plan
     pub laid_is : AreLaid k w.stages laid
 
   pub ended : (k : Shape T) (v : View (EndRecord T) (Step T)) (ss : List (SenderEnd T))
       (rs : List (ReceiverEnd T)) (t : HalterEnd T) (laid : List (Option (Laid T)))
-      → HasAllEnds v ss rs t → (V : ViewRan (exchange k) v) → k ≡ t.plan → AreLaid k V.world.stages laid → Ended k V.world ss rs t laid
+      → HasAllEnds v ss rs t → (V : ViewRan (exchange k) v) → k ≡ t.knows.plan → AreLaid k V.world.stages laid → Ended k V.world ss rs t laid
   ended k v ss rs t laid H V plan L =
       let w = V.world in let R = V.reached in let K = kept_of k w R in let one = in_one_run k v ss rs t H V in record {
         rule = K;
@@ -73,7 +73,7 @@ module _ {T : Type 0} where
       }
 
   -- the receivers' rows
-  pub wide : (k p : Shape T) (ss : List (SenderEnd T)) (rs : List (ReceiverEnd T)) (t : HalterEnd T) (hands : List (List (Token T))) → k ≡ t.plan → p ≡ t.plan
+  pub wide : (k p : Shape T) (ss : List (SenderEnd T)) (rs : List (ReceiverEnd T)) (t : HalterEnd T) (hands : List (List (Token T))) → k ≡ t.knows.plan → p ≡ t.knows.plan
       → AreAllEnds ss rs t → AreHandsOf rs hands → AreWide p hands
   wide k p ss rs t hands plan same A H = record {
     count = H.count ∙ A.receivers ∙ ap handlers_of (sym same);
@@ -201,7 +201,7 @@ module _ {T : Type 0} where
             let whole_q : count_now + i ≡ k.size + s = omega arith in
             let x = there r.received s (omega arith) in
             let one = one_lent w.stages s x.0 l (K.beginning s x.0 x.1) (subst (λ (n : ℕ). IsOutWith w.stages n l) same is.2) in
-            let plan : e.plan ≡ k = ap (λ (y : EndPlace T). y.1) (E.all.each_receiver h e m.1) ∙ sym E.plan in
+            let plan : e.knows.plan ≡ k = ap (λ (y : EndPlace T). y.1) (E.all.each_receiver h e m.1) ∙ sym E.plan in
             let fit = (H.each h e parts m.1 at_h).held s x.0 (omega arith) x.1 in
             ap (λ (n : ℕ). get_elem? parts n) (cell_next (count_now + i) s whole_q)
             ∙ subst (λ (p : Shape T). get_elem? parts (cell_of p s) ≡ some (part_of p s (lent x.0))) plan fit

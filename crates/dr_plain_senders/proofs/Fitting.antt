@@ -33,8 +33,8 @@ module _ {T : Type 0} where
   owns_same r q s t same own = (own.0, ap (λ (xs : List (Own T)). get_elem? xs own.0) same ∙ own.1)
 
   -- where a sender learns something, and its sequences stay
-  pub marks_same : (k : Shape T) (r q : SenderRecord T) (o : Owned) → q.own ≡ r.own → MarksFit k r o → MarksFit k q o
-  marks_same k r q o same F = record {
+  pub marks_same : (r q : SenderRecord T) (o : Owned) → q.own ≡ r.own → MarksFit r o → MarksFit (record q { plan = r.plan }) o
+  marks_same r q o same F = record {
     claims = F.claims;
     writes = F.writes;
     shows = F.shows;
@@ -45,13 +45,12 @@ module _ {T : Type 0} where
     shown = λ s t own m. F.shown s t (owns_same q r s t (sym same) own) m;
   }
 
-  pub fits_same : (e e' : SenderStand T) (o : Owned) (end : ℕ) (tokens : List (Token T)) → e'.plan ≡ e.plan → e'.knows.own ≡ e.knows.own → e'.hand ≡ e.hand
+  pub fits_same : (e e' : SenderStand T) (o : Owned) (end : ℕ) (tokens : List (Token T)) → e'.knows.plan ≡ e.knows.plan → e'.knows.own ≡ e.knows.own → e'.hand ≡ e.hand
       → SenderFits e o end tokens → SenderFits e' o end tokens
   fits_same e e' o end tokens plan own hand F =
-      let at : SenderStand T = record e' { plan = e.plan } in
-      let P : Shape T → Type 0 = λ k. SenderFits (record e' { plan = k }) o end tokens in
-      let fits : SenderFits at o end tokens = record {
-        marks = marks_same e.plan e.knows e'.knows o own F.marks;
+      let P : Shape T → Type 0 = λ k. SenderFits (record e' { knows = record e'.knows { plan = k } }) o end tokens in
+      let fits : P e.knows.plan = record {
+        marks = marks_same e.knows e'.knows o own F.marks;
         limit = F.limit;
         last = λ some_one. (let x = F.last some_one in (x.0, owns_same e.knows e'.knows (end - 1) x.0 own x.1));
         below = λ s t owned. F.below s t (owns_same e'.knows e.knows s t (sym own) owned);
@@ -89,8 +88,8 @@ module _ {T : Type 0} (r q : SenderRecord T) (c n : ℕ) (grown : q.own ≡ r.ow
             let at : c + x.0 ≡ s = ap (λ (o : Own T). o.sequence) d.1 in let lt = d.0 in inl (omega arith, omega arith, sym (ap (λ (o : Own T). o.stage) d.1)))
       ]
 
-  module _ (k : Shape T) (o : Owned) (F : MarksFit k r o) (some_one : 0 < n) (few : n ≤ k.size)
-      (earlier : (s : ℕ) (t : Stage T) → Owns r s t → IsEarlier k c (c + n) s t) where
+  module _ (o : Owned) (F : MarksFit r o) (some_one : 0 < n) (few : n ≤ r.plan.size)
+      (earlier : (s : ℕ) (t : Stage T) → Owns r s t → IsEarlier r.plan c (c + n) s t) where
     abbrev pub claimed_marks : List ℕ
     claimed_marks = stamped (entry_of (length o.claimed)) o.claimed c n
 
@@ -113,7 +112,7 @@ module _ {T : Type 0} (r q : SenderRecord T) (c n : ℕ) (grown : q.own ≡ r.ow
     anew = after_claim o c n
 
     -- one that still has its mark is written and published as before
-    pub same_row : (xs : List ℕ) → length xs ≡ k.size → (s : ℕ) → s < c → is_marked claimed_marks s ≡ true → is_marked (wiped xs c n) s ≡ is_marked xs s
+    pub same_row : (xs : List ℕ) → length xs ≡ r.plan.size → (s : ℕ) → s < c → is_marked claimed_marks s ≡ true → is_marked (wiped xs c n) s ≡ is_marked xs s
     same_row xs count s lt marked = let len = F.claims in wiped_beside o.claimed xs c n s (omega arith) (omega arith) (omega arith) lt marked
 
     unpublished_new : (s : ℕ) → c ≤ s → is_marked anew.published s ≡ false
@@ -125,11 +124,11 @@ module _ {T : Type 0} (r q : SenderRecord T) (c n : ℕ) (grown : q.own ≡ r.ow
 
     -- what has no mark then is published, and its cell is claimed again
     old_now : (s : ℕ) (t : Stage T) → Owns r s t → is_marked claimed_marks s ≡ false
-        → (is_published t ≡ true) × ((z : ℕ) × (u : Stage T) × Owns q z u × (s + k.size ≤ z))
+        → (is_published t ≡ true) × ((z : ℕ) × (u : Stage T) × Owns q z u × (s + r.plan.size ≤ z))
     old_now s t owned m = let len = F.claims in let e = earlier s t owned in let below = e.0 in
         elim (cases_Bool (is_marked o.claimed s)) [
           | inr unmarked ↦ (let x = F.old s t owned unmarked in (x.0, (x.1.0, x.1.1, kept x.1.0 x.1.1 x.1.2, x.1.3)))
-          | inl marked ↦ elim (cases_lt (s + k.size) (c + n)) [
+          | inl marked ↦ elim (cases_lt (s + r.plan.size) (c + n)) [
             | inl past ↦ (
               elim (cases_Bool (is_published t)) [
                 | inl shown ↦ shown
@@ -142,7 +141,7 @@ module _ {T : Type 0} (r q : SenderRecord T) (c n : ℕ) (grown : q.own ≡ r.ow
         ]
 
     -- a sender's marks once it claimed n from c on
-    pub marks_claimed : MarksFit k q anew
+    pub marks_claimed : MarksFit (record q { plan = r.plan }) anew
     marks_claimed =
         let len = F.claims in let same : length claimed_marks ≡ length o.claimed = length-stamped (entry_of (length o.claimed)) o.claimed c n in
         let writes = F.writes in let shows = F.shows in record {

@@ -44,11 +44,11 @@ module _ {T : Type 0} where
   unfolding index
   stands_fresh k zero e at = subst (λ (x : EndRecord T). (index k.senders (end_number x) ≡ 0) × Stands (new_world k) x) (some-injective _ e at) (refl, refl)
   stands_fresh k (suc j) e at =
-      let ss = fresh_senders {T = T} 0 k.senders in let rs = fresh_receivers {T = T} 0 (handlers_of k) in
+      let ss = fresh_senders k 0 k.senders in let rs = fresh_receivers k 0 (handlers_of k) in
       elim (more_cases (map (λ r. Sends r) ss) (map (λ r. Receives r) rs) j e at) [
         | inl in_senders ↦ (
             let m = at_map (λ (r : SenderRecord T). Sends r) ss j e in_senders in
-            let number : m.0.number ≡ j = ap (λ (r : SenderRecord T). r.number) (sender_fresh 0 k.senders j m.0 m.1) ∙ omega arith in
+            let number : m.0.number ≡ j = ap (λ (r : SenderRecord T). r.number) (sender_fresh k 0 k.senders j m.0 m.1) ∙ omega arith in
             let i = index_sender k.senders m.0.number in
             subst (λ (x : EndRecord T). (index k.senders (end_number x) ≡ suc j) × Stands (new_world k) x) m.2 (
               omega arith,
@@ -57,10 +57,10 @@ module _ {T : Type 0} where
             ))
         | inr x ↦ (
             let m = at_map (λ (r : ReceiverRecord T). Receives r) rs x.0 e x.2 in
-            let number : m.0.number ≡ x.0 = ap (λ (r : ReceiverRecord T). r.number) (receiver_fresh 0 (handlers_of k) x.0 m.0 m.1) ∙ omega arith in
+            let number : m.0.number ≡ x.0 = ap (λ (r : ReceiverRecord T). r.number) (receiver_fresh k 0 (handlers_of k) x.0 m.0 m.1) ∙ omega arith in
             let i = index_receiver k.senders m.0.number in
             let before : length (map (λ (r : SenderRecord T). Sends r) ss) ≡ k.senders =
-            length-map ss (λ (r : SenderRecord T). Sends r) ∙ senders_count T 0 k.senders in let at_j = x.1 in
+            length-map ss (λ (r : SenderRecord T). Sends r) ∙ senders_count T k 0 k.senders in let at_j = x.1 in
             subst (λ (x : EndRecord T). (index k.senders (end_number x) ≡ suc j) × Stands (new_world k) x) m.2 (
               omega arith,
               ap (λ (n : ℕ). get_elem? rs n) number
@@ -82,7 +82,7 @@ module _ {T : Type 0} where
                 ∙ ap (λ (j : ℕ). some (some (token_at k.strip j (whole x.0)))) (sym here);
             parts = λ h r at away. (
                 let inside : suc h < lanes_of k =
-                (let b = at_below (fresh_receivers {T = T} 0 (handlers_of k)) h r at in let e = receivers_count T 0 (handlers_of k) in omega arith) in
+                (let b = at_below (fresh_receivers k 0 (handlers_of k)) h r at in let e = receivers_count T k 0 (handlers_of k) in omega arith) in
                 let b = inside_lanes k.size (lanes_of k) (suc h) q some_slot inside in
                 let far : k.size ≤ slot_of k (suc h) q = (let m : k.size ≤ suc h * k.size = omega (arith, suc-mul h k.size) in omega arith) in
                 map_there (λ (c : Token T). some c) cs (slot_of k (suc h) q) no_token (F.parts (slot_of k (suc h) q) far b));

@@ -57,7 +57,7 @@ module _ {T : Type 0} where
   pub own_halter : (me : Sitting T) (t : HalterEnd T) → IsHalter (end_of me) → halter_of me.0.ends ≡ t.knows → past_of me.0 ≡ t.past
       → stored_of me.0 ≡ t.stored → IsInView ring_ends me.0 (halter_known t)
   own_halter me t is knows past stored =
-      in_own ring_ends (me.0, []) (halter_known t) (ap (λ (m : End T). (m.0, [])) is ∙ ap (λ (r : HalterRecord). as_halter r) knows) past stored
+      in_own ring_ends (me.0, []) (halter_known t) (ap (λ (m : End T). (m.0, [])) is ∙ ap (λ (r : HalterRecord T). as_halter r) knows) past stored
 
   -- the ends that came together in the halter's seat
   pub record Together (v after now : View (EndRecord T) (Step T)) (ss : List (SenderEnd T)) (rs : List (ReceiverEnd T)) (t : HalterEnd T) : Type 0 where
@@ -96,7 +96,7 @@ module _ {T : Type 0} where
   -- the records of the world that the run came to
   pub senders_are : (k : Shape T) (w : World T) (steps : List (Step T)) (ss : List (SenderEnd T)) (rs : List (ReceiverEnd T)) (t : HalterEnd T)
       → KeepsRule k w
-      → k ≡ t.plan → AreAllEnds ss rs t → InOneRun k w steps ss rs t → w.senders ≡ map knows_of_sender ss
+      → k ≡ t.knows.plan → AreAllEnds ss rs t → InOneRun k w steps ss rs t → w.senders ≡ map knows_of_sender ss
   senders_are k w steps ss rs t K plan A R =
       same_lists w.senders (map knows_of_sender ss) (K.inlets ∙ ap (λ (p : Shape T). p.senders) plan ∙ sym A.senders ∙ sym (length-map ss knows_of_sender))
       (λ p r at. (let m = at_map knows_of_sender ss p r at in let number : m.0.knows.number ≡ p = ap (λ (x : EndPlace T). x.2) (A.each_sender p m.0 m.1) in
@@ -104,7 +104,7 @@ module _ {T : Type 0} where
 
   pub receivers_are : (k : Shape T) (w : World T) (steps : List (Step T)) (ss : List (SenderEnd T)) (rs : List (ReceiverEnd T)) (t : HalterEnd T)
       → KeepsRule k w
-      → k ≡ t.plan → AreAllEnds ss rs t → InOneRun k w steps ss rs t → w.receivers ≡ map knows_of rs
+      → k ≡ t.knows.plan → AreAllEnds ss rs t → InOneRun k w steps ss rs t → w.receivers ≡ map knows_of rs
   receivers_are k w steps ss rs t K plan A R =
       same_lists w.receivers (map knows_of rs) (K.outlets ∙ ap (λ (p : Shape T). length p.upstreams) plan ∙ sym A.receivers ∙ sym (length-map rs knows_of))
       (λ h r at. (let m = at_map knows_of rs h r at in let number : m.0.knows.number ≡ h = ap (λ (x : EndPlace T). x.2) (A.each_receiver h m.0 m.1) in
@@ -112,7 +112,7 @@ module _ {T : Type 0} where
 
   -- the run of the ends that came together, and what it found at the claim word
   pub has_run : (k : Shape T) (v : View (EndRecord T) (Step T)) (ss : List (SenderEnd T)) (rs : List (ReceiverEnd T)) (t : HalterEnd T) (found : ℕ)
-      → HasAllEnds v ss rs t → (ran : ViewRan (exchange k) v) → slice_index ran.world.words claim_word ≡ found → k ≡ t.plan
+      → HasAllEnds v ss rs t → (ran : ViewRan (exchange k) v) → slice_index ran.world.words claim_word ≡ found → k ≡ t.knows.plan
       → Moments (λ k steps entries w. KeepsRule k w) → Moments (λ k steps entries w. LeadsTo (ring_setup k) entries (picture_of k w))
       → Moments (λ k steps entries w. Laws (ring_setup k) entries)
       → HasRun ss rs t (claimed_in found) (is_halted found)
@@ -120,7 +120,7 @@ module _ {T : Type 0} where
       let ran = V.reached in let w = V.world in let steps = ran.steps in let es = ran.entries in let K = rule k steps es w ran.made ran.runs in
       let R = in_one_run k v ss rs t H V in let A = H.all in
       let P : Shape T → Type 0 = λ p. Runs p steps es (new_world p) w × LeadsTo (ring_setup p) es (picture_of p w) × Laws (ring_setup p) es × Settles p w in
-      let all : P t.plan = subst P plan (
+      let all : P t.knows.plan = subst P plan (
         ran.runs,
         leads k steps es w ran.made ran.runs,
         laws k steps es w ran.made ran.runs,

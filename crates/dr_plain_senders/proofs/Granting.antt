@@ -30,7 +30,7 @@ use Rattle.dr_plain_senders.specs.Calls.Finds.{IsEarlier}
 use Rattle.dr_plain_senders.specs.Calls.Sending.{GainsCells, ClaimCall}
 use Rattle.dr_plain_senders.specs.Inside.Fits.{SenderFits, written_in, writes_of}
 use Rattle.dr_plain_senders.specs.Inside.Owned.{Owned, after_claim, is_open}
-use Rattle.dr_plain_senders.specs.Inside.Hands.{with_hand}
+use Rattle.dr_lent.specs.Ends.{with_hand}
 use Rattle.dr_plain_senders.specs.Inside.Rows.{blank_rows, AreCollected}
 use Rattle.dr_plain_senders.specs.Inside.Seats.{Hand, LayIn, LayAsLent, IsOfRound, taken_by_claim}
 use Rattle.dr_plain_senders.specs.Inside.Finishing.{value_of}
@@ -93,17 +93,17 @@ hand_after k lo m n laid hand hand1 L is same =
     (drop_seam (taken_by_claim k lo laid) hand (lanes_of k * n) (rows_count k lo laid ∙ ap (λ (x : ℕ). lanes_of k * x) L.count))
 
 module _ {T : Type 0} (e : SenderStand T) (o : Owned) (end lo n : ℕ) (tokens tokens' : List (Token T)) (F : SenderFits e o end tokens)
-    (collected : AreCollected e.plan lo (lo + n) tokens tokens') (some_one : 0 < n) (few : n ≤ e.plan.size)
-    (earlier : (s : ℕ) (t : Stage T) → Owns e.knows s t → IsEarlier e.plan lo (lo + n) s t) (q : SenderRecord T)
+    (collected : AreCollected e.knows.plan lo (lo + n) tokens tokens') (some_one : 0 < n) (few : n ≤ e.knows.plan.size)
+    (earlier : (s : ℕ) (t : Stage T) → Owns e.knows s t → IsEarlier e.knows.plan lo (lo + n) s t) (q : SenderRecord T)
     (grown : q.own ≡ e.knows.own ++ fresh_own e.knows.number lo n) where
   abbrev now : Owned
   now = after_claim o lo n
 
   same_open : (s : ℕ) → s < lo → is_open o s ≡ is_open now s
-  same_open = open_before e.knows q lo n grown e.plan o F.marks some_one few earlier
+  same_open = open_before e.knows q lo n grown o F.marks some_one few earlier
 
   -- an open sequence that it had is less than a round behind what it claims
-  still_near : (s : ℕ) → is_open o s ≡ true → lo + n ≤ s + e.plan.size
+  still_near : (s : ℕ) → is_open o s ≡ true → lo + n ≤ s + e.knows.plan.size
   still_near s opened =
       let claimed = first_of (is_marked o.claimed s) (not (is_marked o.published s)) opened in let own = F.marks.own s claimed in
       let hidden =
@@ -124,9 +124,9 @@ module _ {T : Type 0} (e : SenderStand T) (o : Owned) (end lo n : ℕ) (tokens t
       ]
 
   -- the cell of a sequence that was open is as it was
-  untouched : (s : ℕ) → s < lo → is_open o s ≡ true → get_elem? tokens' (cell_of e.plan s) ≡ get_elem? tokens (cell_of e.plan s)
+  untouched : (s : ℕ) → s < lo → is_open o s ≡ true → get_elem? tokens' (cell_of e.knows.plan s) ≡ get_elem? tokens (cell_of e.knows.plan s)
   untouched s lt opened = let near = still_near s opened in
-      collected.others (cell_of e.plan s) (λ z from to. slots_differ e.plan.size z s (λ (eq : z ≡ s). omega arith) (omega arith) (omega arith))
+      collected.others (cell_of e.knows.plan s) (λ z from to. slots_differ e.knows.plan.size z s (λ (eq : z ≡ s). omega arith) (omega arith) (omega arith))
 
   end_low : end ≤ lo
   end_low = elim (cases_lt 0 end) [
@@ -140,13 +140,14 @@ module _ {T : Type 0} (e : SenderStand T) (o : Owned) (end lo n : ℕ) (tokens t
     | inr closed ↦ sym (same_open s lt) ∙ closed
   ]
 
-  pub fits_claim : (e' : SenderStand T) (o' : Owned) (tops : ℕ) → e'.plan ≡ e.plan → e'.knows ≡ q → e'.hand ≡ e.hand ++ blank_rows e.plan lo n → lo + n ≤ 2 ^ 62
+  pub fits_claim : (e' : SenderStand T) (o' : Owned) (tops : ℕ) → e'.knows.plan ≡ e.knows.plan → e'.knows ≡ q → e'.hand ≡ e.hand ++ blank_rows e.knows.plan lo n → lo + n ≤ 2 ^ 62
       → o' ≡ now → tops ≡ lo + n → SenderFits e' o' tops tokens'
   fits_claim e' o' tops plan knows hand limit is at =
-      let k = e.plan in let len = F.marks.claims in
-      let P : Shape T → SenderRecord T → Owned → ℕ → Type 0 = λ p r w m. SenderFits (record e' { plan = p; knows = r }) w m tokens' in
-      let fits : P k q now (lo + n) = record {
-        marks = marks_claimed e.knows q lo n grown k o F.marks some_one few earlier;
+      let k = e.knows.plan in let len = F.marks.claims in
+      let P : SenderRecord T → Owned → ℕ → Type 0 = λ r w m. SenderFits (record e' { knows = r }) w m tokens' in
+      let with_plan : SenderRecord T = record q { plan = k } in
+      let fits : P with_plan now (lo + n) = record {
+        marks = marks_claimed e.knows q lo n grown o F.marks some_one few earlier;
         limit = limit;
         last = λ _. (fresh_stage e.knows.number, own_new e.knows q lo n grown (lo + n - 1) (omega arith) (omega arith));
         below = λ s t own. elim (whence e.knows q lo n grown s t own) [
@@ -164,9 +165,9 @@ module _ {T : Type 0} (e : SenderStand T) (o : Owned) (end lo n : ℕ) (tokens t
         ];
         hand = hand ∙ ap (λ (h : Hand T). h ++ blank_rows k lo n) F.hand
             ∙ open_later k (is_open o) (is_open now) end lo n end_low (λ s lt. (let low = end_low in same_open s (omega arith))) between_closed
-            (open_here e.knows q lo n grown k o F.marks some_one few earlier);
-      } in subst (λ (p : Shape T). P p e'.knows o' tops) (sym plan)
-      (subst (λ (r : SenderRecord T). P k r o' tops) (sym knows) (subst (λ (w : Owned). P k q w tops) (sym is) (subst (P k q now) (sym at) fits)))
+            (open_here e.knows q lo n grown o F.marks some_one few earlier);
+      } in subst (λ (r : SenderRecord T). P r o' tops) (sym (λ i. record (knows i) { plan = plan i }))
+      (subst (λ (w : Owned). P with_plan w tops) (sym is) (subst (P with_plan now) (sym at) fits))
 
   unwritten : (s : ℕ) → lo ≤ s → is_marked o.written s ≡ false
   unwritten s ge = elim (cases_Bool (is_marked o.written s)) [
@@ -174,62 +175,62 @@ module _ {T : Type 0} (e : SenderStand T) (o : Owned) (end lo n : ℕ) (tokens t
     | inr not_marked ↦ not_marked
   ]
 
-  lies_still : (s : ℕ) → s < lo → is_open o s ≡ true → get_or (cells_of tokens') (cell_of e.plan s) None ≡ get_or (cells_of tokens) (cell_of e.plan s) None
+  lies_still : (s : ℕ) → s < lo → is_open o s ≡ true → get_or (cells_of tokens') (cell_of e.knows.plan s) None ≡ get_or (cells_of tokens) (cell_of e.knows.plan s) None
   lies_still s lt opened =
-      let c = cell_of e.plan s in let size : 0 < e.plan.size = omega arith in let inside : c < e.plan.size = mod-lt s size in let count = F.count in
+      let c = cell_of e.knows.plan s in let size : 0 < e.knows.plan.size = omega arith in let inside : c < e.knows.plan.size = mod-lt s size in let count = F.count in
       let t = there tokens c (omega arith) in let f : Token T → Option T = λ x. held x.hold in
       value_at (cells_of tokens') c (f t.0) None (map_there f tokens' c t.0 (untouched s lt opened ∙ t.1))
       ∙ sym (value_at (cells_of tokens) c (f t.0) None (map_there f tokens c t.0 t.1))
 
   -- nothing of the stretch is written, and what was written before stays so
-  none_written : (s : ℕ) → lo ≤ s → written_in e.plan now tokens' s ≡ None
+  none_written : (s : ℕ) → lo ≤ s → written_in e.knows.plan now tokens' s ≡ None
   none_written s ge = let len = F.marks.writes in
-      unready (is_open now s) (is_marked now.written s) (get_or (cells_of tokens') (cell_of e.plan s) None)
+      unready (is_open now s) (is_marked now.written s) (get_or (cells_of tokens') (cell_of e.knows.plan s) None)
       (inr (wiped_none o.written lo n s (omega arith) (unwritten s ge)))
 
-  still_written : (s : ℕ) → written_in e.plan now tokens' s ≡ written_in e.plan o tokens s
+  still_written : (s : ℕ) → written_in e.knows.plan now tokens' s ≡ written_in e.knows.plan o tokens s
   still_written s = elim (cases_lt s lo) [
     | inl lt ↦ elim (cases_Bool (is_open o s)) [
       | inl opened ↦ (let still = first_of (is_marked now.claimed s) (not (is_marked now.published s)) (sym (same_open s lt) ∙ opened) in
-          let same = same_row e.knows q lo n grown e.plan o F.marks some_one few earlier o.written F.marks.writes s lt still in
+          let same = same_row e.knows q lo n grown o F.marks some_one few earlier o.written F.marks.writes s lt still in
           (λ i. if sym (same_open s lt) i && same i then lies_still s lt opened i else None))
-      | inr closed ↦ unready (is_open now s) (is_marked now.written s) (get_or (cells_of tokens') (cell_of e.plan s) None) (inl (sym (same_open s lt) ∙ closed))
-          ∙ sym (unready (is_open o s) (is_marked o.written s) (get_or (cells_of tokens) (cell_of e.plan s) None) (inl closed))
+      | inr closed ↦ unready (is_open now s) (is_marked now.written s) (get_or (cells_of tokens') (cell_of e.knows.plan s) None) (inl (sym (same_open s lt) ∙ closed))
+          ∙ sym (unready (is_open o s) (is_marked o.written s) (get_or (cells_of tokens) (cell_of e.knows.plan s) None) (inl closed))
     ]
     | inr ge ↦ none_written s ge
-        ∙ sym (unready (is_open o s) (is_marked o.written s) (get_or (cells_of tokens) (cell_of e.plan s) None) (inr (unwritten s ge)))
+        ∙ sym (unready (is_open o s) (is_marked o.written s) (get_or (cells_of tokens) (cell_of e.knows.plan s) None) (inr (unwritten s ge)))
   ]
 
-  old_writes : (own : List (Own T)) → writes_of e.plan now tokens' own ≡ writes_of e.plan o tokens own
+  old_writes : (own : List (Own T)) → writes_of e.knows.plan now tokens' own ≡ writes_of e.knows.plan o tokens own
   old_writes [] = refl
   old_writes (x ∷ own) = (λ i. still_written x.sequence i ∷ old_writes own i)
 
-  new_writes : (p c m : ℕ) → lo ≤ c → writes_of e.plan now tokens' (fresh_own p c m) ≡ replicate m None
+  new_writes : (p c m : ℕ) → lo ≤ c → writes_of e.knows.plan now tokens' (fresh_own p c m) ≡ replicate m None
   new_writes p c zero le = refl
   new_writes p c (suc m) le = (λ i. none_written c le i ∷ new_writes p (suc c) m (omega arith) i)
 
-  pub writes_stay : (k' : Shape T) (o' : Owned) (own : List (Own T)) → k' ≡ e.plan → o' ≡ now → own ≡ e.knows.own ++ fresh_own e.knows.number lo n
-      → writes_of k' o' tokens' own ≡ writes_of e.plan o tokens e.knows.own ++ replicate n None
+  pub writes_stay : (k' : Shape T) (o' : Owned) (own : List (Own T)) → k' ≡ e.knows.plan → o' ≡ now → own ≡ e.knows.own ++ fresh_own e.knows.number lo n
+      → writes_of k' o' tokens' own ≡ writes_of e.knows.plan o tokens e.knows.own ++ replicate n None
   writes_stay k' o' own plan is longer =
       let fresh : List (Own T) = fresh_own e.knows.number lo n in
-      (λ i. writes_of (plan i) (is i) tokens' (longer i)) ∙ map-append (λ (x : Own T). written_in e.plan now tokens' x.sequence) e.knows.own fresh
+      (λ i. writes_of (plan i) (is i) tokens' (longer i)) ∙ map-append (λ (x : Own T). written_in e.knows.plan now tokens' x.sequence) e.knows.own fresh
       ∙ (λ i. old_writes e.knows.own i ++ new_writes e.knows.number lo n (omega arith) i)
 
   -- in the cell of each sequence of the stretch lies what lay there
-  pub gains_cells : (laid : List (Laid T)) → LayIn e.plan lo n laid → LayAsLent e.plan e.knows lo laid → HaveLaid e.plan lo (lo + n) laid tokens'
-      → GainsCells e.plan e.knows lo n (cells_of tokens) (cells_of tokens')
+  pub gains_cells : (laid : List (Laid T)) → LayIn e.knows.plan lo n laid → LayAsLent e.knows lo laid → HaveLaid e.knows.plan lo (lo + n) laid tokens'
+      → GainsCells e.knows lo n (cells_of tokens) (cells_of tokens')
   gains_cells laid L O H = let f : Token T → Option T = λ x. held x.hold in record {
-    gained = λ s low lt. (let size : 0 < e.plan.size = omega arith in let inside : cell_of e.plan s < e.plan.size = mod-lt s size in
+    gained = λ s low lt. (let size : 0 < e.knows.plan.size = omega arith in let inside : cell_of e.knows.plan s < e.knows.plan.size = mod-lt s size in
         let many = collected.count in
         let count = F.count in
-        let t = there tokens' (cell_of e.plan s) (omega arith) in
+        let t = there tokens' (cell_of e.knows.plan s) (omega arith) in
         let W = collected.whole s t.0 low lt t.1 in
         let more = L.count in let a = there laid (s - lo) (omega arith) in let at : lo + (s - lo) ≡ s = omega arith in
         let same : value_of a.0 ≡ W.0 = some_of (value_of a.0) W.0 (sym (H s a.0 t.0 low lt a.1 t.1) ∙ ap f W.1) in (
           W.0,
-          map_there f tokens' (cell_of e.plan s) t.0 t.1 ∙ ap (λ (x : Token T). some (f x)) W.1,
+          map_there f tokens' (cell_of e.knows.plan s) t.0 t.1 ∙ ap (λ (x : Token T). some (f x)) W.1,
           (
-            λ first. was_begun e.plan s a.0 (subst (λ (q : ℕ). IsOfRound e.plan q a.0) at (L.rounds (s - lo) a.0 a.1)) first ∙ ap (λ (x : T). some x) same,
+            λ first. was_begun e.knows.plan s a.0 (subst (λ (q : ℕ). IsOfRound e.knows.plan q a.0) at (L.rounds (s - lo) a.0 a.1)) first ∙ ap (λ (x : T). some x) same,
             λ z u l place own out. sym same ∙ ap (λ (b : Laid T). value_of b) (O (s - lo) z a.0 u l a.1 (at ∙ place) own out),
           ),
         ));
@@ -242,7 +243,7 @@ pub bare_call : {T : Type 0} → (e e1 e2 : SenderStand T) (hand : Hand T) (n : 
     → ClaimCall (record e { hand = [] }) n (record e2 { hand = [] }) result
 bare_call e e1 e2 hand n result C is =
     subst (λ (x : SenderStand _). ClaimCall (record e { hand = [] }) n (record x { hand = [] }) result) (sym is) (record {
-      stays = C.stays;
+      ring = C.ring;
       counts = C.counts;
       seen = C.seen;
       steps = C.steps;

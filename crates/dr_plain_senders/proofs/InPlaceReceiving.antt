@@ -54,19 +54,19 @@ module _ {T : Type 0} where
     looks : b.knows.looks ≡ a.knows.looks ++ more
 
   looked : (a b : ReceiverEnd T) (seen : PollLooks) (lents : List (Lent T)) → receiver_place b ≡ receiver_place a
-      → b.knows ≡ record (looked_round a.plan a.knows seen) { received = a.knows.received ++ lents } → LookedOn a b
+      → b.knows ≡ record (looked_round a.knows seen) { received = a.knows.received ++ lents } → LookedOn a b
   looked a b seen lents place is = record {
     place = place;
-    found = mark_looks a.plan (a.knows.looks ++ look claim_word seen.claims ∷ []) (length a.knows.received) seen.marks;
+    found = mark_looks a.knows.plan (a.knows.looks ++ look claim_word seen.claims ∷ []) (length a.knows.received) seen.marks;
     marks = ap (λ (r : ReceiverRecord T). r.marks) is;
-    more = look claim_word seen.claims ∷ count_looks (ups_of a.plan a.knows) seen.counts;
+    more = look claim_word seen.claims ∷ count_looks (ups_of a.knows) seen.counts;
     looks = ap (λ (r : ReceiverRecord T). r.looks) is;
   }
 
-  looked_only : (a b : ReceiverEnd T) (seen : PollLooks) → receiver_place b ≡ receiver_place a → b.knows ≡ looked_round a.plan a.knows seen → LookedOn a b
+  looked_only : (a b : ReceiverEnd T) (seen : PollLooks) → receiver_place b ≡ receiver_place a → b.knows ≡ looked_round a.knows seen → LookedOn a b
   looked_only a b seen place is =
       looked a b seen [] place
-      (is ∙ ap (λ (l : List (Lent T)). record (looked_round a.plan a.knows seen) { received = l }) (sym (append-nil a.knows.received)))
+      (is ∙ ap (λ (l : List (Lent T)). record (looked_round a.knows seen) { received = l }) (sym (append-nil a.knows.received)))
 
   same_on : (a b : ReceiverEnd T) → receiver_place b ≡ receiver_place a → b.knows.marks ≡ a.knows.marks → b.knows.looks ≡ a.knows.looks → LookedOn a b
   same_on a b place marks looks = record {
@@ -117,15 +117,15 @@ module _ {T : Type 0} where
       (is ∙ sym (append_assoc old (look claim_word claims ∷ []) (count_looks (u ∷ ups) (c ∷ counts)))) refl in
       omega arith
 
-  offer_within : (n room : ℕ) (k : Shape T) (old r : ReceiverRecord T) (seen : PollLooks) → LooksInOrder k old room seen
-      → r.marks ≡ old.marks ++ mark_looks k (old.looks ++ look claim_word seen.claims ∷ []) (length old.received) seen.marks
-      → r.looks ≡ old.looks ++ look claim_word seen.claims ∷ count_looks (ups_of k old) seen.counts
-      → length old.received < offer seen → SawAtMost n k (ups_of k old) r → offer seen ≤ n
-  offer_within n room k old r seen order marked grew further saw =
-      offered n k seen.claims seen.upto r old.looks (ups_of k old) seen.counts order.each grew
+  offer_within : (n room : ℕ) (old r : ReceiverRecord T) (seen : PollLooks) → LooksInOrder old room seen
+      → r.marks ≡ old.marks ++ mark_looks old.plan (old.looks ++ look claim_word seen.claims ∷ []) (length old.received) seen.marks
+      → r.looks ≡ old.looks ++ look claim_word seen.claims ∷ count_looks (ups_of old) seen.counts
+      → length old.received < offer seen → SawAtMost n old.plan (ups_of old) r → offer seen ≤ n
+  offer_within n room old r seen order marked grew further saw =
+      offered n old.plan seen.claims seen.upto r old.looks (ups_of old) seen.counts order.each grew
       (λ none.
-      let upto = by_marks seen.upto (ups_of k old) seen.counts order.each none in
-      walk_within n k (old.looks ++ look claim_word seen.claims ∷ []) (ups_of k old) old r (walk_end old (claimed_in seen.claims) room) seen.marks seen.upto
+      let upto = by_marks seen.upto (ups_of old) seen.counts order.each none in
+      walk_within n old.plan (old.looks ++ look claim_word seen.claims ∷ []) (ups_of old) old r (walk_end old (claimed_in seen.claims) room) seen.marks seen.upto
       (order.walks none) marked (omega arith) saw)
       saw
 
@@ -134,9 +134,9 @@ module _ {T : Type 0} where
   -- a receiver that looked on saw what it saw before
   sees_on : (a b : ReceiverEnd T) → LookedOn a b → SawMore (SawSome a) (SawSome b)
   sees_on a b on = λ n saw m most.
-      saw m (before_it m a.plan (ups_of a.plan a.knows) a.knows b.knows on.found on.more on.marks on.looks
-      (subst (λ (k : Shape T). SawAtMost m k (ups_of a.plan a.knows) b.knows) (ap (λ (q : EndPlace T). q.1) on.place)
-      (subst (λ (us : List ℕ). SawAtMost m b.plan us b.knows) (ap (λ (q : EndPlace T). upstreams_of q.1.upstreams q.2) on.place) most)))
+      saw m (before_it m a.knows.plan (ups_of a.knows) a.knows b.knows on.found on.more on.marks on.looks
+      (subst (λ (k : Shape T). SawAtMost m k (ups_of a.knows) b.knows) (ap (λ (q : EndPlace T). q.1) on.place)
+      (subst (λ (us : List ℕ). SawAtMost m b.knows.plan us b.knows) (ap (λ (q : EndPlace T). upstreams_of q.1.upstreams q.2) on.place) most)))
 
   pub sees_more : (room : ℕ) (e e' : ReceiverEnd T) (polled : Polled) → PollCall e room e' (Ok polled) → SawMore (SawSome e) (SawSome e')
   sees_more room e e' (Batch first count end) call = let sees = call.1.1 in sees_on e e' (looked e e' sees.0 sees.2.5.0 call.0 sees.2.5.2)
@@ -148,8 +148,8 @@ module _ {T : Type 0} where
   sees_same upto e e' call = sees_on e e' (same_record e e' call.0 call.1.2)
 
   -- what is bounded from above, as by how many are claimed at last
-  pub saw_most : (n : ℕ) (k : Shape T) (e : ReceiverEnd T) → e.plan ≡ k → SawAtMost n k (ups_of k e.knows) e.knows → (m : ℕ) → SawSome e m → m ≤ n
-  saw_most n k e plan most m saw = saw n (subst (λ (q : Shape T). SawAtMost n q (ups_of q e.knows) e.knows) (sym plan) most)
+  pub saw_most : (n : ℕ) (k : Shape T) (e : ReceiverEnd T) → e.knows.plan ≡ k → SawAtMost n k (ups_of e.knows) e.knows → (m : ℕ) → SawSome e m → m ≤ n
+  saw_most n k e plan most m saw = saw n (subst (λ (q : Shape T). SawAtMost n q (ups_of e.knows) e.knows) (sym plan) most)
 
   -- What it found offered at its last looks.
 
@@ -202,14 +202,14 @@ module _ {T : Type 0} where
       let marked = ap (λ (r : ReceiverRecord T). r.marks) A.5.2 in
       let grew = ap (λ (r : ReceiverRecord T). r.looks) A.5.2 in
       let on = looked e e' seen lents call.0 A.5.2 in
-      let ups = ups_of e.plan e.knows in
+      let ups = ups_of e.knows in
       let off : offered_of e' ≡ offer seen =
       ap (λ (q : EndPlace T). offered_in q.1 (upstreams_of q.1.upstreams q.2) e'.knows.marks e'.knows.looks) on.place
-      ∙ offered_is e.plan seen.claims seen.upto e'.knows e.knows.looks ups seen.counts sees.1.each grew
+      ∙ offered_is e.knows.plan seen.claims seen.upto e'.knows e.knows.looks ups seen.counts sees.1.each grew
       (λ none.
       let upto = by_marks seen.upto ups seen.counts sees.1.each none in
-      ap (marks_upto e.plan) marked
-      ∙ walk_is e.plan (e.knows.looks ++ look claim_word seen.claims ∷ []) (walk_end e.knows (claimed_in seen.claims) room) (length e.knows.received) e.knows.marks
+      ap (marks_upto e.knows.plan) marked
+      ∙ walk_is e.knows.plan (e.knows.looks ++ look claim_word seen.claims ∷ []) (walk_end e.knows (claimed_in seen.claims) room) (length e.knows.received) e.knows.marks
       seen.marks seen.upto (sees.1.walks none) (omega arith)) in
       record {
         events = events_of lents;
@@ -219,9 +219,9 @@ module _ {T : Type 0} where
         whole = many ∙ ap (λ (n : ℕ). min (n - first) room) (sym off);
         marked = subst (λ (n : ℕ). IsTrue end ↔ (first + count ≡ n)) (sym off) A.3;
         saw = λ m most.
-            (let low = offer_within m room e.plan e.knows e'.knows seen sees.1 marked grew (omega arith)
-            (subst (λ (k : Shape T). SawAtMost m k (ups_of e.plan e.knows) e'.knows) (ap (λ (q : EndPlace T). q.1) on.place)
-            (subst (λ (us : List ℕ). SawAtMost m e'.plan us e'.knows) (ap (λ (q : EndPlace T). upstreams_of q.1.upstreams q.2) on.place) most)) in
+            (let low = offer_within m room e.knows e'.knows seen sees.1 marked grew (omega arith)
+            (subst (λ (k : Shape T). SawAtMost m k (ups_of e.knows) e'.knows) (ap (λ (q : EndPlace T). q.1) on.place)
+            (subst (λ (us : List ℕ). SawAtMost m e'.knows.plan us e'.knows) (ap (λ (q : EndPlace T). upstreams_of q.1.upstreams q.2) on.place) most)) in
             omega arith);
         fits = omega arith;
         taken = λ i. record { events = events i; completed = completed i };

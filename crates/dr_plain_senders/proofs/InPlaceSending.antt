@@ -83,19 +83,19 @@ module _ {T : Type 0} where
   opens : (e e' : SenderEnd T) (n : ℕ) (c : Claimed) → SenderClaimCall e n e' (Ok c) → ((s : ℕ) (t : Stage T) → Owns e.knows s t → s < c.lo)
       → (sending_of e).pending ≡ [] → Opens c.lo n (sending_of e) (sending_of e')
   opens e e' n c call apart closed =
-      let N = closed_neat e.plan e.knows.own e.writes closed in
+      let N = closed_neat e.knows.plan e.knows.own e.writes closed in
       let p = e.knows.number in
       let more = e.knows.own ++ fresh_own p c.lo n in
       let none : writes_open e.knows.own e.writes ≡ [] = sym (ap (λ (x : Sending T). x.pending) N.is) ∙ closed in
       let own : e'.knows.own ≡ more = ap (λ (r : SenderRecord T). r.own) call.0.knows in
       let writes : e'.writes ≡ e.writes ++ replicate n None = call.1.0 in
-      let plan : e'.plan ≡ e.plan = call.0.stays.1 in
+      let plan : e'.knows.plan ≡ e.knows.plan = ap (λ (r : SenderRecord T). r.plan) call.0.knows in
       let room = call.0.looks.1.limit in
       let some_more = call.0.counts.0 in
       let many = N.many in
       let long : length (e.writes ++ replicate n None) ≡ length more = both_long e.writes e.knows.own p c.lo n many in
-      let neat = claimed_neat e.plan.limit 0 p c.lo n e.knows.own e.writes many none (λ i o at. apart o.sequence o.stage (i, at)) (omega arith) room in
-      let N' = neat_of e.plan more (e.writes ++ replicate n None) N.there long neat in
+      let neat = claimed_neat e.knows.plan.limit 0 p c.lo n e.knows.own e.writes many none (λ i o at. apart o.sequence o.stage (i, at)) (omega arith) room in
+      let N' = neat_of e.knows.plan more (e.writes ++ replicate n None) N.there long neat in
       (λ i. sending_by (plan i) (own i) (writes i)) ∙ N'.is
       ∙ (λ i. record {
         published = (claimed_events p c.lo n e.knows.own ∙ sym (ap (λ (x : Sending T). x.published) N.is)) i;
@@ -118,46 +118,46 @@ module _ {T : Type 0} where
   -- a refused one
   pub stays : (e e' : SenderEnd T) (n : ℕ) (fault : ClaimFault) → SenderClaimCall e n e' (Err fault) → sending_of e' ≡ sending_of e
   stays e e' n fault call =
-      λ i. sending_by (call.0.stays.1 i) (ap (λ (r : SenderRecord T). r.own) call.0.knows i) (call.1.0 i)
+      λ i. sending_by (ap (λ (r : SenderRecord T). r.plan) call.0.knows i) (ap (λ (r : SenderRecord T). r.own) call.0.knows i) (call.1.0 i)
 
   -- a halt
   pub halts : (e e' : SenderEnd T) → HaltCall e e' → sending_of e' ≡ sending_of e
-  halts e e' call = λ i. sending_by (call.1.0.0.1 i) (ap (λ (r : SenderRecord T). r.own) call.1.0.1 i) (call.1.1 i)
+  halts e e' call = λ i. sending_by (call.1.0.1 i).plan (call.1.0.1 i).own (call.1.1 i)
 
   pub halts_place : (e e' : SenderEnd T) → HaltCall e e' → sender_place e' ≡ sender_place e
-  halts_place e e' call = λ i. (call.1.0.0.0 i, call.1.0.0.1 i, ap (λ (r : SenderRecord T). r.number) call.1.0.1 i)
+  halts_place e e' call = λ i. (call.1.0.0 i, (call.1.0.1 i).plan, (call.1.0.1 i).number)
 
   -- A change.
 
   -- what an open sequence is
   pub record Opened (e : SenderEnd T) (s : ℕ) : Type 0 where
-    there : 0 < length e.plan.begun
+    there : 0 < length e.knows.plan.begun
     many : length e.writes ≡ length e.knows.own
-    neat : is_neat e.plan.limit 0 e.knows.own ≡ true
+    neat : is_neat e.knows.plan.limit 0 e.knows.own ≡ true
     is : sending_of e ≡ record { published = events_in e.knows.own; first = first_open e.knows.own; pending = writes_open e.knows.own e.writes }
     low : first_open e.knows.own ≤ s
     high : s < first_open e.knows.own + length (writes_open e.knows.own e.writes)
 
   opened : (e : SenderEnd T) (s : ℕ) → IsOpen (sending_of e) s → s < 2 ^ 64 → Opened e s
   opened e s within fits =
-      let N = open_neat e.plan s e.knows.own e.writes fits within.0 in
+      let N = open_neat e.knows.plan s e.knows.own e.writes fits within.0 in
       let is = subst (λ (x : Sending T). IsOpen x s) N.is within in
       record { there = N.there; many = N.many; neat = N.neat; is = N.is; low = is.0; high = is.1 }
 
   refused_nowhere : (e : SenderEnd T) (s : ℕ) (r : Refusal) (sight : Sight T) → IsSight e s sight → IsAsked sight
-      → IsAnswerOf {A = Unit {0}} (write_causes (tests_of_write e.plan s sight)) (Err (trouble.Refused r)) → IsOpen (sending_of e) s → s < 2 ^ 64 → ⊥
+      → IsAnswerOf {A = Unit {0}} (write_causes (tests_of_write e.knows.plan s sight)) (Err (trouble.Refused r)) → IsOpen (sending_of e) s → s < 2 ^ 64 → ⊥
   refused_nowhere e s r (Has t w) sees asked answer within fits =
       let O = opened e s within fits in
-      let out = open_once e.plan.limit 0 s e.knows.own e.writes O.neat O.many O.low O.high sees.0 t sees.1 in
-      not_first r (write_causes (tests_of_write e.plan s (Has t w)))
+      let out = open_once e.knows.plan.limit 0 s e.knows.own e.writes O.neat O.many O.low O.high sees.0 t sees.1 in
+      not_first r (write_causes (tests_of_write e.knows.plan s (Has t w)))
       (cannot false refl, (cannot false refl, (cannot (is_published t) out, (cannot false refl, tt)))) answer
   refused_nowhere e s r (Found before m after) sees asked answer within fits =
       let O = opened e s within fits in
-      let has = open_has e.plan.limit 0 s e.knows.own e.writes O.neat O.many O.low O.high in
+      let has = open_has e.knows.plan.limit 0 s e.knows.own e.writes O.neat O.many O.low O.high in
       absurd (false≢true (sym has.2 ∙ (sees.1 has.0 has.1).0))
   refused_nowhere e s r Never sees asked answer within fits =
       let O = opened e s within fits in
-      let has = open_has e.plan.limit 0 s e.knows.own e.writes O.neat O.many O.low O.high in
+      let has = open_has e.knows.plan.limit 0 s e.knows.own e.writes O.neat O.many O.low O.high in
       let below = has.3 in absurd (omega arith)
   refused_nowhere e s r Unasked sees asked answer within fits = absurd asked
 
@@ -169,14 +169,14 @@ module _ {T : Type 0} where
   writes e e' s event write within fits =
       let O = opened e s within fits in
       let own : e'.knows.own ≡ e.knows.own = ap (λ (r : SenderRecord T). r.own) write.knows in
-      let plan : e'.plan ≡ e.plan = ap (λ (p : EndPlace T). p.1) write.place in
+      let plan : e'.knows.plan ≡ e.knows.plan = ap (λ (p : EndPlace T). p.1) write.place in
       let after = written_where (λ q. q == s) (Some event) e.knows.own e.writes in
-      let N' = neat_of e.plan e.knows.own after O.there (many_where (λ q. q == s) (Some event) e.knows.own e.writes O.many) O.neat in
+      let N' = neat_of e.knows.plan e.knows.own after O.there (many_where (λ q. q == s) (Some event) e.knows.own e.writes O.many) O.neat in
       (λ i. sending_by (plan i) (own i) (write.writes i)) ∙ N'.is
       ∙ (λ i. record {
         published = events_in e.knows.own;
         first = first_open e.knows.own;
-        pending = written_open e.plan.limit 0 s (Some event) e.knows.own e.writes O.neat O.many O.low i;
+        pending = written_open e.knows.plan.limit 0 s (Some event) e.knows.own e.writes O.neat O.many O.low i;
       })
       ∙ ap (λ (x : Sending T). with_filled x s event) (sym O.is)
 
@@ -193,12 +193,12 @@ module _ {T : Type 0} where
       let many : length (sending_of e).pending ≡ length whole.events = ap length whole.filled ∙ length-map whole.events (λ x. Some x) in
       (omega arith, omega arith)
 
-  reach_free : (e : SenderEnd T) (hi : ℕ) (x : Reach) → IsReach e.plan e.knows hi x → Opened e hi → CannotHold (reach_unclaimed hi x)
+  reach_free : (e : SenderEnd T) (hi : ℕ) (x : Reach) → IsReach e.knows hi x → Opened e hi → CannotHold (reach_unclaimed hi x)
   reach_free e hi Inside is O = cannot false refl
   reach_free e hi Outside is O =
-      let below = (open_has e.plan.limit 0 hi e.knows.own e.writes O.neat O.many O.low O.high).3 in absurd (omega arith)
+      let below = (open_has e.knows.plan.limit 0 hi e.knows.own e.writes O.neat O.many O.low O.high).3 in absurd (omega arith)
   reach_free e hi (Looked found) is O =
-      let has = open_has e.plan.limit 0 hi e.knows.own e.writes O.neat O.many O.low O.high in
+      let has = open_has e.knows.plan.limit 0 hi e.knows.own e.writes O.neat O.many O.low O.high in
       absurd (false≢true (sym has.2 ∙ is.1 has.0 has.1))
 
   -- an event is there where each has one
@@ -206,39 +206,39 @@ module _ {T : Type 0} where
   filled_there events k v at = let one = at_map (λ (x : T). Some x) events k v at in ap is_none (sym one.2)
 
   sight_free : (e : SenderEnd T) (s : ℕ) (x : Sight T) (events : List T) → IsSight e s x → Opened e s
-      → writes_open e.knows.own e.writes ≡ map (λ event. Some event) events → NoneHolds CannotHold (sequence_causes (sight_tests e.plan s x))
+      → writes_open e.knows.own e.writes ≡ map (λ event. Some event) events → NoneHolds CannotHold (sequence_causes (sight_tests e.knows.plan s x))
   sight_free e s (Has t w) events is O filled =
-      let out = open_once e.plan.limit 0 s e.knows.own e.writes O.neat O.many O.low O.high is.0 t is.1 in
-      let wrote = open_write e.plan.limit 0 s e.knows.own e.writes O.neat O.many O.low O.high is.0 t w is.1 is.2 in
+      let out = open_once e.knows.plan.limit 0 s e.knows.own e.writes O.neat O.many O.low O.high is.0 t is.1 in
+      let wrote = open_write e.knows.plan.limit 0 s e.knows.own e.writes O.neat O.many O.low O.high is.0 t w is.1 is.2 in
       let written = filled_there events (s - first_open e.knows.own) w (ap (λ l. get_elem? l (s - first_open e.knows.own)) (sym filled) ∙ wrote) in
       (cannot (is_published t) out, (cannot false refl, (cannot (is_none w) written, tt)))
   sight_free e s (Found before m after) events is O filled =
-      let has = open_has e.plan.limit 0 s e.knows.own e.writes O.neat O.many O.low O.high in
+      let has = open_has e.knows.plan.limit 0 s e.knows.own e.writes O.neat O.many O.low O.high in
       absurd (false≢true (sym has.2 ∙ (is.1 has.0 has.1).0))
   sight_free e s Never events is O filled =
-      let below = (open_has e.plan.limit 0 s e.knows.own e.writes O.neat O.many O.low O.high).3 in absurd (omega arith)
+      let below = (open_has e.knows.plan.limit 0 s e.knows.own e.writes O.neat O.many O.low O.high).3 in absurd (omega arith)
   sight_free e s Unasked events is O filled = (cannot false refl, (cannot false refl, (cannot false refl, tt)))
 
   one_free : (e : SenderEnd T) (lo s : ℕ) (seen : PublishLooks T) (events : List T) → IsSight e (lo + seen.ready) seen.stop → Opened e s
-      → writes_open e.knows.own e.writes ≡ map (λ event. Some event) events → NoneHolds CannotHold (sequence_causes (stretch_tests e.plan lo seen s))
+      → writes_open e.knows.own e.writes ≡ map (λ event. Some event) events → NoneHolds CannotHold (sequence_causes (stretch_tests e.knows.plan lo seen s))
   one_free e lo s seen events stop O filled = elim (cases_eq s (lo + seen.ready)) [
     | inl same ↦ rw (eq-eqb s (lo + seen.ready) same) (sight_free e s seen.stop events (subst (λ (n : ℕ). IsSight e n seen.stop) (sym same) stop) O filled)
     | inr other ↦ rw (ne_eqb s (lo + seen.ready) other) (cannot false refl, (cannot false refl, (cannot false refl, tt)))
   ]
 
   pub may_publish : (e : SenderEnd T) (lo hi : ℕ) (r : Refusal) (seen : PublishLooks T) → PublishSees e lo hi seen
-      → IsAnswerOf {A = Unit {0}} (publish_causes lo hi (tests_of_publication e.plan lo hi seen)) (Err (trouble.Refused r)) → IsWhole lo hi (sending_of e) → hi < 2 ^ 64 → ⊥
+      → IsAnswerOf {A = Unit {0}} (publish_causes lo hi (tests_of_publication e.knows.plan lo hi seen)) (Err (trouble.Refused r)) → IsWhole lo hi (sending_of e) → hi < 2 ^ 64 → ⊥
   may_publish e lo hi r seen sees answer whole fits =
-      let tests = tests_of_publication e.plan lo hi seen in
+      let tests = tests_of_publication e.knows.plan lo hi seen in
       let there = whole.some in
       let last = whole.last in
       let ordered : lo ≤ hi = omega arith in
       let top = opened e hi (whole_open e lo hi hi whole ordered (omega arith)) fits in
       let filled : writes_open e.knows.own e.writes ≡ map (λ event. Some event) whole.events = sym (ap (λ (x : Sending T). x.pending) top.is) ∙ whole.filled in
-      let each : (k : ℕ) → k < hi + 1 - lo → NoneHolds CannotHold (sequence_causes (stretch_tests e.plan lo seen (lo + k)))
+      let each : (k : ℕ) → k < hi + 1 - lo → NoneHolds CannotHold (sequence_causes (stretch_tests e.knows.plan lo seen (lo + k)))
       = λ k less. one_free e lo (lo + k) seen whole.events sees.stop (opened e (lo + k) (whole_open e lo hi (lo + k) whole (omega arith) (omega arith)) (omega arith)) filled in
-      let stretch = none_of_stretch MayHold CannotHold (λ s. sequence_causes (stretch_tests e.plan lo seen s)) lo (hi + 1 - lo) each in
-      let all = none_join MayHold CannotHold (flat_map (λ s. sequence_causes (stretch_tests e.plan lo seen s)) (range_with_len lo (hi + 1 - lo)))
+      let stretch = none_of_stretch MayHold CannotHold (λ s. sequence_causes (stretch_tests e.knows.plan lo seen s)) lo (hi + 1 - lo) each in
+      let all = none_join MayHold CannotHold (flat_map (λ s. sequence_causes (stretch_tests e.knows.plan lo seen s)) (range_with_len lo (hi + 1 - lo)))
       ((tests.out_of_order, OutOfOrder) ∷ []) stretch (cannot false refl, tt) in
       not_first r (publish_causes lo hi tests)
       (cannot false refl, (cannot (nat_lt hi lo) (le-ltb hi lo ordered), (reach_free e hi seen.reach (sees.reach ordered) top, all))) answer
@@ -266,7 +266,7 @@ module _ {T : Type 0} where
       let written = here.1.2 in
       let below : k < length lents = at_below lents k l at_l in
       let O = opened e (lo + k) (whole_open e lo hi (lo + k) whole (omega arith) (omega arith)) (omega arith) in
-      let wrote = open_write e.plan.limit 0 (lo + k) e.knows.own e.writes O.neat O.many O.low O.high j t (Some l.event) own written in
+      let wrote = open_write e.knows.plan.limit 0 (lo + k) e.knows.own e.writes O.neat O.many O.low O.high j t (Some l.event) own written in
       let place : lo + k - first_open e.knows.own ≡ k = omega arith in
       let is_there : get_elem? (map (λ (x : T). Some x) events) k ≡ some (Some l.event) =
       ap (λ q. get_elem? q k) (sym filled) ∙ ap (λ n. get_elem? (writes_open e.knows.own e.writes) n) (sym place) ∙ wrote in
@@ -289,18 +289,18 @@ module _ {T : Type 0} where
       let first_is : lo ≡ first_open e.knows.own = sym first ∙ ap (λ (x : Sending T). x.first) top.is in
       let out = own_published (first_open e.knows.own) call.lents e.knows.own in
       let own : e'.knows.own ≡ out = ap (λ (r : SenderRecord T). r.own) call.knows ∙ ap (λ n. own_published n call.lents e.knows.own) first_is in
-      let plan : e'.plan ≡ e.plan = ap (λ (p : EndPlace T). p.1) call.place in
+      let plan : e'.knows.plan ≡ e.knows.plan = ap (λ (p : EndPlace T). p.1) call.place in
       let left = written_where (is_between lo (hi + 1)) None e.knows.own e.writes in
-      let N' = neat_of e.plan out left top.there
+      let N' = neat_of e.knows.plan out left top.there
       (many_where (is_between lo (hi + 1)) None e.knows.own e.writes top.many ∙ sym (many_published (first_open e.knows.own) call.lents e.knows.own))
-      (published_neat e.plan.limit 0 e.knows.own e.writes call.lents top.neat top.many all some_lent) in
+      (published_neat e.knows.plan.limit 0 e.knows.own e.writes call.lents top.neat top.many all some_lent) in
       let after = (λ i. sending_by (plan i) (own i) (call.writes i)) ∙ N'.is in
       record {
         published = λ events filled.
             ap (λ (x : Sending T). x.published) after
-            ∙ more_events e.plan.limit 0 e.knows.own e.writes call.lents top.neat top.many all some_lent
+            ∙ more_events e.knows.plan.limit 0 e.knows.own e.writes call.lents top.neat top.many all some_lent
             ∙ ap (λ l. l ++ events_of call.lents) (sym (ap (λ (x : Sending T). x.published) top.is))
             ∙ ap (λ l. (sending_of e).published ++ l) (sym (lent_events e lo hi call.lents events call.lent whole fits (pending ∙ filled)));
         closed = ap (λ (x : Sending T). x.pending) after
-            ∙ published_writes e.plan.limit 0 e.knows.own e.writes left call.lents top.neat top.many all some_lent;
+            ∙ published_writes e.knows.plan.limit 0 e.knows.own e.writes left call.lents top.neat top.many all some_lent;
       }

@@ -40,6 +40,7 @@ module _ {T : Type 0} where
     marked = K.marked;
     sent = each_set (SenderKept k w.words w.stages) w.senders p r now (λ q x ne there. K.sent q x there);
     received = K.received;
+    halter_plan = K.halter_plan;
     halter = K.halter;
     halter_claims = K.halter_claims;
   }
@@ -50,6 +51,7 @@ module _ {T : Type 0} where
   keeps_sender_looks k w p i r low at K = let was = K.sent p r at in
       sender_changes k w p (sender_looked r i (word_at w.words i))
       (record {
+        plan = was.plan;
         number = was.number;
         own = was.own;
         all = was.all;
@@ -61,7 +63,7 @@ module _ {T : Type 0} where
   pub keeps_mark_found : (k : Shape T) (w : World T) (p s found : ℕ) (r : SenderRecord T) → get_elem? w.senders p ≡ some r → KeepsRule k w
       → KeepsRule k (sender_knows w p (mark_found r s found))
   keeps_mark_found k w p s found r at K =
-      let was = K.sent p r at in sender_changes k w p (mark_found r s found) (record { number = was.number; own = was.own; all = was.all; looks = was.looks }) K
+      let was = K.sent p r at in sender_changes k w p (mark_found r s found) (record { plan = was.plan; number = was.number; own = was.own; all = was.all; looks = was.looks }) K
 
   pub fresh_at : (p c n i : ℕ) (o : Own T) → get_elem? (fresh_own p c n) i ≡ some o → (i < n) × (record { sequence = c + i; stage = fresh_stage p } ≡ o)
   fresh_at p c zero i o at = absurd (some-ne-none o (sym at))
@@ -128,6 +130,7 @@ module _ {T : Type 0} where
         marked = λ s x near. ap (is_there k s) (stays (mark_word k s) (omega arith)) ∙ K.marked s (old_out s x) (omega arith);
         sent = each_set (SenderKept k us more) w.senders p (claimed_from r c n)
             (record {
+              plan = was.plan;
               number = was.number;
               own = λ i o there. elim (more_cases r.own (fresh_own r.number c n) i o there) [
                 | inl old ↦ (let d = was.own i o old in (d.0, at_longer w.stages new o.sequence o.stage d.1))
@@ -152,16 +155,17 @@ module _ {T : Type 0} where
         received = λ h q there. (let old = K.received h q there in
             receiver_stays k w.words us w.stages more h q K.shape.graph (handler_inside k w h q there K) (stays (count_word h) (omega arith)) rises lasts
             (omega arith) (λ y. absurd (let t = (old.told y).0 in cc)) old);
+        halter_plan = K.halter_plan;
         halter = past_rises k w.words us w.halter.looks rises K.halter;
         halter_claims = let a = K.halter_claims in omega arith;
       }
 
   -- the highest bit of the claim word is set
-  halting : (k : Shape T) (w : World T) (senders : List (SenderRecord T)) (halter : HalterRecord) → length senders ≡ k.senders
-      → ((p : ℕ) (r : SenderRecord T) → get_elem? senders p ≡ some r → SenderKept k (halted_words w) w.stages p r) → ArePast k (halted_words w) halter.looks
+  halting : (k : Shape T) (w : World T) (senders : List (SenderRecord T)) (halter : HalterRecord T) → length senders ≡ k.senders
+      → ((p : ℕ) (r : SenderRecord T) → get_elem? senders p ≡ some r → SenderKept k (halted_words w) w.stages p r) → halter.plan ≡ k → ArePast k (halted_words w) halter.looks
       → claimed_in (last_look 0 halter.looks claim_word) ≤ length w.stages
       → KeepsRule k w → KeepsRule k (record w { words = halted_words w; senders = senders; halter = halter })
-  halting k w senders halter count sent looks claims K =
+  halting k w senders halter count sent plan looks claims K =
       let n = word_at w.words claim_word in let us = halted_words w in let wide = K.wide in
       let here : word_at us claim_word ≡ halted_from n = get_or-set_same w.words claim_word (halted_from n) 0 (omega arith) in
       let stays : (j : ℕ) → 0 < j → word_at us j ≡ word_at w.words j =
@@ -180,6 +184,7 @@ module _ {T : Type 0} where
         received = λ h q there. (let old = K.received h q there in
             receiver_stays k w.words us w.stages w.stages h q K.shape.graph (handler_inside k w h q there K) (stays (count_word h) (omega arith)) rises
             (λ s l x. x) (omega arith) (λ y. (ap is_halted here ∙ is_halted_from n, (old.told y).1)) old);
+        halter_plan = plan;
         halter = looks;
         halter_claims = claims;
       }
@@ -201,6 +206,7 @@ module _ {T : Type 0} where
       ∙ K.inlets)
       (each_set (SenderKept k us w.stages) w.senders p (sender_looked r claim_word (halted_from n))
       (record {
+        plan = was.plan;
         number = was.number;
         own = was.own;
         all = was.all;
@@ -208,7 +214,7 @@ module _ {T : Type 0} where
             past_more (mark_start k) us claim_word (halted_from n) r.looks (omega arith) (omega arith) (past_rises k w.words us r.looks rises was.looks);
       })
       (λ q x ne there. sender_stays k w.words us w.stages w.stages q x rises (λ s t old _. old) (λ s t old _. old) (K.sent q x there)))
-      (past_rises k w.words us w.halter.looks rises K.halter) K.halter_claims K
+      K.halter_plan (past_rises k w.words us w.halter.looks rises K.halter) K.halter_claims K
 
   pub keeps_halter_halts : (k : Shape T) (w : World T) → KeepsRule k w
       → KeepsRule k (record w { words = halted_words w; halter = halter_halted w.halter (word_at w.words claim_word) })
@@ -216,7 +222,7 @@ module _ {T : Type 0} where
       let n = word_at w.words claim_word in let us = halted_words w in let rises = halt_rises k w K in let here = halt_here k w K in
       halting k w w.senders (halter_halted w.halter n) K.inlets
       (λ p x there. sender_stays k w.words us w.stages w.stages p x rises (λ s t old _. old) (λ s t old _. old) (K.sent p x there))
-      (past_more (mark_start k) us claim_word (halted_from n) w.halter.looks (omega arith)
+      K.halter_plan (past_more (mark_start k) us claim_word (halted_from n) w.halter.looks (omega arith)
       (omega arith) (past_rises k w.words us w.halter.looks rises K.halter))
       (let a = ap claimed_in (last_look_more 0 w.halter.looks claim_word (halted_from n)) in let b = claimed_halted n in let c = K.claim in omega arith)
       K
@@ -237,6 +243,7 @@ module _ {T : Type 0} where
         marked = K.marked;
         sent = K.sent;
         received = K.received;
+        halter_plan = K.halter_plan;
         halter = past_more (mark_start k) w.words i (word_at w.words i) looks low (omega arith) K.halter;
         halter_claims = elim (cases_eq i claim_word) [
           | inl e ↦ subst (λ (j : ℕ). claimed_in (last_look 0 (looks ++ look j (word_at w.words j) ∷ []) claim_word) ≤ length w.stages) (sym e)

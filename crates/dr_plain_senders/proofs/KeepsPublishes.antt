@@ -178,6 +178,7 @@ module _ {T : Type 0} where
         marked = λ z x near. publishes_marked k w s t l own.1 high unshown K z x (omega arith);
         sent = each_set (SenderKept k us more) w.senders p (brought r s (published l))
             (record {
+              plan = was.plan;
               number = was.number;
               own = λ j o there. (let m = at_map (own_after s (published l)) r.own j o there in
                   subst (λ (x : Own T). (x.stage.owner ≡ p) × (get_elem? more x.sequence ≡ some x.stage)) m.2
@@ -203,6 +204,7 @@ module _ {T : Type 0} where
         received = λ h q there. (let old = K.received h q there in let in_graph = handler_inside k w h q there K in
             receiver_stays k w.words us w.stages more h q K.shape.graph in_graph (stays (count_word h) (omega arith)) rises lasts (omega arith)
             (λ y. (ap is_halted (stays claim_word (omega arith)) ∙ (old.told y).0, (let c = (old.told y).1 in omega arith))) old);
+        halter_plan = K.halter_plan;
         halter = past_rises k w.words us w.halter.looks rises K.halter;
         halter_claims = let a = K.halter_claims in omega arith;
       }

@@ -16,7 +16,7 @@ use Rattle.dr_plain_senders.specs.Meaning.Words.{claim_word, claimed_in, is_halt
 use Rattle.dr_plain_senders.specs.declared.record.MarkLook.{MarkLook}
 use Rattle.dr_plain_senders.specs.declared.record.ReceiverRecord.{ReceiverRecord}
 use Rattle.dr_plain_senders.specs.Meaning.Records.{mark_look, receiver_looked, tells_drained, claims_looked, taken_at_mark, mark_looked}
-use Rattle.dr_plain_senders.specs.Meaning.Records.{taken_at_count, completed_to}
+use Rattle.dr_plain_senders.specs.Meaning.Records.{taken_at, completed_to}
 use Rattle.dr_plain_senders.specs.Meaning.Rule.{World, ArePast, IsOutWith, ReceiverKept, KeepsRule}
 use Rattle.dr_plain_senders.specs.Meaning.Steps.{receiver_knows, AreNext}
 use Rattle.dr_plain_senders.proofs.Places.{more_cases, Rises, rises_set, past_rises}
@@ -40,6 +40,7 @@ module _ {T : Type 0} where
     marked = K.marked;
     sent = K.sent;
     received = each_set (ReceiverKept k w.words w.stages) w.receivers h r now (λ j q ne there. K.received j q there);
+    halter_plan = K.halter_plan;
     halter = K.halter;
     halter_claims = K.halter_claims;
   }
@@ -54,6 +55,7 @@ module _ {T : Type 0} where
   pub keeps_claims_look : (k : Shape T) (w : World T) (h : ℕ) (r : ReceiverRecord T) → get_elem? w.receivers h ≡ some r → KeepsRule k w
       → KeepsRule k (receiver_knows w h (claims_looked r (word_at w.words claim_word)))
   keeps_claims_look k w h r at K = let was = K.received h r at in let n = word_at w.words claim_word in receiver_changes k w h (claims_looked r n) (record {
+    plan = was.plan;
     number = was.number;
     count = was.count;
     completed = was.completed;
@@ -76,6 +78,7 @@ module _ {T : Type 0} where
   takes_kept k w h n r lents marks looks at O N past same K =
       let was = K.received h r at in let longer = length-append r.received lents in let count = N.count in
       receiver_changes k w h (record r { received = r.received ++ lents; marks = marks; looks = looks }) (record {
+        plan = was.plan;
         number = was.number;
         count = was.count;
         completed = let c = was.completed in omega arith;
@@ -91,18 +94,18 @@ module _ {T : Type 0} where
 
   pub keeps_mark_look : (k : Shape T) (w : World T) (h room : ℕ) (r : ReceiverRecord T) (lents : List (Lent T))
       → get_elem? w.receivers h ≡ some r → upstreams_of k.upstreams h ≡ []
-      → AreNext w r (taken_at_mark k r (word_at w.words (mark_word k (length r.received))) room) lents → KeepsRule k w
+      → AreNext w r (taken_at_mark r (word_at w.words (mark_word k (length r.received))) room) lents → KeepsRule k w
       → KeepsRule k (receiver_knows w h (mark_looked r (word_at w.words (mark_word k (length r.received))) lents))
   keeps_mark_look k w h room r lents at none N K = let found = word_at w.words (mark_word k (length r.received)) in
-      takes_kept k w h (taken_at_mark k r found room) r lents (r.marks ++ mark_look r.looks (length r.received) found ∷ [])
+      takes_kept k w h (taken_at_mark r found room) r lents (r.marks ++ mark_look r.looks (length r.received) found ∷ [])
       r.looks at (offers_at_mark k w h room r at none K) N (K.received h r at).looks refl K
 
   pub keeps_count_look : (k : Shape T) (w : World T) (h i room : ℕ) (r : ReceiverRecord T) (lents : List (Lent T))
       → 0 < i → i < mark_start k → get_elem? w.receivers h ≡ some r
-      → AreNext w r (taken_at_count k r i (word_at w.words i) room) lents → KeepsRule k w
+      → AreNext w r (taken_at r i (word_at w.words i) room) lents → KeepsRule k w
       → KeepsRule k (receiver_knows w h (receiver_looked r i (word_at w.words i) lents))
   keeps_count_look k w h i room r lents pos low at N K = let found = word_at w.words i in let was = K.received h r at in
-      takes_kept k w h (taken_at_count k r i found room) r lents r.marks (r.looks ++ look i found ∷ []) at (offers_at_count k w h i room r low at K) N
+      takes_kept k w h (taken_at r i found room) r lents r.marks (r.looks ++ look i found ∷ []) at (offers_at_count k w h i room r low at K) N
       (past_more (mark_start k) w.words i found r.looks low (omega arith) was.looks)
       (ap claimed_in (last_look_else 0 r.looks i claim_word found (λ (e : i ≡ claim_word). omega arith))) K
 
@@ -129,6 +132,7 @@ module _ {T : Type 0} where
         sent = λ p q there. sender_stays k w.words us w.stages w.stages p q rises (λ s t x _. x) (λ s t x _. x) (K.sent p q there);
         received = each_set (ReceiverKept k us w.stages) w.receivers h (completed_to r n)
             (record {
+              plan = was.plan;
               number = was.number;
               count = here;
               completed = le;
@@ -143,6 +147,7 @@ module _ {T : Type 0} where
             receiver_stays k w.words us w.stages w.stages j q K.shape.graph (handler_inside k w j q there K)
             (stays (count_word j) (λ e. ne (omega arith))) rises (λ s l x. x) (omega arith)
             (λ yes. (ap is_halted one ∙ (old.told yes).0, (old.told yes).1)) old));
+        halter_plan = K.halter_plan;
         halter = past_rises k w.words us w.halter.looks rises K.halter;
         halter_claims = K.halter_claims;
       }

@@ -35,7 +35,7 @@ use Rattle.dr_plain_senders.specs.Meaning.Rule.{World, IsOut, KeepsRule}
 use Rattle.dr_plain_senders.specs.Meaning.Steps.{Happens, sender_knows, sender_claims}
 use Rattle.dr_plain_senders.specs.Meaning.Moments.{Runs, stage_at, picture_of}
 use Rattle.dr_plain_senders.specs.Calls.Ends.{count_looks, mark_looks}
-use Rattle.dr_plain_senders.specs.Calls.Receiving.{ups_of, WalksTo, PollLooks, offer, AnswersAsSeen}
+use Rattle.dr_plain_senders.specs.Calls.Receiving.{ups_of, WalksTo, walk_end, PollLooks, offer, AnswersAsSeen}
 use Rattle.dr_plain_senders.specs.Calls.Handing.{HandsWhatWasThere}
 use Rattle.dr_plain_senders.proofs.Facts.{cases_option, above, handler_inside, upstream_inside}
 use Rattle.dr_plain_senders.proofs.Stays.{out_lasts}
@@ -260,33 +260,33 @@ module _ {T : Type 0} where
       no_more (offered (picture_of k w) (u ∷ ups)) (offered_by upto (n ∷ ns)) s room (least_later k w (u ∷ ups) (n ∷ ns) len inside all)
 
   -- what an answer says of the poll's looks, and of what it hands over
-  record HasPolled (k : Shape T) (r : ReceiverRecord T) (room : ℕ) (r' : ReceiverRecord T) (seen : PollLooks) (n : ℕ) : Type 0 where
-    looks : r'.looks ≡ r.looks ++ look claim_word seen.claims ∷ count_looks (ups_of k r) seen.counts
-    marks : r'.marks ≡ r.marks ++ mark_looks k (r.looks ++ look claim_word seen.claims ∷ []) (length r.received) seen.marks
+  record HasPolled (r : ReceiverRecord T) (room : ℕ) (r' : ReceiverRecord T) (seen : PollLooks) (n : ℕ) : Type 0 where
+    looks : r'.looks ≡ r.looks ++ look claim_word seen.claims ∷ count_looks (ups_of r) seen.counts
+    marks : r'.marks ≡ r.marks ++ mark_looks r.plan (r.looks ++ look claim_word seen.claims ∷ []) (length r.received) seen.marks
     completed : r'.completed ≡ r.completed
     hands : min (offer seen - length r.received) room ≤ n
 
-  polled_so : (k : Shape T) (r : ReceiverRecord T) (room : ℕ) (r' : ReceiverRecord T) (seen : PollLooks) (polled : Polled) → AnswersAsSeen k r room r' seen polled
-      → HasPolled k r room r' seen (handed polled)
-  polled_so k r room r' seen (Batch first count last) A = record {
+  polled_so : (r : ReceiverRecord T) (room : ℕ) (r' : ReceiverRecord T) (seen : PollLooks) (polled : Polled) → AnswersAsSeen r room r' seen polled
+      → HasPolled r room r' seen (handed polled)
+  polled_so r room r' seen (Batch first count last) A = record {
     looks = ap (λ (q : ReceiverRecord T). q.looks) A.5.2;
     marks = ap (λ (q : ReceiverRecord T). q.marks) A.5.2;
     completed = ap (λ (q : ReceiverRecord T). q.completed) A.5.2;
     hands = let a = A.0 in let b = A.2 in omega arith;
   }
-  polled_so k r room r' seen Drained A = record {
+  polled_so r room r' seen Drained A = record {
     looks = ap (λ (q : ReceiverRecord T). q.looks) A.3;
     marks = ap (λ (q : ReceiverRecord T). q.marks) A.3;
     completed = ap (λ (q : ReceiverRecord T). q.completed) A.3;
     hands = let a = A.2 in omega arith;
   }
-  polled_so k r room r' seen Gating A = record {
+  polled_so r room r' seen Gating A = record {
     looks = ap (λ (q : ReceiverRecord T). q.looks) A.2;
     marks = ap (λ (q : ReceiverRecord T). q.marks) A.2;
     completed = ap (λ (q : ReceiverRecord T). q.completed) A.2;
     hands = let a = A.1 in omega arith;
   }
-  polled_so k r room r' seen Idle A = record {
+  polled_so r room r' seen Idle A = record {
     looks = ap (λ (q : ReceiverRecord T). q.looks) A.3;
     marks = ap (λ (q : ReceiverRecord T). q.marks) A.3;
     completed = ap (λ (q : ReceiverRecord T). q.completed) A.3;
@@ -319,9 +319,9 @@ module _ {T : Type 0} where
   pub hands_what_was_there : (k : Shape T) (steps : List (Step T)) (es : Transcript T) (w u : World T)
       → Runs k steps es w u → KeepsRule k w → HandsWhatWasThere k w u
   hands_what_was_there k steps es w u R K h room r r' polled at there_is P =
-      let seen = P.0 in let order = P.1 in let answer = polled_so k r room r' seen polled P.2 in let was = K.received h r at in let ups = ups_of k r in
+      let seen = P.0 in let order = P.1 in let answer = polled_so r room r' seen polled P.2 in let was = K.received h r at in let ups = ups_of r in
       let s = length r.received in let n = length u.stages in let few : length u.stages ≤ n = omega arith in
-      let same : ups ≡ upstreams_of k.upstreams h = ap (λ (q : ℕ). upstreams_of k.upstreams q) was.number in
+      let same : ups ≡ upstreams_of k.upstreams h = (λ i. upstreams_of (was.plan i).upstreams (was.number i)) in
       let stood = seen_runs k steps es w u n h r few R K at in
       let is : stood.0 ≡ r' = some-injective stood.0 r' (sym stood.1 ∙ there_is) in
       let later = subst (SawLater k w n h r) is stood.2 in
@@ -331,10 +331,12 @@ module _ {T : Type 0} where
       let inside = handler_inside k w h r at K in let L = keeps_runs k steps es w u R K in let round = above k u L h inside in
       let count = (L.received h r' there_is).count in let done = answer.completed in let took = was.completed in
       let looked : List Look = r.looks ++ look claim_word seen.claims ∷ [] in
+      let marked : r'.marks ≡ r.marks ++ mark_looks k looked s seen.marks =
+      answer.marks ∙ ap (λ (p : Shape T). r.marks ++ mark_looks p looked s seen.marks) was.plan in
       let published : ups ≡ [] → min (front (picture_of k w) - s) room ≤ min (seen.upto - s) room = λ none.
       walked_far k w looked n s room (claimed_in seen.claims) r.completed seen.marks seen.upto
-      (subst (All (IsMarkOf k w.stages n)) (append_cancel_left r.marks later.ms (mark_looks k looked s seen.marks) (sym later.marks ∙ answer.marks)) later.are)
-      (order.walks none) claims (omega arith) took in
+      (subst (All (IsMarkOf k w.stages n)) (append_cancel_left r.marks later.ms (mark_looks k looked s seen.marks) (sym later.marks ∙ marked)) later.are)
+      (subst (λ (p : Shape T). WalksTo p (walk_end r (claimed_in seen.claims) room) s seen.marks seen.upto) was.plan (order.walks none)) claims (omega arith) took in
       let handlers : (v : ℕ) → Contains ups v → v < handlers_of k = λ v has.
       upstream_inside k K.shape.graph h v inside (subst (λ (vs : List ℕ). Contains vs v) same has) in
       let more : min (offered (picture_of k w) ups - s) room ≤ min (offer seen - s) room =

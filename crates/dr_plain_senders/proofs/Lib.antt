@@ -24,7 +24,6 @@ pub mod Rising
 pub mod FreshSeats
 pub mod Making
 pub mod Trading
-pub mod Stations
 pub mod Taken
 pub mod Scanning
 pub mod Claims

@@ -63,7 +63,8 @@ module _ {T : Type 0} where
       only (suc j) x there = absurd (some-ne-none x (sym there))
 
       claimed : (x : MarkLook) → here ≡ x → IsWithin k (length w.stages) x
-      claimed x same = subst (IsWithin k (length w.stages)) same (marked_claimed k w h r at K)
+      claimed x same = subst (IsWithin k (length w.stages)) same
+          (subst (λ (p : Shape T). IsWithin p (length w.stages) here) (K.received h r at).plan (marked_claimed k w h r at K))
 
       new : AllWithin k (length w.stages) (r.marks ++ here ∷ [])
       new i x there = elim (more_cases r.marks (here ∷ []) i x there) [
@@ -109,4 +110,4 @@ module _ {T : Type 0} where
       → Runs k steps es (new_world k) u → MarksWithin k u
   marks_within k steps es u shape R =
       within_runs k steps es (new_world k) u R (kept_new_world T k shape) (λ h r at i x there.
-      absurd (some-ne-none x (sym there ∙ ap (λ (q : ReceiverRecord T). get_elem? q.marks i) (receiver_fresh 0 (handlers_of k) h r at))))
+      absurd (some-ne-none x (sym there ∙ ap (λ (q : ReceiverRecord T). get_elem? q.marks i) (receiver_fresh k 0 (handlers_of k) h r at))))

@@ -62,13 +62,13 @@ module _ {T : Type 0} where
   pub claim_moves : (k : Shape T) (w : World T) (p c n : ℕ) (r : SenderRecord T) (hand : Hand T) (homes : List (maybe.Option (Token T)))
       → get_elem? w.senders p ≡ some r
       → SeesRoom k r c n → word_at w.words claim_word ≡ c → KeepsRule k w → Lies k w homes
-      → (laid : List (Laid T)) × LayIn k c n laid × MovesTo k (sender_claims w p r c n) hand homes (taken_by_claim k c laid ++ hand) × LayAsLent k r c laid
+      → (laid : List (Laid T)) × LayIn k c n laid × MovesTo k (sender_claims w p r c n) hand homes (taken_by_claim k c laid ++ hand) × LayAsLent r c laid
   claim_moves k w p c n r hand homes at room found K lies =
       let small = K.shape.small in let fits = room.limit in let low : c < halt_bit = omega arith in
       let now : c ≡ length w.stages = sym (claimed_low c low) ∙ ap claimed_in (sym found) ∙ K.claim in
       let seen : Room k w.words (c + n) = λ f final. (let i = final_inside k.upstreams f final in let a = room.completed f final in
       let b = last_look_le (mark_start k) w.words 0 r.looks (count_word f) (omega arith) (K.sent p r at).looks in omega arith) in
-      let some_one = K.shape.graph.some in let ahead = ahead_of_all k w (c + n) K seen 0 some_one in
+      let some_one = K.shape.graph.some in let size = ap (λ (p : Shape T). p.size) (K.sent p r at).plan in let ahead = ahead_of_all k w (c + n) K seen 0 some_one in
       let out = λ (s : ℕ) (lt : s < word_at w.words (count_word 0)). completed_out k w 0 s some_one lt K in
       let fit : n ≤ k.size = elim (cases_lt (length w.stages) (word_at w.words (count_word 0))) [
         | inl over ↦ absurd (let x = out (length w.stages) over in let b = at_below w.stages (length w.stages) x.1.0 x.1.1 in omega arith)
@@ -107,27 +107,27 @@ module _ {T : Type 0} where
   pub poll_moves : (k : Shape T) (w : World T) (h n : ℕ) (r r' : ReceiverRecord T)
       (lents : List (Lent T)) (hand : Hand T) (homes : List (maybe.Option (Token T)))
       → get_elem? w.receivers h ≡ some r → AreNext w r n lents → r'.completed ≡ r.completed → r'.received ≡ r.received ++ lents → KeepsRule k w → Lies k w homes
-      → MovesTo k (receiver_knows w h r') hand homes (taken_by_poll k r lents ++ hand)
+      → MovesTo k (receiver_knows w h r') hand homes (taken_by_poll r lents ++ hand)
   poll_moves k w h n r r' lents hand homes at N done took K lies =
       let was = K.received h r at in
       let t = receiver_takes k K.shape.some_slot w.receivers w.stages h lents r r' homes lies (counts_of k w h r at K) at N.each done
       (ap length took ∙ length-append r.received lents) in
-      let xs = λ (g : ℕ). stretch (placed k (suc g)) (length r.received) (lent_all lents) in
-      subst (λ (g : ℕ). MovesTo k (receiver_knows w h r') hand homes (xs g ++ hand)) (sym was.number)
-      (takes_moves k (receiver_knows w h r') hand (xs h) homes t.0 t.1 t.2)
+      let xs = λ (p : Shape T) (g : ℕ). stretch (placed p (suc g)) (length r.received) (lent_all lents) in
+      subst (λ (y : Shape T × ℕ). MovesTo k (receiver_knows w h r') hand homes (xs y.0 y.1 ++ hand)) (λ i. (sym was.plan i, sym was.number i))
+      (takes_moves k (receiver_knows w h r') hand (xs k h) homes t.0 t.1 t.2)
 
   -- a completion gives them back
   pub completion_moves : (k : Shape T) (w : World T) (h n : ℕ) (r : ReceiverRecord T) (rest : Hand T) (homes : List (maybe.Option (Token T)))
       → get_elem? w.receivers h ≡ some r
       → r.completed ≤ n → n ≤ length r.received → KeepsRule k w → Lies k w homes
       → MovesTo k (record w { words = set w.words (count_word h) n; receivers = set w.receivers h (completed_to r n) })
-      (given_by_completion k r n ++ rest) homes rest
+      (given_by_completion r n ++ rest) homes rest
   completion_moves k w h n r rest homes at rise le K lies =
       let s = r.completed in let done = take (n - s) (drop s r.received) in let was = K.received h r at in
       let count : length done ≡ n - s = omega (arith, length-take (n - s) (drop s r.received), length-drop s r.received) in
       let u : World T = record w { words = set w.words (count_word h) n; receivers = set w.receivers h (completed_to r n) } in
-      let xs = λ (g : ℕ). stretch (placed k (suc g)) s (lent_all done) in
-      subst (λ (g : ℕ). MovesTo k u (xs g ++ rest) homes rest) (sym was.number)
-      (gives_moves k u rest (xs h) homes
+      let xs = λ (p : Shape T) (g : ℕ). stretch (placed p (suc g)) s (lent_all done) in
+      subst (λ (y : Shape T × ℕ). MovesTo k u (xs y.0 y.1 ++ rest) homes rest) (λ i. (sym was.plan i, sym was.number i))
+      (gives_moves k u rest (xs k h) homes
       (receiver_gives k K.shape.some_slot w.receivers w.stages h done r (completed_to r n) homes lies (counts_of k w h r at K) (taken_claimed k w h r at K) at
       (handler_inside k w h r at K) (λ i l at_i. was.beginning (s + i) l (slice_at r.received s (n - s) i l at_i).1) refl (omega arith) le))

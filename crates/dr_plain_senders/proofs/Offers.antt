@@ -11,7 +11,7 @@ use Rattle.dr_plain_senders.specs.Meaning.Shape.{Shape}
 use Rattle.dr_plain_senders.specs.Meaning.Words.{count_word}
 use Rattle.dr_runs.specs.declared.look.Look.{Look}
 use Rattle.dr_plain_senders.specs.declared.record.ReceiverRecord.{ReceiverRecord}
-use Rattle.dr_plain_senders.specs.Meaning.Records.{barrier_seen, taken_at_count, receiver_looked}
+use Rattle.dr_plain_senders.specs.Meaning.Records.{barrier_seen, taken_at, receiver_looked}
 use Rattle.dr_runs.specs.Looks.{look, offered_by, lesser_of}
 use Rattle.dr_plain_senders.specs.Calls.Ends.{count_looks}
 use Rattle.dr_plain_senders.specs.Calls.Finds.{FindsEvents}
@@ -34,8 +34,8 @@ barrier_is k h claimed looks counts rising e some =
     ap (λ (ns : List ℕ). offered_by 0 ns) (seen_counts count_word own_word looks us counts rising e) ∙ offered_same 0 claimed counts (omega arith)
 
 module _ {T : Type 0} where
-  pub first_none : (k : Shape T) (r : ReceiverRecord T) (claimed : ℕ) → LooksAtFirst k r claimed 0 r claimed
-  first_none k r claimed = record {
+  pub first_none : (r : ReceiverRecord T) (claimed : ℕ) → LooksAtFirst r claimed 0 r claimed
+  first_none r claimed = record {
     counts = [];
     each = refl;
     is = ap (λ (ys : List Look). record r { looks = ys }) (sym (append-nil r.looks));
@@ -45,15 +45,15 @@ module _ {T : Type 0} where
     told = λ told lt. absurd (omega arith);
   }
 
-  pub first_more : (k : Shape T) (r s s' : ReceiverRecord T) (claimed least least' i u v : ℕ) → LooksAtFirst k r claimed i s least → i < length (ups_of k r)
-      → get_or (ups_of k r) i 0 ≡ u → s' ≡ receiver_saw s (look (count_word u) v ∷ []) → FindsEvents k s (count_word u) v
-      → least' ≡ lesser_of (i == 0) v least → LooksAtFirst k r claimed (i + 1) s' least'
-  first_more k r s s' claimed least least' i u v L lt at is finds new =
-      let ups = ups_of k r in let xs = count_looks (take i ups) L.counts in let len = L.each in
+  pub first_more : (r s s' : ReceiverRecord T) (claimed least least' i u v : ℕ) → LooksAtFirst r claimed i s least → i < length (ups_of r)
+      → get_or (ups_of r) i 0 ≡ u → s' ≡ receiver_saw s (look (count_word u) v ∷ []) → FindsEvents s (count_word u) v
+      → least' ≡ lesser_of (i == 0) v least → LooksAtFirst r claimed (i + 1) s' least'
+  first_more r s s' claimed least least' i u v L lt at is finds new =
+      let ups = ups_of r in let xs = count_looks (take i ups) L.counts in let len = L.each in
       let next : count_looks (take (i + 1) ups) (L.counts ++ v ∷ []) ≡ xs ++ look (count_word u) v ∷ [] =
       looks_more count_word ups L.counts i v L.each lt ∙ ap (λ (w : ℕ). xs ++ look (count_word w) v ∷ []) at in
       let offer = offers_more claimed v least least' L.counts (i == 0) (ap (λ (m : ℕ). m == 0) (sym len)) L.offered new in
-      let near : IsNear k r v = subst (λ (q : ReceiverRecord T). IsNear k q v) L.is (finds.1, finds.3) in
+      let near : IsNear r v = subst (λ (q : ReceiverRecord T). IsNear q v) L.is (finds.1, finds.3) in
       let told : r.told ≡ true → v ≤ length r.received = subst (λ (q : ReceiverRecord T). q.told ≡ true → v ≤ length q.received) L.is finds.2 in record {
         counts = L.counts ++ v ∷ [];
         each = omega (arith, length-append L.counts (v ∷ []));
@@ -61,8 +61,8 @@ module _ {T : Type 0} where
             ∙ ap (λ (ys : List Look). record r { looks = ys }) (append_assoc r.looks xs (look (count_word u) v ∷ [])) ∙ ap (receiver_saw r) (sym next);
         offered = offer.0;
         near = λ _. elim offer.3 [
-          | inl this ↦ subst (IsNear k r) (sym this) near
-          | inr old ↦ subst (IsNear k r) (sym old.1) (L.near (let z = old.0 in omega arith))
+          | inl this ↦ subst (IsNear r) (sym this) near
+          | inr old ↦ subst (IsNear r) (sym old.1) (L.near (let z = old.0 in omega arith))
         ];
         found = λ _. elim offer.3 [
           | inl this ↦ subst (λ (m : ℕ). Contains (L.counts ++ v ∷ []) m) (sym this) (contains_last L.counts v)
@@ -72,26 +72,26 @@ module _ {T : Type 0} where
       }
 
   -- at the last upstream it takes
-  pub round_last : (k : Shape T) (r s s' : ReceiverRecord T) (room claimed least available i u v : ℕ) (hand hand' : Hand T) (lents : List (Lent T))
-      → IsStrictlyIncreasing (ups_of k r)
-      → LooksAtFirst k r claimed i s least → i + 1 ≡ length (ups_of k r) → get_or (ups_of k r) i 0 ≡ u
-      → length lents ≡ taken_at_count k s (count_word u) v room → s' ≡ receiver_looked s (count_word u) v lents → hand' ≡ taken_by_poll k s lents ++ hand
-      → FindsEvents k s (count_word u) v → available ≡ lesser_of (i == 0) v least → LooksPast k r claimed room available hand s' hand'
-  round_last k r s s' room claimed least available i u v hand hand' lents rising L last at many is in_hand finds new =
-      let ups = ups_of k r in let x = receiver_saw s (look (count_word u) v ∷ []) in
-      let A = first_more k r s x claimed least available i u v L (omega arith) at refl finds new in
+  pub round_last : (r s s' : ReceiverRecord T) (room claimed least available i u v : ℕ) (hand hand' : Hand T) (lents : List (Lent T))
+      → IsStrictlyIncreasing (ups_of r)
+      → LooksAtFirst r claimed i s least → i + 1 ≡ length (ups_of r) → get_or (ups_of r) i 0 ≡ u
+      → length lents ≡ taken_at s (count_word u) v room → s' ≡ receiver_looked s (count_word u) v lents → hand' ≡ taken_by_poll s lents ++ hand
+      → FindsEvents s (count_word u) v → available ≡ lesser_of (i == 0) v least → LooksPast r claimed room available hand s' hand'
+  round_last r s s' room claimed least available i u v hand hand' lents rising L last at many is in_hand finds new =
+      let ups = ups_of r in let x = receiver_saw s (look (count_word u) v ∷ []) in
+      let A = first_more r s x claimed least available i u v L (omega arith) at refl finds new in
       let each : length A.counts ≡ length ups = A.each ∙ last in
       let whole : take (i + 1) ups ≡ ups = take_whole ups (i + 1) (omega arith) in
       let now : x ≡ receiver_saw r (count_looks ups A.counts) = A.is ∙ ap (λ (us : List ℕ). receiver_saw r (count_looks us A.counts)) whole in
-      let offer : barrier_seen k r.number (r.looks ++ count_looks ups A.counts) ≡ available =
-      barrier_is k r.number claimed r.looks A.counts rising each (omega arith) ∙ sym A.offered in record {
+      let offer : barrier_seen r.plan r.number (r.looks ++ count_looks ups A.counts) ≡ available =
+      barrier_is r.plan r.number claimed r.looks A.counts rising each (omega arith) ∙ sym A.offered in record {
         counts = A.counts;
         each = each;
         lents = lents;
-        many = many ∙ ap (λ (y : ReceiverRecord T). min room (barrier_seen k y.number y.looks - length y.received)) now
+        many = many ∙ ap (λ (y : ReceiverRecord T). min room (barrier_seen y.plan y.number y.looks - length y.received)) now
             ∙ ap (λ (n : ℕ). min room (n - length r.received)) offer;
         is = is ∙ ap (λ (y : ReceiverRecord T). record y { received = y.received ++ lents }) now;
-        in_hand = in_hand ∙ ap (λ (y : ReceiverRecord T). taken_by_poll k y lents ++ hand) L.is;
+        in_hand = in_hand ∙ ap (λ (y : ReceiverRecord T). taken_by_poll y lents ++ hand) L.is;
         offered = A.offered;
         near = A.near (omega arith);
         found = A.found (omega arith);

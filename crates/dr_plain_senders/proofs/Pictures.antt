@@ -34,7 +34,7 @@ use Rattle.dr_plain_senders.specs.declared.record.Step.TheVariants.{SenderLooksA
 use Rattle.dr_plain_senders.specs.declared.record.Step.TheVariants.{ReceiverLooksAtClaims, ReceiverLooksAtMark, ReceiverLooksAtCount}
 use Rattle.dr_plain_senders.specs.declared.record.Step.TheVariants.{ReceiverCompletes, HalterHalts, HalterLooks}
 use Rattle.dr_plain_senders.specs.Meaning.Records.{fresh_stage, published, is_published, sender_looked, receiver_looked, tells_drained, claims_looked}
-use Rattle.dr_plain_senders.specs.Meaning.Records.{taken_at_mark, taken_at_count, mark_looked, completed_to, SeesRoom}
+use Rattle.dr_plain_senders.specs.Meaning.Records.{taken_at_mark, taken_at, mark_looked, completed_to, SeesRoom}
 use Rattle.dr_plain_senders.specs.Meaning.Rule.{World, IsOut, has_mark, KeepsRule}
 use Rattle.dr_plain_senders.specs.Meaning.Steps.{Happens, PublishesOne, PublishesAll, sender_knows, sender_claims, sender_publishes, receiver_knows}
 use Rattle.dr_plain_senders.specs.Meaning.Steps.{halted_words}
@@ -102,15 +102,15 @@ module _ {T : Type 0} where
       → map taken_of (set w.receivers h q) ≡ takens w
   same_taken w h r q at same = map-set_same taken_of w.receivers h q r (same ∙ ap taken_of (sym (value_at w.receivers h r r at)))
 
-  pub taken_at : (w : World T) (h : ℕ) (r : ReceiverRecord T) → get_elem? w.receivers h ≡ some r → get_or (takens w) h 0 ≡ length r.received
-  taken_at w h r at = get_or-map taken_of w.receivers h r 0 (at_below w.receivers h r at) ∙ ap taken_of (value_at w.receivers h r r at)
+  pub taken_is : (w : World T) (h : ℕ) (r : ReceiverRecord T) → get_elem? w.receivers h ≡ some r → get_or (takens w) h 0 ≡ length r.received
+  taken_is w h r at = get_or-map taken_of w.receivers h r 0 (at_below w.receivers h r at) ∙ ap taken_of (value_at w.receivers h r r at)
 
   same_picture : (k : Shape T) (w : World T) (h : ℕ) (r q : ReceiverRecord T) → get_elem? w.receivers h ≡ some r → taken_of q ≡ taken_of r
       → picture_of k w ≡ picture_of k (receiver_knows w h q)
   same_picture k w h r q at same = ap (λ (t : List ℕ). shown k w.stages t (counts_of k w.words) (halted w.words)) (sym (same_taken w h r q at same))
 
-  pub is_receiver : (w : World T) (h : ℕ) (r : ReceiverRecord T) → get_elem? w.receivers h ≡ some r → receiver_at w h ≡ r
-  is_receiver w h r at = value_at w.receivers h r (fresh_receiver 0) at
+  pub is_receiver : (k : Shape T) (w : World T) (h : ℕ) (r : ReceiverRecord T) → get_elem? w.receivers h ≡ some r → receiver_at k w h ≡ r
+  is_receiver k w h r at = value_at w.receivers h r (fresh_receiver k h) at
 
   sender_inside : (k : Shape T) (w : World T) (p : ℕ) (r : SenderRecord T) → get_elem? w.senders p ≡ some r → KeepsRule k w → p < k.senders
   sender_inside k w p r at K = let b = at_below w.senders p r at in let e = K.inlets in omega arith
@@ -233,7 +233,7 @@ module _ {T : Type 0} where
       elim (cases_Bool (tells_drained r n)) [
         | inl told ↦ subst P (sym told) (
             let truth = tells_truth k w r told K in
-            let all : get_or m.taken h 0 ≡ machine.next m = taken_at w h r at ∙ sym truth.1 ∙ sym count in
+            let all : get_or m.taken h 0 ≡ machine.next m = taken_is w h r at ∙ sym truth.1 ∙ sym count in
             leads_one k (Poll h 1) Drained [] m m (drained_step (ring_setup k) m h inside refl truth.0 (omega arith) all))
         | inr quiet ↦ subst P (sym quiet) refl
       ]
@@ -317,7 +317,7 @@ module _ {T : Type 0} where
             subst (λ (j : ℕ). Leads k (poll_of h a (events_from w.stages a j) to) m (picture_of k (receiver_knows w h q))) (sym z)
             (same_picture k w h r q at same))
         | inl some_one ↦ (
-            let are = next_events w.stages a n O.out in let is : get_or ts h 0 ≡ a = taken_at w h r at in
+            let are = next_events w.stages a n O.out in let is : get_or ts h 0 ≡ a = taken_is w h r at in
             let offer : a + n ≤ to = offered_next k w h n r at some_one O K in
             let values : filter_map m.written (range_with_len (get_or ts h 0) n) ≡ es = ap (λ (x : ℕ). filter_map m.written (range_with_len x n)) is ∙ are.1 in
             let step = take_step (ring_setup k) m h n es inside refl some_one (omega arith) values in
@@ -340,7 +340,7 @@ module _ {T : Type 0} where
   lead_complete k w h n r at rise le K =
       let was = K.received h r at in let inside = handler_inside k w h r at K in let wide = K.wide in let us = set w.words (count_word h) n in
       let m = picture_of k w in
-      let c = count_at k w.words h inside in let d = was.count in let is = taken_at w h r at in
+      let c = count_at k w.words h inside in let d = was.count in let is = taken_is w h r at in
       let counts : counts_of k us ≡ set (counts_of k w.words) h n = count_set k w.words h n inside (omega arith) in
       let still : halted us ≡ halted w.words =
       ap is_halted (get_or-set_other w.words (count_word h) claim_word n 0 (λ (e : claim_word ≡ count_word h). omega arith)) in
@@ -377,22 +377,22 @@ module _ {T : Type 0} where
   lead_step k (SenderHalts p) w u H K = subst (λ (x : World T). Leads k (entry Halt Halting []) (picture_of k w) (picture_of k x)) (sym H.2) (lead_halt k w K)
   lead_step k (ReceiverLooksAtClaims h) w u H K =
       let n = word_at w.words claim_word in
-      subst (λ (r : ReceiverRecord T). Leads k (drained_of h (tells_drained r n)) (picture_of k w) (picture_of k u)) (sym (is_receiver w h H.0 H.1))
+      subst (λ (r : ReceiverRecord T). Leads k (drained_of h (tells_drained r n)) (picture_of k w) (picture_of k u)) (sym (is_receiver k w h H.0 H.1))
       (subst (λ (x : State T). Leads k (drained_of h (tells_drained H.0 n)) (picture_of k w) x) (same_picture k w h H.0 (claims_looked H.0 n) H.1 refl
       ∙ ap (picture_of k) (sym H.2)) (lead_claims_look k w h H.0 H.1 K))
   lead_step k (ReceiverLooksAtMark h room) w u H K =
       let mark : ReceiverRecord T → ℕ = λ r. word_at w.words (mark_word k (length r.received)) in
-      let n = taken_at_mark k H.0 (mark H.0) room in let lents = H.2.1 in let q = mark_looked H.0 (mark H.0) lents in let m = picture_of k w in
-      subst (λ (r : ReceiverRecord T). Leads k (batch_of k w h r (taken_at_mark k r (mark r) room)) m (picture_of k u)) (sym (is_receiver w h H.0 H.1))
+      let n = taken_at_mark H.0 (mark H.0) room in let lents = H.2.1 in let q = mark_looked H.0 (mark H.0) lents in let m = picture_of k w in
+      subst (λ (r : ReceiverRecord T). Leads k (batch_of k w h r (taken_at_mark r (mark r) room)) m (picture_of k u)) (sym (is_receiver k w h H.0 H.1))
       (subst (λ (x : World T). Leads k (batch_of k w h H.0 n) m (picture_of k x)) (sym H.2.3)
       (lead_batch k w h n H.0 q H.1 (offers_at_mark k w h room H.0 H.1 H.2.0 K)
       (let c = H.2.2.count in let l = length-append H.0.received lents in omega arith) K))
   lead_step k (ReceiverLooksAtCount h c room) w u H K =
-      let found = word_at w.words (count_word c) in let n = taken_at_count k H.0 (count_word c) found room in let lents = H.2.1 in
+      let found = word_at w.words (count_word c) in let n = taken_at H.0 (count_word c) found room in let lents = H.2.1 in
       let q = receiver_looked H.0 (count_word c) found lents in let m = picture_of k w in
       let inside = upstream_inside k K.shape.graph h c (handler_inside k w h H.0 H.1 K) H.2.0 in
-      subst (λ (r : ReceiverRecord T). Leads k (batch_of k w h r (taken_at_count k r (count_word c) found room)) m (picture_of k u))
-      (sym (is_receiver w h H.0 H.1))
+      subst (λ (r : ReceiverRecord T). Leads k (batch_of k w h r (taken_at r (count_word c) found room)) m (picture_of k u))
+      (sym (is_receiver k w h H.0 H.1))
       (subst (λ (x : World T). Leads k (batch_of k w h H.0 n) m (picture_of k x)) (sym H.2.3)
       (lead_batch k w h n H.0 q H.1 (offers_at_count k w h (count_word c) room H.0 (omega arith) H.1 K)
       (let c = H.2.2.count in let l = length-append H.0.received lents in omega arith) K))

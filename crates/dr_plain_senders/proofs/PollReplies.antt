@@ -27,7 +27,7 @@ use Rattle.dr_plain_senders.specs.Meaning.Moments.{picture_of}
 use Rattle.dr_plain_senders.specs.Calls.Receiving.{tests_of_poll, tests_of_completion}
 use Rattle.dr_plain_senders.specs.Calls.Replies.{Replies, OffersNothing, DecidesPoll}
 use Rattle.dr_plain_senders.proofs.Facts.{handler_inside}
-use Rattle.dr_plain_senders.proofs.Pictures.{count_at, taken_at, offer_claimed, unmarked_offers, behind_offers}
+use Rattle.dr_plain_senders.proofs.Pictures.{count_at, taken_is, offer_claimed, unmarked_offers, behind_offers}
 
 module _ {T : Type 0} (k : Shape T) (w : World T) (K : KeepsRule k w) where
   abbrev m : State T
@@ -52,7 +52,7 @@ module _ {T : Type 0} (k : Shape T) (w : World T) (K : KeepsRule k w) where
             ap (λ (n : ℕ). Exactly (nat_lt upto n)) (sym done),
             refl,
             λ d. (
-              ap (λ (n : ℕ). Exactly (nat_lt n upto)) (length-map r.received (λ (l : Lent T). l.event) ∙ sym (taken_at w h r at)),
+              ap (λ (n : ℕ). Exactly (nat_lt n upto)) (length-map r.received (λ (l : Lent T). l.event) ∙ sym (taken_is w h r at)),
               refl,
               λ e. tt,
             ),
@@ -73,26 +73,28 @@ module _ {T : Type 0} (k : Shape T) (w : World T) (K : KeepsRule k w) where
 
   nothing_offered : (h : ℕ) (r : ReceiverRecord T) → get_elem? w.receivers h ≡ some r → OffersNothing k w r → available (ring_setup k) m h ≤ length r.received
   nothing_offered h r at (inl x) =
-      unmarked_offers k w h r at (subst (λ (n : ℕ). upstreams_of k.upstreams n ≡ []) (K.received h r at).number x.0) K x.1
+      let was = K.received h r at in
+      unmarked_offers k w h r at (subst (λ (e : Shape T × ℕ). upstreams_of e.0.upstreams e.1 ≡ []) (λ i. (was.plan i, was.number i)) x.0) K x.1
   nothing_offered h r at (inr x) =
-      behind_offers k w h x.0 r at (subst (λ (n : ℕ). Contains (upstreams_of k.upstreams n) x.0) (K.received h r at).number x.1) K
+      let was = K.received h r at in
+      behind_offers k w h x.0 r at (subst (λ (e : Shape T × ℕ). Contains (upstreams_of e.0.upstreams e.1) x.0) (λ i. (was.plan i, was.number i)) x.1) K
       (let same = x.2 in omega arith)
 
   nothing_taken : (h room : ℕ) (r : ReceiverRecord T) (polled : Polled) → get_elem? w.receivers h ≡ some r → DecidesPoll k w r (Ok polled)
       → (accepted (ring_setup k) m (Poll h room)).reply ≡ poll_reply (Ok polled)
   nothing_taken h room r (Batch first count last) at D = absurd D.0
   nothing_taken h room r Drained at D =
-      let taken = taken_at w h r at in
+      let taken = taken_is w h r at in
       let all = owned in
       let claim = K.claim in
       let same = D.0.1 in
       let offer = offer_claimed k w h (handler_inside k w h r at K) K in
       drained_reply (ring_setup k) m h room (omega arith) D.0.0 (omega arith)
   nothing_taken h room r Gating at D =
-      let taken = taken_at w h r at in let all = owned in let claim = K.claim in let more = D.0 in let none = nothing_offered h r at (D.1 refl) in
+      let taken = taken_is w h r at in let all = owned in let claim = K.claim in let more = D.0 in let none = nothing_offered h r at (D.1 refl) in
       gating_reply (ring_setup k) m h room (omega arith) (rw (ne_eqb (get_or m.taken h 0) (next m) (λ e. omega arith)) (and-false m.halted)) (omega arith)
   nothing_taken h room r Idle at D =
-      let taken = taken_at w h r at in
+      let taken = taken_is w h r at in
       let all = owned in
       let claim = K.claim in
       let same = D.0.1 in

@@ -76,13 +76,13 @@ module _ {T : Type 0} where
 
 -- The sender has published its open sequence s, whose cell is then not with it.
 module _ {T : Type 0} (k : Shape T) (e : SenderStand T) (o o' : Owned) (end s : ℕ) (tokens tokens' : List (Token T)) (F : SenderFits e o end tokens)
-    (plan : e.plan ≡ k) (opened : is_open o s ≡ true)
-    (put : tokens' ≡ set tokens (cell_of e.plan s) no_token)
+    (plan : e.knows.plan ≡ k) (opened : is_open o s ≡ true)
+    (put : tokens' ≡ set tokens (cell_of e.knows.plan s) no_token)
     (marks : o' ≡ record o { published = set o.published (s % length o.published) (entry_of (length o.published) s) }) where
   mine : is_marked o.claimed s ≡ true
   mine = first_of (is_marked o.claimed s) (not (is_marked o.published s)) opened
 
-  size : 0 < e.plan.size
+  size : 0 < e.knows.plan.size
   size = let own = F.marks.own s mine in let lt = F.below s own.0 own.1 in let near = F.near s opened in omega arith
 
   abbrev noted : Owned
@@ -102,28 +102,28 @@ module _ {T : Type 0} (k : Shape T) (e : SenderStand T) (o o' : Owned) (end s : 
     | inr unmarked ↦ ap (λ (b : Bool). b && not (is_marked noted.published z)) unmarked ∙ sym (ap (λ (b : Bool). b && not (is_marked o.published z)) unmarked)
   ]
 
-  cells_are : cells_of tokens' ≡ set (cells_of tokens) (cell_of e.plan s) None
-  cells_are = let f : Token T → Option T = λ x. held x.hold in ap cells_of put ∙ map-set f tokens (cell_of e.plan s) no_token
+  cells_are : cells_of tokens' ≡ set (cells_of tokens) (cell_of e.knows.plan s) None
+  cells_are = let f : Token T → Option T = λ x. held x.hold in ap cells_of put ∙ map-set f tokens (cell_of e.knows.plan s) no_token
 
   lies_beside : (q : ℕ) → is_marked o.claimed q ≡ true → q ≢ s
-      → get_or (cells_of tokens') (cell_of e.plan q) None ≡ get_or (cells_of tokens) (cell_of e.plan q) None
+      → get_or (cells_of tokens') (cell_of e.knows.plan q) None ≡ get_or (cells_of tokens) (cell_of e.knows.plan q) None
   lies_beside q marked ne =
-      let apart : cell_of e.plan q ≢ cell_of e.plan s = subst (λ (n : ℕ). q % n ≢ s % n) F.marks.claims (marked_apart o.claimed q s marked mine ne) in
-      ap (λ (xs : List (Option T)). get_or xs (cell_of e.plan q) None) cells_are
-      ∙ get_or-set_other (cells_of tokens) (cell_of e.plan s) (cell_of e.plan q) None None apart
+      let apart : cell_of e.knows.plan q ≢ cell_of e.knows.plan s = subst (λ (n : ℕ). q % n ≢ s % n) F.marks.claims (marked_apart o.claimed q s marked mine ne) in
+      ap (λ (xs : List (Option T)). get_or xs (cell_of e.knows.plan q) None) cells_are
+      ∙ get_or-set_other (cells_of tokens) (cell_of e.knows.plan s) (cell_of e.knows.plan q) None None apart
 
-  each_left : (q : ℕ) → written_in e.plan noted tokens' q ≡ (if q == s then None else written_in e.plan o tokens q)
+  each_left : (q : ℕ) → written_in e.knows.plan noted tokens' q ≡ (if q == s then None else written_in e.knows.plan o tokens q)
   each_left q = let none : Option T = None in elim (cases_eq q s) [
-    | inl same ↦ unready (is_open noted q) (is_marked o.written q) (get_or (cells_of tokens') (cell_of e.plan q) None)
+    | inl same ↦ unready (is_open noted q) (is_marked o.written q) (get_or (cells_of tokens') (cell_of e.knows.plan q) None)
         (inl (ap (is_open noted) same ∙ closed_here))
-        ∙ sym (ap (λ (b : Bool). if b then none else written_in e.plan o tokens q) (eq-eqb q s same))
+        ∙ sym (ap (λ (b : Bool). if b then none else written_in e.knows.plan o tokens q) (eq-eqb q s same))
     | inr ne ↦ elim (cases_Bool (is_marked o.claimed q)) [
       | inl marked ↦ (λ i. if open_beside q ne i && is_marked o.written q then lies_beside q marked ne i else None)
       | inr unmarked ↦ (let closed : is_open o q ≡ false = ap (λ (b : Bool). b && not (is_marked o.published q)) unmarked in
-          unready (is_open noted q) (is_marked o.written q) (get_or (cells_of tokens') (cell_of e.plan q) None) (inl (open_beside q ne ∙ closed))
-          ∙ sym (unready (is_open o q) (is_marked o.written q) (get_or (cells_of tokens) (cell_of e.plan q) None) (inl closed)))
+          unready (is_open noted q) (is_marked o.written q) (get_or (cells_of tokens') (cell_of e.knows.plan q) None) (inl (open_beside q ne ∙ closed))
+          ∙ sym (unready (is_open o q) (is_marked o.written q) (get_or (cells_of tokens) (cell_of e.knows.plan q) None) (inl closed)))
     ]
-        ∙ sym (ap (λ (b : Bool). if b then none else written_in e.plan o tokens q) (ne_eqb q s ne))
+        ∙ sym (ap (λ (b : Bool). if b then none else written_in e.knows.plan o tokens q) (ne_eqb q s ne))
   ]
 
   pub one_left : (q : ℕ) → written_in k o' tokens' q ≡ (if q == s then None else written_in k o tokens q)
@@ -134,22 +134,22 @@ module _ {T : Type 0} (k : Shape T) (e : SenderStand T) (o o' : Owned) (end s : 
 
   pub cell_left : (i : ℕ) → i ≢ cell_of k s → get_elem? (cells_of tokens') i ≡ get_elem? (cells_of tokens) i
   cell_left i ne = ap (λ (xs : List (Option T)). get_elem? xs i) cells_are
-      ∙ set_else (cells_of tokens) (cell_of e.plan s) i None (subst (λ (p : Shape T). i ≢ cell_of p s) (sym plan) ne)
+      ∙ set_else (cells_of tokens) (cell_of e.knows.plan s) i None (subst (λ (p : Shape T). i ≢ cell_of p s) (sym plan) ne)
 
   pub cell_lost : get_elem? (cells_of tokens') (cell_of k s) ≡ some None
   cell_lost =
       let f : Token T → Option T = λ x. held x.hold in let many : length (cells_of tokens) ≡ length tokens = length-map tokens f in
       let count = F.count in let within = mod-lt s size in
-      ap (λ (p : Shape T). get_elem? (cells_of tokens') (cell_of p s)) (sym plan) ∙ ap (λ (xs : List (Option T)). get_elem? xs (cell_of e.plan s)) cells_are
-      ∙ set_here (cells_of tokens) (cell_of e.plan s) None (omega arith)
+      ap (λ (p : Shape T). get_elem? (cells_of tokens') (cell_of p s)) (sym plan) ∙ ap (λ (xs : List (Option T)). get_elem? xs (cell_of e.knows.plan s)) cells_are
+      ∙ set_here (cells_of tokens) (cell_of e.knows.plan s) None (omega arith)
 
   -- what was written of it, once it was written, is what lay in its cell
-  pub written_there : (t : Token T) (event : T) → is_marked o.written s ≡ true → get_elem? tokens (cell_of e.plan s) ≡ some t → held t.hold ≡ Some event
+  pub written_there : (t : Token T) (event : T) → is_marked o.written s ≡ true → get_elem? tokens (cell_of e.knows.plan s) ≡ some t → held t.hold ≡ Some event
       → written_in k o tokens s ≡ Some event
   written_there t event done at is =
       let f : Token T → Option T = λ x. held x.hold in
       ap (λ (p : Shape T). written_in p o tokens s) (sym plan)
-      ∙ (λ i. if opened i && done i then value_at (cells_of tokens) (cell_of e.plan s) (f t) None (map_there f tokens (cell_of e.plan s) t at) i else None) ∙ is
+      ∙ (λ i. if opened i && done i then value_at (cells_of tokens) (cell_of e.knows.plan s) (f t) None (map_there f tokens (cell_of e.knows.plan s) t at) i else None) ∙ is
 
 -- The loop.
 module _ {T : Type 0} (k : Shape T) (r : SenderRecord T) (o : Owned) (tokens : List (Token T)) (lo : ℕ) where
@@ -167,7 +167,7 @@ module _ {T : Type 0} (k : Shape T) (r : SenderRecord T) (o : Owned) (tokens : L
       none_between q = elim (cases_lt q lo) [ inl lt ↦ below lo lo q lt | inr ge ↦ above lo lo q ge ]
 
   module _ (s end : ℕ) (a : SenderStand T) (b : Owned) (ts : List (Token T)) (ls : List (Lent T))
-      (plan : a.plan ≡ k) (P : ArePublic k r o tokens lo s ls a.knows b ts) (F : SenderFits a b end ts)
+      (plan : a.knows.plan ≡ k) (P : ArePublic k r o tokens lo s ls a.knows b ts) (F : SenderFits a b end ts)
       (low : lo ≤ s) (can : is_ready o s ≡ true) where
     ready_now : is_ready b s ≡ true
     ready_now = P.ready s (omega arith) ∙ can
@@ -176,9 +176,9 @@ module _ {T : Type 0} (k : Shape T) (r : SenderRecord T) (o : Owned) (tokens : L
     open_now = first_of (is_open b s) (is_marked b.written s) ready_now
 
     pub public_next : (r' : SenderRecord T) (o' : Owned) (ts' : List (Token T)) (l : Lent T) (t : Token T)
-        → get_elem? ts (cell_of a.plan s) ≡ some t → held t.hold ≡ Some l.event
+        → get_elem? ts (cell_of a.knows.plan s) ≡ some t → held t.hold ≡ Some l.event
         → r' ≡ has_published a.knows s (l ∷ [])
-        → ts' ≡ set ts (cell_of a.plan s) no_token → o' ≡ record b { published = set b.published (s % length b.published) (entry_of (length b.published) s) }
+        → ts' ≡ set ts (cell_of a.knows.plan s) no_token → o' ≡ record b { published = set b.published (s % length b.published) (entry_of (length b.published) s) }
         → ArePublic k r o tokens lo (s + 1) (ls ++ l ∷ []) r' o' ts'
     public_next r' o' ts' l t at is knows put marks =
         let left = one_left k a b o' end s ts ts' F plan open_now put marks in record {
@@ -306,8 +306,8 @@ module _ {T : Type 0} where
   -- what is written once all are published
   pub all_left : (e : SenderStand T) (o : Owned) (tokens : List (Token T)) (lo upto : ℕ)
       (ls : List (Lent T)) (e' : SenderStand T) (o' : Owned) (ts' : List (Token T))
-      → e'.plan ≡ e.plan → ArePublic e.plan e.knows o tokens lo upto ls e'.knows o' ts'
-      → writes_of e'.plan o' ts' e'.knows.own ≡ written_where (is_between lo upto) None e.knows.own (writes_of e.plan o tokens e.knows.own)
+      → e'.knows.plan ≡ e.knows.plan → ArePublic e.knows.plan e.knows o tokens lo upto ls e'.knows o' ts'
+      → writes_of e'.knows.plan o' ts' e'.knows.own ≡ written_where (is_between lo upto) None e.knows.own (writes_of e.knows.plan o tokens e.knows.own)
   all_left e o tokens lo upto ls e' o' ts' plan P =
-      (λ i. writes_of (plan i) o' ts' (P.knows i).own) ∙ all_after (written_in e.plan o' ts') lo ls e.knows.own
-      ∙ writes_where (is_between lo upto) (written_in e.plan o' ts') (written_in e.plan o tokens) P.writes e.knows.own
+      (λ i. writes_of (plan i) o' ts' (P.knows i).own) ∙ all_after (written_in e.knows.plan o' ts') lo ls e.knows.own
+      ∙ writes_where (is_between lo upto) (written_in e.knows.plan o' ts') (written_in e.knows.plan o tokens) P.writes e.knows.own

@@ -23,7 +23,8 @@ use Rattle.dr_lent.specs.Rows.{cells_of}
 use Rattle.dr_plain_senders.specs.Meaning.Shape.{Shape}
 use Rattle.dr_plain_senders.specs.Meaning.Words.{claimed_in, cell_of, is_out_by}
 use Rattle.dr_plain_senders.specs.declared.record.SenderRecord.{SenderRecord}
-use Rattle.dr_plain_senders.specs.Calls.Ends.{SenderStand, SenderEnd, Stays, HasLoaded}
+use Rattle.dr_lent.specs.Ends.{HasLoaded}
+use Rattle.dr_plain_senders.specs.Calls.Ends.{SenderStand, SenderEnd}
 use Rattle.dr_plain_senders.specs.Calls.Writing.{Sight, Has, Found, Unasked, IsSight, Holds, marks_of, claims_of, sight_tests}
 use Rattle.dr_runs.specs.declared.look.Look.{Look}
 use Rattle.dr_plain_senders.specs.Calls.Publishing.{Reach, Inside, Outside, Looked, IsReach, reach_looks, reach_unclaimed, IsReady, PublishLooks}
@@ -75,7 +76,7 @@ module _ {T : Type 0} (e : SenderEnd T) (lo hi : ℕ) where
     past = begins_same e.past;
   }
 
-  pub publish_never : lo ≤ hi → e.plan.limit ≤ hi → PublishCall e lo hi e (Err NotClaimed)
+  pub publish_never : lo ≤ hi → e.knows.plan.limit ≤ hi → PublishCall e lo hi e (Err NotClaimed)
   publish_never order past = record {
     place = refl;
     seen = nothing_seen;
@@ -96,8 +97,8 @@ module _ {T : Type 0} (e : SenderEnd T) (lo hi : ℕ) where
 -- how a sender found whether the last sequence is claimed
 pub record Reached {T : Type 0} (e : SenderStand T) (hi : ℕ) (e' : SenderStand T) (is : Bool) : Type 0 where
   pub reach : Reach
-  pub sees : IsReach e.plan e.knows hi reach
-  pub stays : Stays e e'
+  pub sees : IsReach e.knows hi reach
+  pub ring : e'.ring ≡ e.ring
   pub knows : e'.knows ≡ record e.knows { looks = e.knows.looks ++ reach_looks reach }
   pub hand : e'.hand ≡ e.hand
   pub stored : e'.stored ≡ e.stored
@@ -111,11 +112,11 @@ not_within a b = elim (cases_lt a b) [
 ]
 
 pub reached : {T : Type 0} (e e' : SenderStand T) (o : Owned) (end hi : ℕ) (tokens : List (Token T)) (own is : Bool) → SenderFits e o end tokens
-    → own ≡ is_marked o.claimed hi → hi < e.plan.limit → Reaches e own hi e' is → Reached e hi e' is
+    → own ≡ is_marked o.claimed hi → hi < e.knows.plan.limit → Reaches e own hi e' is → Reached e hi e' is
 reached e e' o end hi tokens true is F mine below R = record {
   reach = Inside;
   sees = F.marks.own hi (sym mine);
-  stays = R.0.0;
+  ring = R.0.0;
   knows = R.0.1 ∙ ap (λ (xs : List Look). record e.knows { looks = xs }) (sym (append-nil e.knows.looks));
   hand = R.0.2;
   stored = R.0.4;
@@ -125,7 +126,7 @@ reached e e' o end hi tokens true is F mine below R = record {
 reached e e' o end hi tokens false is F mine below R = record {
   reach = Looked R.0;
   sees = (below, λ t own. (F.marks.old hi t own (sym mine)).0);
-  stays = R.1.0;
+  ring = R.1.0;
   knows = R.1.1;
   hand = R.1.2;
   stored = R.1.4;
@@ -193,7 +194,7 @@ some_held : {T : Type 0} (t : Token T) (k : Shape T) (s : ℕ) (w : (x : T) × (
 some_held {T} t k s w = ap (λ (x : Token T). held x.hold) w.1
 
 -- a sender, with its marks and its tokens
-module _ {T : Type 0} (e : SenderStand T) (o : Owned) (end : ℕ) (tokens : List (Token T)) (size : 0 < e.plan.size) (F : SenderFits e o end tokens) where
+module _ {T : Type 0} (e : SenderStand T) (o : Owned) (end : ℕ) (tokens : List (Token T)) (size : 0 < e.knows.plan.size) (F : SenderFits e o end tokens) where
   abbrev me : SenderEnd T
   me = sender_end e o tokens
 
@@ -204,18 +205,18 @@ module _ {T : Type 0} (e : SenderStand T) (o : Owned) (end : ℕ) (tokens : List
   ready_is s is =
       let opened = first_of (is_open o s) (is_marked o.written s) is in let mine = mine_ready s is in
       let hidden = unhidden (is_marked o.published s) (second_of (is_marked o.claimed s) (not (is_marked o.published s)) opened) in
-      let x = F.marks.own s mine in let count = F.count in let t = there tokens (cell_of e.plan s) (let lt = mod-lt s size in omega arith) in
+      let x = F.marks.own s mine in let count = F.count in let t = there tokens (cell_of e.knows.plan s) (let lt = mod-lt s size in omega arith) in
       let w = F.whole s t.0 opened t.1 in
-      let written : written_in e.plan o tokens s ≡ Some w.0 =
+      let written : written_in e.knows.plan o tokens s ≡ Some w.0 =
       (λ i. if is i
-      then value_at (cells_of tokens) (cell_of e.plan s) (held t.0.hold) None (map_there (λ (y : Token T). held y.hold) tokens (cell_of e.plan s) t.0 t.1) i
+      then value_at (cells_of tokens) (cell_of e.knows.plan s) (held t.0.hold) None (map_there (λ (y : Token T). held y.hold) tokens (cell_of e.knows.plan s) t.0 t.1) i
       else None)
-      ∙ some_held t.0 e.plan s w in
+      ∙ some_held t.0 e.knows.plan s w in
       (x.0, w.0, subst (Holds me s x.0) written (holds e o tokens s x.0 x.1), F.marks.shown s x.0 x.1 mine ∙ hidden)
 
   pub publish_unclaimed : (lo hi : ℕ) (e' : SenderStand T) → lo ≤ hi → Reached e hi e' false → PublishCall me lo hi (sender_end e' o tokens) (Err NotClaimed)
   publish_unclaimed lo hi e' order R = record {
-    place = (λ i. (R.stays.0 i, R.stays.1 i, (R.knows i).number));
+    place = (λ i. (R.ring i, (R.knows i).plan, (R.knows i).number));
     seen = record { reach = R.reach; ready = 0; stop = Unasked };
     sees = record {
       reach = λ le. R.sees;
@@ -229,7 +230,7 @@ module _ {T : Type 0} (e : SenderStand T) (o : Owned) (end : ℕ) (tokens : List
     lents = [];
     lent = refl;
     knows = R.knows ∙ (let r : SenderRecord T = record e.knows { looks = e.knows.looks ++ reach_looks R.reach } in found_nothing r);
-    writes = (λ i. writes_of (R.stays.1 i) o tokens (R.knows i).own);
+    writes = (λ i. writes_of (R.knows i).plan o tokens (R.knows i).own);
     cells = refl;
     steps = [];
     published = refl;
@@ -240,17 +241,18 @@ module _ {T : Type 0} (e : SenderStand T) (o : Owned) (end : ℕ) (tokens : List
   -- A publication that reached a sequence that it may not publish, after some that it may.
   module _ (a : SenderStand T) (lo hi stop : ℕ) (R : Reached e hi a true) (front : IsFront (is_ready o) lo (hi + 1) stop) (high : stop ≤ hi) where
     publish_stops : (e' : SenderStand T) (x : Sight T) (refusal : Refusal) → IsSight me stop x
-        → IsFirst MayHold MayFail refusal (sequence_causes (sight_tests e.plan stop x)) → Stays a e'
+        → IsFirst MayHold MayFail refusal (sequence_causes (sight_tests e.knows.plan stop x)) → e'.ring ≡ a.ring
         → e'.knows ≡ record a.knows { marks = a.knows.marks ++ marks_of a.knows.looks stop x; looks = a.knows.looks ++ claims_of x }
         → e'.stored ≡ a.stored → IsBeginning a.past e'.past
         → PublishCall me lo hi (sender_end e' o tokens) (Err refusal)
-    publish_stops e' x refusal sight first stays knows stored past =
+    publish_stops e' x refusal sight first ring knows stored past =
         let low = front.low in
         let at : lo + (stop - lo) ≡ stop = omega arith in
         let seen : PublishLooks T = record { reach = R.reach; ready = stop - lo; stop = x } in
         let own = ap (λ (r : SenderRecord T). r.own) knows ∙ ap (λ (r : SenderRecord T). r.own) R.knows in
-        let number = ap (λ (r : SenderRecord T). r.number) knows ∙ ap (λ (r : SenderRecord T). r.number) R.knows in let plan = stays.1 ∙ R.stays.1 in record {
-          place = (λ i. ((stays.0 ∙ R.stays.0) i, plan i, number i));
+        let number = ap (λ (r : SenderRecord T). r.number) knows ∙ ap (λ (r : SenderRecord T). r.number) R.knows in
+        let plan = ap (λ (r : SenderRecord T). r.plan) knows ∙ ap (λ (r : SenderRecord T). r.plan) R.knows in record {
+          place = (λ i. ((ring ∙ R.ring) i, plan i, number i));
           seen = seen;
           sees = record {
             reach = λ le. R.sees;
@@ -259,8 +261,8 @@ module _ {T : Type 0} (e : SenderStand T) (o : Owned) (end : ℕ) (tokens : List
             empty = λ none. absurd (omega arith);
             nobodys = λ nobody. absurd (let no = sym R.unclaimed ∙ nobody in cc);
           };
-          answer = refuses e.plan lo seen hi refusal (omega arith) (omega arith) (subst MayFail (sym R.unclaimed) refl)
-              (subst (λ (s : ℕ). IsFirst MayHold MayFail refusal (sequence_causes (sight_tests e.plan s x))) (sym at) first);
+          answer = refuses e.knows.plan lo seen hi refusal (omega arith) (omega arith) (subst MayFail (sym R.unclaimed) refl)
+              (subst (λ (s : ℕ). IsFirst MayHold MayFail refusal (sequence_causes (sight_tests e.knows.plan s x))) (sym at) first);
           all = tt;
           lents = [];
           lent = refl;
@@ -279,36 +281,36 @@ module _ {T : Type 0} (e : SenderStand T) (o : Owned) (end : ℕ) (tokens : List
           past = begins_on e.past a.past e'.past R.past past;
         }
 
-    pub publish_foreign : (e' : SenderStand T) (refusal : Refusal) → hi < e.plan.limit → is_marked o.claimed stop ≡ false → RefusesBy a stop e' refusal
+    pub publish_foreign : (e' : SenderStand T) (refusal : Refusal) → hi < e.knows.plan.limit → is_marked o.claimed stop ≡ false → RefusesBy a stop e' refusal
         → PublishCall me lo hi (sender_end e' o tokens) (Err refusal)
     publish_foreign e' refusal limit unmarked B =
-        let plan = R.stays.1 in let own : a.knows.own ≡ e.knows.own = ap (λ (q : SenderRecord T). q.own) R.knows in
+        let plan : a.knows.plan ≡ e.knows.plan = ap (λ (q : SenderRecord T). q.plan) R.knows in let own : a.knows.own ≡ e.knows.own = ap (λ (q : SenderRecord T). q.own) R.knows in
         publish_stops e' (Found B.before B.mark B.after) refusal (
           omega arith,
           λ t mine. (let x = F.marks.old stop t mine unmarked in (
             x.0,
-            said_out e.plan stop B.before B.mark B.after (B.first stop t (owns_same e.knows a.knows stop t own mine))
+            said_out e.knows.plan stop B.before B.mark B.after (B.first stop t (owns_same e.knows a.knows stop t own mine))
                 (inr (let past = x.1.3 in let again = B.last x.1.0 x.1.1 (owns_same e.knows a.knows x.1.0 x.1.1 own x.1.2) in omega arith)),
           )),
         )
-        (by_looks (is_out_by e.plan stop B.before B.mark B.after) refusal
+        (by_looks (is_out_by e.knows.plan stop B.before B.mark B.after) refusal
         (B.is ∙ ap (λ (k : Shape T). if is_out_by k stop B.before B.mark B.after then AlreadyPublished else NotClaimed) plan))
         B.loaded.0 B.loaded.1 B.loaded.4 B.loaded.3
 
     pub publish_late : is_marked o.claimed stop ≡ true → is_marked o.published stop ≡ true → PublishCall me lo hi (sender_end a o tokens) (Err AlreadyPublished)
     publish_late mine shown = let x = F.marks.own stop mine in
-        publish_stops a (Has x.0 (written_in e.plan o tokens stop)) AlreadyPublished
+        publish_stops a (Has x.0 (written_in e.knows.plan o tokens stop)) AlreadyPublished
         (holds e o tokens stop x.0 x.1) (inl (F.marks.shown stop x.0 x.1 mine ∙ shown, refl))
-        (refl, refl) (found_nothing a.knows) refl (begins_same a.past)
+        refl (found_nothing a.knows) refl (begins_same a.past)
 
     pub publish_unwritten : is_marked o.claimed stop ≡ true → is_marked o.published stop ≡ false → PublishCall me lo hi (sender_end a o tokens) (Err NotWritten)
     publish_unwritten mine hidden =
         let x = F.marks.own stop mine in
         let unwritten =
         unready_part (is_marked o.claimed stop) (is_marked o.published stop) (is_marked o.written stop) (front.here (omega arith)) mine hidden in
-        let none = unready (is_open o stop) (is_marked o.written stop) (get_or (cells_of tokens) (cell_of e.plan stop) None) (inr unwritten) in
-        publish_stops a (Has x.0 (written_in e.plan o tokens stop)) NotWritten (holds e o tokens stop x.0 x.1)
-        (inr (F.marks.shown stop x.0 x.1 mine ∙ hidden, inr (refl, inl (ap is_none none, refl)))) (refl, refl) (found_nothing a.knows) refl (begins_same a.past)
+        let none = unready (is_open o stop) (is_marked o.written stop) (get_or (cells_of tokens) (cell_of e.knows.plan stop) None) (inr unwritten) in
+        publish_stops a (Has x.0 (written_in e.knows.plan o tokens stop)) NotWritten (holds e o tokens stop x.0 x.1)
+        (inr (F.marks.shown stop x.0 x.1 mine ∙ hidden, inr (refl, inl (ap is_none none, refl)))) refl (found_nothing a.knows) refl (begins_same a.past)
 
   pub publish_done : (e' : SenderStand T) (o' : Owned) (ts' : List (Token T)) (lo hi stop : ℕ) → IsFront (is_ready o) lo (hi + 1) stop → lo ≤ hi → hi < stop
       → HasPublishedAll e o tokens lo (hi + 1) e' o' ts' → PublishCall me lo hi (sender_end e' o' ts') (Ok tt)
@@ -316,7 +318,7 @@ module _ {T : Type 0} (e : SenderStand T) (o : Owned) (end : ℕ) (tokens : List
       let high = front.high in let n = hi + 1 - lo in
       let ready : (s : ℕ) → lo ≤ s → s < lo + n → IsReady me s = λ s low lt. ready_is s (front.below s low (omega arith)) in
       let seen : PublishLooks T = record { reach = Inside; ready = n; stop = Unasked } in record {
-        place = (λ i. (P.stays.0 i, P.stays.1 i, (P.all.knows i).number));
+        place = (λ i. (P.ring i, (P.all.knows i).plan, (P.all.knows i).number));
         seen = seen;
         sees = record {
           reach = λ le. F.marks.own hi (mine_ready hi (front.below hi order past));
@@ -325,7 +327,7 @@ module _ {T : Type 0} (e : SenderStand T) (o : Owned) (end : ℕ) (tokens : List
           empty = λ none. absurd (omega arith);
           nobodys = λ nobody. refl;
         };
-        answer = accepts e.plan lo seen hi order (omega arith) refl;
+        answer = accepts e.knows.plan lo seen hi order (omega arith) refl;
         all = omega arith;
         lents = P.lents;
         lent = (
@@ -334,7 +336,7 @@ module _ {T : Type 0} (e : SenderStand T) (o : Owned) (end : ℕ) (tokens : List
               (x.0, subst (Holds me (lo + i) x.0) (P.all.events i l at) (holds e o tokens (lo + i) x.0 (x.2.0, x.2.1)))),
         );
         knows = P.all.knows;
-        writes = all_left e o tokens lo (hi + 1) P.lents e' o' ts' P.stays.1 P.all;
+        writes = all_left e o tokens lo (hi + 1) P.lents e' o' ts' (ap (λ (r : SenderRecord T). r.plan) P.all.knows) P.all;
         cells = P.all.cells;
         steps = P.steps;
         published = P.published;
@@ -346,10 +348,10 @@ module _ {T : Type 0} (e : SenderStand T) (o : Owned) (end : ℕ) (tokens : List
 pub from_here : {T : Type 0} (e a e' : SenderStand T) (o o' : Owned) (ts ts' : List (Token T)) (lo upto : ℕ) → HasLoaded e e.knows e.hand a
     → HasPublishedAll a o ts lo upto e' o' ts' → HasPublishedAll e o ts lo upto e' o' ts'
 from_here {T} e a e' o o' ts ts' lo upto L P = subst (λ (x : SenderStand T). HasPublishedAll x o ts lo upto e' o' ts')
-    (λ i. record e { ring = L.0.0 i; plan = L.0.1 i; knows = L.1 i; stored = L.4 i }) (record {
+    (λ i. record e { ring = L.0 i; knows = L.1 i; stored = L.4 i }) (record {
       lents = P.lents;
       all = P.all;
-      stays = P.stays;
+      ring = P.ring;
       past = begins_on e.past a.past e'.past L.3 P.past;
       steps = P.steps;
       published = P.published;

@@ -7,7 +7,8 @@ use Rattle.dr_runs.specs.Looks.{look}
 use Rattle.dr_plain_senders.specs.Meaning.Words.{claim_word, is_out_by}
 use Rattle.dr_plain_senders.specs.Meaning.Records.{sender_looked, mark_found}
 use Rattle.dr_plain_senders.specs.declared.record.SenderRecord.{SenderRecord}
-use Rattle.dr_plain_senders.specs.Calls.Ends.{SenderStand, HasLoaded}
+use Rattle.dr_lent.specs.Ends.{HasLoaded}
+use Rattle.dr_plain_senders.specs.Calls.Ends.{SenderStand}
 use Rattle.dr_plain_senders.specs.Calls.Finds.{FindsOwn}
 use Rattle.dr_plain_senders.specs.Inside.Refusing.{refused_by, RefusesBy}
 use Rattle.dr_plain_senders.proofs.Fitting.{owns_same}
@@ -17,13 +18,13 @@ pub refuses : {T : Type 0} (e e1 e2 e3 : SenderStand T) (s before mark after : �
     → HasLoaded e (sender_looked e.knows claim_word before) e.hand e1
     → HasLoaded e1 (mark_found e1.knows s mark) e1.hand e2
     → HasLoaded e2 (sender_looked e2.knows claim_word after) e2.hand e3 → FindsOwn e.knows before → FindsOwn e2.knows after
-    → refusal ≡ (if is_out_by e.plan s before mark after then AlreadyPublished else NotClaimed) → RefusesBy e s e3 refusal
+    → refusal ≡ (if is_out_by e.knows.plan s before mark after then AlreadyPublished else NotClaimed) → RefusesBy e s e3 refusal
 refuses {T} e e1 e2 e3 s before mark after refusal A B C first last is = record {
   before = before;
   mark = mark;
   after = after;
   loaded = (
-    (C.0.0 ∙ B.0.0 ∙ A.0.0, C.0.1 ∙ B.0.1 ∙ A.0.1),
+    C.0 ∙ B.0 ∙ A.0,
     C.1 ∙ ap (λ (r : SenderRecord T). sender_looked r claim_word after) (B.1 ∙ ap (λ (r : SenderRecord T). mark_found r s mark) A.1)
         ∙ ap (λ (xs : List Look). record (refused_by e.knows s before mark after) { looks = xs })
         (append_assoc e.knows.looks (look claim_word before ∷ []) (look claim_word after ∷ [])),

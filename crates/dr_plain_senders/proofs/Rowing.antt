@@ -14,8 +14,8 @@ use Rattle.dr_lent.specs.declared.lent.Lent.{Lent}
 use Rattle.dr_plain_senders.specs.Meaning.Shape.{Shape, handlers_of}
 use Rattle.dr_plain_senders.specs.Meaning.Words.{lanes_of, slot_of}
 use Rattle.dr_plain_senders.specs.Meaning.Lying.{Laid, unlent, lent, kept_of, placed}
-use Rattle.dr_plain_senders.specs.Calls.Ends.{EndOf}
-use Rattle.dr_plain_senders.specs.Inside.Hands.{nothings, with_hand, blank_slot}
+use Rattle.dr_lent.specs.Ends.{StandOf, with_hand}
+use Rattle.dr_plain_senders.specs.Inside.Hands.{nothings, blank_slot}
 use Rattle.dr_plain_senders.specs.Inside.Rows.{row, blank_row, parts_row, blank_parts}
 use Rattle.dr_plain_senders.specs.Inside.Seats.{Hand, IsOfRound}
 
@@ -68,7 +68,7 @@ lent_of k s (unlent x) of le = absurd (let early = of.0 in omega arith)
 lent_of k s (lent l) of le = (l, refl)
 
 -- a sender takes a row: first what is kept of the cell, then the parts
-module _ {T K : Type 0} (e : EndOf T K) (k : Shape T) (s : ℕ) (a : Laid T) (others : Hand T) (is : e.hand ≡ row k s a ++ others) where
+module _ {T S K : Type 0} (e : StandOf T S K) (k : Shape T) (s : ℕ) (a : Laid T) (others : Hand T) (is : e.hand ≡ row k s a ++ others) where
   pub first_slot : (slot : ℕ) → slot ≡ slot_of k 0 s → (t : Token T) × (e.hand ≡ (slot, t) ∷ rest e.hand)
   first_slot slot same = (
     kept_of k s a,
@@ -80,17 +80,17 @@ module _ {T K : Type 0} (e : EndOf T K) (k : Shape T) (s : ℕ) (a : Laid T) (ot
   first_kept slot t was = was_there e.hand slot (placed k 0 s a) t (is ∙ ap (λ (h : Hand T). placed k 0 s a ∷ h) (sym (ap rest is))) was
 
   -- once what is kept is out, the parts are first in hand
-  pub parts_first : (slot : ℕ) (e' : EndOf T K) → e' ≡ with_hand e (rest e.hand ++ (slot, no_token) ∷ [])
+  pub parts_first : (slot : ℕ) (e' : StandOf T S K) → e' ≡ with_hand e (rest e.hand ++ (slot, no_token) ∷ [])
       → e'.hand ≡ parts_row k s a ++ (others ++ (slot, no_token) ∷ [])
-  parts_first slot e' new = ap (λ (x : EndOf T K). x.hand) new ∙ ap (λ (h : Hand T). rest h ++ (slot, no_token) ∷ []) is
+  parts_first slot e' new = ap (λ (x : StandOf T S K). x.hand) new ∙ ap (λ (h : Hand T). rest h ++ (slot, no_token) ∷ []) is
       ∙ append_assoc (parts_row k s a) others ((slot, no_token) ∷ [])
 
-  pub room_left : (slot : ℕ) (e1 : EndOf T K) → e1 ≡ with_hand e (rest e.hand ++ (slot, no_token) ∷ []) → handlers_of k ≤ length e1.hand
+  pub room_left : (slot : ℕ) (e1 : StandOf T S K) → e1 ≡ with_hand e (rest e.hand ++ (slot, no_token) ∷ []) → handlers_of k ≤ length e1.hand
   room_left slot e1 first = let long = ap length (parts_first slot e1 first) in let n = parts_count k s a in
       omega (arith, length-append (parts_row k s a) (others ++ (slot, no_token) ∷ []))
 
   -- where nothing is lent the parts are only turned
-  pub turned_parts : (slot count : ℕ) (e1 e2 : EndOf T K) (x : T) → a ≡ unlent x
+  pub turned_parts : (slot count : ℕ) (e1 e2 : StandOf T S K) (x : T) → a ≡ unlent x
       → count ≡ handlers_of k → e1 ≡ with_hand e (rest e.hand ++ (slot, no_token) ∷ [])
       → e2 ≡ with_hand e1 (drop count e1.hand ++ take count e1.hand) → e2 ≡ with_hand e1 (drop (handlers_of k) e1.hand ++ blank_parts k s)
   turned_parts slot count e1 e2 x nothing same first last =
@@ -101,7 +101,7 @@ module _ {T K : Type 0} (e : EndOf T K) (k : Shape T) (s : ℕ) (a : Laid T) (ot
       last ∙ ap (λ (m : ℕ). with_hand e1 (drop m e1.hand ++ take m e1.hand)) same ∙ ap (λ (h : Hand T). with_hand e1 (drop n e1.hand ++ h)) front
 
   -- and once these are out too, the row is behind all others, with nothing in it
-  pub row_taken : (slot : ℕ) (e1 e2 : EndOf T K) → slot ≡ slot_of k 0 s → e1 ≡ with_hand e (rest e.hand ++ (slot, no_token) ∷ [])
+  pub row_taken : (slot : ℕ) (e1 e2 : StandOf T S K) → slot ≡ slot_of k 0 s → e1 ≡ with_hand e (rest e.hand ++ (slot, no_token) ∷ [])
       → e2 ≡ with_hand e1 (drop (handlers_of k) e1.hand ++ blank_parts k s) → e2 ≡ with_hand e (drop (lanes_of k) e.hand ++ blank_row k s)
   row_taken slot e1 e2 same first last =
       let behind : drop (handlers_of k) e1.hand ≡ others ++ (slot, no_token) ∷ [] =
@@ -109,22 +109,22 @@ module _ {T K : Type 0} (e : EndOf T K) (k : Shape T) (s : ℕ) (a : Laid T) (ot
       ∙ drop_seam (parts_row k s a) (others ++ (slot, no_token) ∷ []) (handlers_of k) (parts_count k s a) in
       let left : drop (lanes_of k) e.hand ≡ others =
       ap (λ (h : Hand T). drop (lanes_of k) h) is ∙ drop_seam (row k s a) others (lanes_of k) (row_count k s a) in
-      last ∙ ap (λ (x : EndOf T K). with_hand x (drop (handlers_of k) e1.hand ++ blank_parts k s)) first
+      last ∙ ap (λ (x : StandOf T S K). with_hand x (drop (handlers_of k) e1.hand ++ blank_parts k s)) first
       ∙ ap (λ (h : Hand T). with_hand e h)
       (ap (λ (h : Hand T). h ++ blank_parts k s) behind ∙ append_assoc others ((slot, no_token) ∷ []) (blank_parts k s)
       ∙ (λ i. sym left i ++ (same i, no_token) ∷ blank_parts k s))
 
 -- a sender lends a row: its first slot goes behind the others, and then each part, and once the others are behind these what is kept goes into the first
-module _ {T K : Type 0} (e : EndOf T K) (k : Shape T) (s : ℕ) (behind : Hand T) (is : e.hand ≡ blank_row k s ++ behind) where
-  pub turned_first : (e1 : EndOf T K) → e1 ≡ with_hand e (turned e.hand) → e1.hand ≡ blank_parts k s ++ (behind ++ blank_slot k 0 s ∷ [])
-  turned_first e1 new = ap (λ (x : EndOf T K). x.hand) new ∙ ap (λ (h : Hand T). turned h) is
+module _ {T S K : Type 0} (e : StandOf T S K) (k : Shape T) (s : ℕ) (behind : Hand T) (is : e.hand ≡ blank_row k s ++ behind) where
+  pub turned_first : (e1 : StandOf T S K) → e1 ≡ with_hand e (turned e.hand) → e1.hand ≡ blank_parts k s ++ (behind ++ blank_slot k 0 s ∷ [])
+  turned_first e1 new = ap (λ (x : StandOf T S K). x.hand) new ∙ ap (λ (h : Hand T). turned h) is
       ∙ append_assoc (blank_parts k s) behind (blank_slot k 0 s ∷ [])
 
-  module _ (e1 e2 e3 : EndOf T K) (l : Lent T) (n : ℕ) (many : length behind ≡ n) (new1 : e1 ≡ with_hand e (turned e.hand))
+  module _ (e1 e2 e3 : StandOf T S K) (l : Lent T) (n : ℕ) (many : length behind ≡ n) (new1 : e1 ≡ with_hand e (turned e.hand))
       (new2 : e2 ≡ with_hand e1 (drop (handlers_of k) e1.hand ++ parts_row k s (lent l))) where
     pub lent_behind : e2.hand ≡ behind ++ (blank_slot k 0 s ∷ parts_row k s (lent l))
     lent_behind = let parts : Hand T = parts_row k s (lent l) in
-        ap (λ (x : EndOf T K). x.hand) new2 ∙ ap (λ (h : Hand T). drop (handlers_of k) h ++ parts) (turned_first e1 new1)
+        ap (λ (x : StandOf T S K). x.hand) new2 ∙ ap (λ (h : Hand T). drop (handlers_of k) h ++ parts) (turned_first e1 new1)
         ∙ ap (λ (h : Hand T). h ++ parts) (drop_seam (blank_parts k s) (behind ++ blank_slot k 0 s ∷ []) (handlers_of k) (blanks_count T k s))
         ∙ append_assoc behind (blank_slot k 0 s ∷ []) parts
 
@@ -134,7 +134,7 @@ module _ {T K : Type 0} (e : EndOf T K) (k : Shape T) (s : ℕ) (behind : Hand T
     module _ (new3 : e3 ≡ with_hand e2 (drop n e2.hand ++ take n e2.hand)) where
       pub lent_front : e3.hand ≡ blank_slot k 0 s ∷ (parts_row k s (lent l) ++ behind)
       lent_front = let slots : Hand T = blank_slot k 0 s ∷ parts_row k s (lent l) in
-          ap (λ (x : EndOf T K). x.hand) new3 ∙ (λ i. drop n (lent_behind i) ++ take n (lent_behind i))
+          ap (λ (x : StandOf T S K). x.hand) new3 ∙ (λ i. drop n (lent_behind i) ++ take n (lent_behind i))
           ∙ (λ i. drop_seam behind slots n many i ++ take_seam behind slots n many i)
 
       pub front_slot : (slot : ℕ) → slot ≡ slot_of k 0 s → (t : Token T) × (e3.hand ≡ (slot, t) ∷ rest e3.hand)
@@ -144,13 +144,13 @@ module _ {T K : Type 0} (e : EndOf T K) (k : Shape T) (s : ℕ) (behind : Hand T
             ∙ ap (λ (h : Hand T). (slot, no_token) ∷ h) (sym (ap rest lent_front)),
       )
 
-      pub row_lent : (slot : ℕ) (t : Token T) (e4 : EndOf T K) → slot ≡ slot_of k 0 s → t ≡ kept_of k s (lent l) → e4 ≡ with_hand e3 ((slot, t) ∷ rest e3.hand)
+      pub row_lent : (slot : ℕ) (t : Token T) (e4 : StandOf T S K) → slot ≡ slot_of k 0 s → t ≡ kept_of k s (lent l) → e4 ≡ with_hand e3 ((slot, t) ∷ rest e3.hand)
           → e4 ≡ with_hand e (row k s (lent l) ++ drop (lanes_of k) e.hand)
       row_lent slot t e4 same token new4 =
           let left : drop (lanes_of k) e.hand ≡ behind =
           ap (λ (h : Hand T). drop (lanes_of k) h) is ∙ drop_seam (blank_row k s) behind (lanes_of k) (blank_row_count T k s) in
           let behind_first : rest e3.hand ≡ parts_row k s (lent l) ++ behind = ap rest lent_front in
           let now : Hand T = (slot, t) ∷ rest e3.hand in
-          new4 ∙ ap (λ (x : EndOf T K). with_hand x now) new3 ∙ ap (λ (x : EndOf T K). with_hand x now) new2 ∙ ap (λ (x : EndOf T K). with_hand x now) new1
+          new4 ∙ ap (λ (x : StandOf T S K). with_hand x now) new3 ∙ ap (λ (x : StandOf T S K). with_hand x now) new2 ∙ ap (λ (x : StandOf T S K). with_hand x now) new1
           ∙ ap (λ (h : Hand T). with_hand e h)
           ((λ i. (same i, token i) ∷ behind_first i) ∙ ap (λ (h : Hand T). row k s (lent l) ++ h) (sym left))

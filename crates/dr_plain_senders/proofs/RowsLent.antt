@@ -16,8 +16,7 @@ use Rattle.dr_lent.specs.declared.lent.Lent.{Lent}
 use Rattle.dr_plain_senders.specs.Meaning.Shape.{Shape}
 use Rattle.dr_plain_senders.specs.Meaning.Words.{cell_of, lanes_of}
 use Rattle.dr_plain_senders.specs.Meaning.Lying.{lent}
-use Rattle.dr_plain_senders.specs.Calls.Ends.{EndOf}
-use Rattle.dr_plain_senders.specs.Inside.Hands.{with_hand}
+use Rattle.dr_lent.specs.Ends.{StandOf, with_hand}
 use Rattle.dr_plain_senders.specs.Inside.Publishing.{LendsCells, AreWhole, cleared}
 use Rattle.dr_plain_senders.specs.Inside.Rows.{row, blank_row, blank_rows, IsWholeOf}
 use Rattle.dr_plain_senders.specs.Inside.Seats.{Hand, given_by_publication, lent_all}
@@ -64,26 +63,26 @@ module _ {T : Type 0} where
       cleared_else k tokens s n (cell_of k (s + n)) (λ q low high. slots_differ k.size (s + n) q (λ (e : s + n ≡ q). omega arith) (omega arith) (omega arith))
 
 -- a row that is lent goes behind
-module _ {T K : Type 0} (e : EndOf T K) (k : Shape T) (s : ℕ) (l : Lent T) (e1 : EndOf T K) where
+module _ {T S K : Type 0} (e : StandOf T S K) (k : Shape T) (s : ℕ) (l : Lent T) (e1 : StandOf T S K) where
   pub row_room : (slots : ℕ) → slots ≡ lanes_of k → e1 ≡ with_hand e (row k s (lent l) ++ drop (lanes_of k) e.hand) → slots ≤ length e1.hand
   row_room slots same new =
-      let long = ap (λ (x : EndOf T K). length x.hand) new in
+      let long = ap (λ (x : StandOf T S K). length x.hand) new in
       let n = row_count k s (lent l) in
       omega (arith, length-append (row k s (lent l)) (drop (lanes_of k) e.hand))
 
-  pub row_behind : (e2 : EndOf T K) (slots : ℕ) → slots ≡ lanes_of k → e1 ≡ with_hand e (row k s (lent l) ++ drop (lanes_of k) e.hand)
+  pub row_behind : (e2 : StandOf T S K) (slots : ℕ) → slots ≡ lanes_of k → e1 ≡ with_hand e (row k s (lent l) ++ drop (lanes_of k) e.hand)
       → e2 ≡ with_hand e1 (drop slots e1.hand ++ take slots e1.hand) → e2 ≡ with_hand e (drop (lanes_of k) e.hand ++ row k s (lent l))
   row_behind e2 slots same new turned =
       let rest : Hand T = drop (lanes_of k) e.hand in let len : length (row k s (lent l)) ≡ slots = row_count k s (lent l) ∙ sym same in
-      turned ∙ ap (λ (x : EndOf T K). with_hand x (drop slots x.hand ++ take slots x.hand)) new
+      turned ∙ ap (λ (x : StandOf T S K). with_hand x (drop slots x.hand ++ take slots x.hand)) new
       ∙ ap (λ (h : Hand T). with_hand e h) (λ i. drop_seam (row k s (lent l)) rest slots len i ++ take_seam (row k s (lent l)) rest slots len i)
 
 -- the loop, which began with e and n rows first in hand: those that are left stand in front, and those that are lent behind the others
-module _ {T K : Type 0} (e : EndOf T K) (k : Shape T) (tokens : List (Token T)) (first n : ℕ) where
+module _ {T S K : Type 0} (e : StandOf T S K) (k : Shape T) (tokens : List (Token T)) (first n : ℕ) where
   abbrev pub others : Hand T
   others = drop (lanes_of k * n) e.hand
 
-  pub record Lending (s : ℕ) (now : EndOf T K) (left : List (Token T)) : Type 0 where
+  pub record Lending (s : ℕ) (now : StandOf T S K) (left : List (Token T)) : Type 0 where
     pub lents : List (Lent T)
     pub low : first ≤ s
     pub high : s ≤ first + n
@@ -113,13 +112,13 @@ module _ {T K : Type 0} (e : EndOf T K) (k : Shape T) (tokens : List (Token T)) 
       }
 
   -- the next row is first in hand
-  pub row_next : (s : ℕ) (now : EndOf T K) (left : List (Token T)) → (L : Lending s now left) → s < first + n
+  pub row_next : (s : ℕ) (now : StandOf T S K) (left : List (Token T)) → (L : Lending s now left) → s < first + n
       → now.hand ≡ blank_row k s ++ (blank_rows k (s + 1) (first + n - (s + 1)) ++ (others ++ given_by_publication k first L.lents))
   row_next s now left L lt =
       let m = first + n - (s + 1) in let z : first + n - s ≡ suc m = omega arith in let rest : Hand T = others ++ given_by_publication k first L.lents in
-      ap (λ (x : EndOf T K). x.hand) L.is ∙ ap (λ (j : ℕ). blank_rows k s j ++ rest) z ∙ append_assoc (blank_row k s) (blank_rows k (s + 1) m) rest
+      ap (λ (x : StandOf T S K). x.hand) L.is ∙ ap (λ (j : ℕ). blank_rows k s j ++ rest) z ∙ append_assoc (blank_row k s) (blank_rows k (s + 1) m) rest
 
-  pub rest_count : (s m : ℕ) (now : EndOf T K) (left : List (Token T)) → (L : Lending s now left) → s < first + n → length others ≡ m
+  pub rest_count : (s m : ℕ) (now : StandOf T S K) (left : List (Token T)) → (L : Lending s now left) → s < first + n → length others ≡ m
       → length (blank_rows k (s + 1) (first + n - (s + 1)) ++ (others ++ given_by_publication k first L.lents)) ≡ m + lanes_of k * (n - 1)
   rest_count s m now left L lt count =
       let many = L.many in
@@ -134,7 +133,7 @@ module _ {T K : Type 0} (e : EndOf T K) (k : Shape T) (tokens : List (Token T)) 
       rows_count k first (lent_all L.lents) ∙ ap (λ (q : ℕ). lanes_of k * q) (length-map L.lents (λ (l : Lent T). lent l)) in
       omega (arith, length-append rows (others ++ given), length-append others given)
 
-  pub lending_more : (s place : ℕ) (now next : EndOf T K) (left left' : List (Token T)) (l : Lent T) (t u : Token T)
+  pub lending_more : (s place : ℕ) (now next : StandOf T S K) (left left' : List (Token T)) (l : Lent T) (t u : Token T)
       → (L : Lending s now left) → s < first + n → n ≤ k.size
       → place ≡ cell_of k s → get_elem? left place ≡ some t → held t.hold ≡ Some l.event → left' ≡ set left place u → u ≡ no_token
       → next ≡ with_hand now (drop (lanes_of k) now.hand ++ row k s (lent l)) → Lending (s + 1) next left'
@@ -163,7 +162,7 @@ module _ {T K : Type 0} (e : EndOf T K) (k : Shape T) (tokens : List (Token T)) 
           | inr fresh ↦ (let place_i = fresh.1 in let only = only_one fresh.0 x l fresh.2 in let zero_i = only.0 in let e : first + i ≡ s = omega arith in
               subst (λ (y : Lent T). lent_now y i) only.1 (t, ap (λ (q : ℕ). get_elem? tokens (cell_of k q)) e ∙ was, holds))
         ];
-        is = new ∙ ap (λ (x : EndOf T K). with_hand x (drop (lanes_of k) now.hand ++ row k s (lent l))) L.is ∙ ap (λ (h : Hand T). with_hand e h) hand;
+        is = new ∙ ap (λ (x : StandOf T S K). with_hand x (drop (lanes_of k) now.hand ++ row k s (lent l))) L.is ∙ ap (λ (h : Hand T). with_hand e h) hand;
         tokens_left =
             put ∙ (λ j. set (L.tokens_left j) (at j) (none j)) ∙ ap (λ (q : ℕ). set (cleared k tokens first (s - first)) (cell_of k q) no_token) (sym here)
             ∙ cleared_more k tokens first (s - first) ∙ ap (cleared k tokens first) more;
@@ -174,7 +173,7 @@ module _ {T K : Type 0} (e : EndOf T K) (k : Shape T) (tokens : List (Token T)) 
       only_one (suc j) x y at_y = absurd (some-ne-none x (sym at_y))
 
   -- the cell of the next sequence is whole
-  pub next_whole : (s place : ℕ) (now : EndOf T K) (left : List (Token T)) (t : Token T)
+  pub next_whole : (s place : ℕ) (now : StandOf T S K) (left : List (Token T)) (t : Token T)
       → Lending s now left → s < first + n → n ≤ k.size → AreWhole k tokens first n → place ≡ cell_of k s
       → get_elem? left place ≡ some t → IsWholeOf k s t
   next_whole s place now left t L lt few W at there =
@@ -185,18 +184,18 @@ module _ {T K : Type 0} (e : EndOf T K) (k : Shape T) (tokens : List (Token T)) 
       subst (λ (q : ℕ). IsWholeOf k q t) here (W (s - first) t (omega arith) was)
 
   -- once all are lent, the rows come first again
-  module _ (s : ℕ) (now : EndOf T K) (left : List (Token T)) (L : Lending s now left) (over : s ≡ first + n) where
+  module _ (s : ℕ) (now : StandOf T S K) (left : List (Token T)) (L : Lending s now left) (over : s ≡ first + n) where
     hand_lent : now.hand ≡ others ++ given_by_publication k first L.lents
     hand_lent = let z : first + n - s ≡ 0 = omega arith in
-        ap (λ (x : EndOf T K). x.hand) L.is ∙ ap (λ (m : ℕ). blank_rows k s m ++ (others ++ given_by_publication k first L.lents)) z
+        ap (λ (x : StandOf T S K). x.hand) L.is ∙ ap (λ (m : ℕ). blank_rows k s m ++ (others ++ given_by_publication k first L.lents)) z
 
     pub lent_room : (b : ℕ) → length others ≡ b → b ≤ length now.hand
     lent_room b many = let long = ap length hand_lent in omega (arith, length-append others (given_by_publication k first L.lents))
 
-    pub lent_all_rows : (b : ℕ) (next : EndOf T K) → length others ≡ b → next ≡ with_hand now (drop b now.hand ++ take b now.hand)
+    pub lent_all_rows : (b : ℕ) (next : StandOf T S K) → length others ≡ b → next ≡ with_hand now (drop b now.hand ++ take b now.hand)
         → next ≡ with_hand e (given_by_publication k first L.lents ++ others)
     lent_all_rows b next many new =
-        new ∙ ap (λ (x : EndOf T K). with_hand x (drop b now.hand ++ take b now.hand)) L.is
+        new ∙ ap (λ (x : StandOf T S K). with_hand x (drop b now.hand ++ take b now.hand)) L.is
         ∙ ap (λ (h : Hand T). with_hand e h)
         (ap (λ (h : Hand T). drop b h ++ take b h) hand_lent
         ∙ (λ i. drop_seam others (given_by_publication k first L.lents) b many i ++ take_seam others (given_by_publication k first L.lents) b many i))

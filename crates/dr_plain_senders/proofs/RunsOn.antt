@@ -82,14 +82,14 @@ module _ {T : Type 0} where
   pub record PublishesOn (e : SenderStand T) (o : Owned) (tokens : List (Token T))
       (lo next upto : ℕ) (e' : SenderStand T) (o' : Owned) (tokens' : List (Token T)) : Type 0 where
     pub done : HasPublishedAll e o tokens lo next e' o' tokens'
-    pub whole : next < upto → AreRuns e.plan e.knows.number lo (events_of done.lents) done.steps next
+    pub whole : next < upto → AreRuns e.knows.plan e.knows.number lo (events_of done.lents) done.steps next
 
   pub on_first : (e : SenderStand T) (o : Owned) (tokens : List (Token T)) (lo upto : ℕ) → PublishesOn e o tokens lo lo upto e o tokens
   on_first e o tokens lo upto = record {
     done = record {
       lents = [];
-      all = public_first e.plan e.knows o tokens lo;
-      stays = (refl, refl);
+      all = public_first e.knows.plan e.knows o tokens lo;
+      ring = refl;
       past = begins_same e.past;
       steps = [];
       published = refl;
@@ -100,10 +100,10 @@ module _ {T : Type 0} where
 
   pub on_more : (e a e' : SenderStand T) (o b o' : Owned) (ts us ts' : List (Token T)) (lo next stop upto : ℕ)
       → PublishesOn e o ts lo next upto a b us → next < upto
-      → stop ≡ min upto (next + in_word a.plan next) → next < stop → stop ≤ lo + e.plan.size
+      → stop ≡ min upto (next + in_word a.knows.plan next) → next < stop → stop ≤ lo + e.knows.plan.size
       → HasPublishedRun a b us next stop e' o' ts' → PublishesOn e o ts lo stop upto e' o' ts'
   on_more e a e' o b o' ts us ts' lo next stop upto P less least some_one near R =
-      let D = P.done in let k = e.plan in let p = e.knows.number in let plan = D.stays.1 in let W = P.whole less in
+      let D = P.done in let k = e.knows.plan in let p = e.knows.number in let plan : a.knows.plan ≡ k = ap (λ (q : SenderRecord T). q.plan) D.all.knows in let W = P.whole less in
       let number : a.knows.number ≡ p = ap (λ (q : SenderRecord T). q.number) D.all.knows in
       let run : ArePublic k a.knows b us next stop R.lents e'.knows o' ts' =
       subst (λ (q : Shape T). ArePublic q a.knows b us next stop R.lents e'.knows o' ts') plan R.all in
@@ -114,7 +114,7 @@ module _ {T : Type 0} where
         done = record {
           lents = D.lents ++ R.lents;
           all = public_both k e.knows a.knows e'.knows o b o' ts us ts' lo next stop D.lents R.lents near D.all run;
-          stays = (R.stays.0 ∙ D.stays.0, R.stays.1 ∙ plan);
+          ring = R.ring ∙ D.ring;
           past = begins_on e.past a.past e'.past D.past R.past;
           steps = steps;
           published =

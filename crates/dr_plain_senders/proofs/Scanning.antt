@@ -8,7 +8,6 @@ use Rattle.dr_runs.specs.declared.look.Look.{Look}
 use Rattle.dr_runs.specs.Looks.{look, last_look}
 use Rattle.dr_runs.proofs.Looks.{last_look_more, last_least, looks_more, looks_few, no_looks_at}
 use Rattle.dr_runs.proofs.Elements.{number_at}
-use Rattle.dr_plain_senders.specs.Meaning.Shape.{Shape}
 use Rattle.dr_plain_senders.specs.Meaning.Words.{count_word}
 use Rattle.dr_plain_senders.specs.declared.record.SenderRecord.{SenderRecord}
 use Rattle.dr_plain_senders.specs.Meaning.Records.{sender_looked}
@@ -84,11 +83,11 @@ module _ {T : Type 0} where
     ]);
   }
 
-  pub scanned_low : (k : Shape T) (r s s' : SenderRecord T) (need i h v : ℕ) → Scanned (finals k.upstreams) r need i s → i < length (finals k.upstreams)
-      → get_or (finals k.upstreams) i 0 ≡ h
-      → s' ≡ sender_looked s (count_word h) v → v < need → Scans k r need s' false
-  scanned_low k r s s' need i h v S inside at is low =
-      let hs = finals k.upstreams in let each = S.each in let len : length (S.counts ++ v ∷ []) ≡ i + 1 = omega (arith, length-append S.counts (v ∷ [])) in (
+  pub scanned_low : (r s s' : SenderRecord T) (need i h v : ℕ) → Scanned (finals r.plan.upstreams) r need i s → i < length (finals r.plan.upstreams)
+      → get_or (finals r.plan.upstreams) i 0 ≡ h
+      → s' ≡ sender_looked s (count_word h) v → v < need → Scans r need s' false
+  scanned_low r s s' need i h v S inside at is low =
+      let hs = finals r.plan.upstreams in let each = S.each in let len : length (S.counts ++ v ∷ []) ≡ i + 1 = omega (arith, length-append S.counts (v ∷ [])) in (
         S.counts ++ v ∷ [],
         saw_more hs r s s' S.counts i h v S.each inside at S.is is
             ∙ ap (λ (xs : List Look). sender_saw r xs) (looks_few count_word hs (S.counts ++ v ∷ []) (i + 1) len),
@@ -102,10 +101,10 @@ module _ {T : Type 0} where
         },
       )
 
-  pub scanned_all : (k : Shape T) (r s : SenderRecord T) (need i : ℕ) → Scanned (finals k.upstreams) r need i s → i ≡ length (finals k.upstreams)
-      → Scans k r need s true
-  scanned_all k r s need i S all = (
+  pub scanned_all : (r s : SenderRecord T) (need i : ℕ) → Scanned (finals r.plan.upstreams) r need i s → i ≡ length (finals r.plan.upstreams)
+      → Scans r need s true
+  scanned_all r s need i S all = (
     S.counts,
-    S.is ∙ ap (λ (xs : List Look). sender_saw r xs) (looks_few count_word (finals k.upstreams) S.counts i S.each),
+    S.is ∙ ap (λ (xs : List Look). sender_saw r xs) (looks_few count_word (finals r.plan.upstreams) S.counts i S.each),
     record { all = S.each ∙ all; high = λ j lt. S.high j (let each = S.each in omega arith) },
   )

@@ -12,6 +12,7 @@ use Rattle.dr_lent.proofs.Going.{goes_on, some_end_of}
 use Rattle.dr_plain_senders.specs.Meaning.Shape.{Shape}
 use Rattle.dr_plain_senders.specs.declared.record.SenderRecord.{SenderRecord}
 use Rattle.dr_plain_senders.specs.declared.record.ReceiverRecord.{ReceiverRecord}
+use Rattle.dr_plain_senders.specs.declared.record.HalterRecord.{HalterRecord}
 use Rattle.dr_plain_senders.specs.declared.record.EndRecord.{EndRecord}
 use Rattle.dr_plain_senders.specs.declared.record.EndRecord.TheVariants.{Sends, Receives, Halts}
 use Rattle.dr_plain_senders.specs.declared.record.Step.{Step}
@@ -48,19 +49,34 @@ module _ {T : Type 0} where
     pub moves : MovesTo k does.after hand homes hand_after
     pub tells : told (holding mine hand_after)
 
-  -- a step of one end, which keeps its number
+  -- what an end knows of its ring's plan is so
+  abbrev pub plan_of : EndRecord T → Shape T
+  plan_of (Sends r) = r.plan
+  plan_of (Receives r) = r.plan
+  plan_of (Halts r) = r.plan
+
+  knows_plan : (k : Shape T) (w : World T) (e : EndRecord T) → Stands w e → KeepsRule k w → plan_of e ≡ k
+  knows_plan k w (Sends r) at K = (K.sent r.number r at).plan
+  knows_plan k w (Receives r) at K = (K.received r.number r at).plan
+  knows_plan k w (Halts r) at K = ap (λ (q : HalterRecord T). q.plan) (sym at) ∙ K.halter_plan
+
+  -- a step of one end, which keeps its number, is shown for the plan that the end knows
   pub by_end : (k : Shape T) (slots id : ℕ) (step : Step T) (grow : List (Step T) → List (Step T))
       (pasts : List (List (Step T))) (e : EndRecord T) (hand : Hand T) (i : ℕ) (f : ℕ → ℕ) (told : ℕ → End T → Type 0)
       → Adds ring_ends (end_number e) step grow
-      → ((w : World T) → Stands w e → KeepsRule k w → word_at w.words i < 18446744073709551616 → (homes : List (maybe.Option (Token T))) → Lies k w homes
-      → Acts k step w i (f (word_at w.words i)) e hand homes (told (word_at w.words i)))
+      → ((w : World T) → Stands w e → KeepsRule (plan_of e) w → word_at w.words i < 18446744073709551616
+      → (homes : List (maybe.Option (Token T))) → Lies (plan_of e) w homes
+      → Acts (plan_of e) step w i (f (word_at w.words i)) e hand homes (told (word_at w.words i)))
       → Allows (Ruled k) slots id (seat_at (holding e hand) pasts) i f (λ n me'. told n (end_of me') × IsBeginning (first_past pasts) (past_of me'.0)
       × (stored_of me'.0 ≡ grow (stores_of ring_ends (end_number e) (first_past pasts))))
   by_end k slots id step grow pasts e hand i f told adds acts =
       goes_on (exchange k) slots id (seat_at (holding e hand) pasts) i f (λ n me'. told n (end_of me') × IsBeginning (first_past pasts) (past_of me'.0)
       × (stored_of me'.0 ≡ grow (stores_of ring_ends (end_number e) (first_past pasts)))) (some_end_of e [])
       (runs.by_end (exchange k) slots id step grow pasts e hand i f told adds
-      (λ w at reached small homes lies. let n = get_or w.words i 0 in let a = acts w at (kept_of k w reached) small homes lies in let m = a.moves in record {
+      (λ w at reached small homes lies. let n = get_or w.words i 0 in let kept = kept_of k w reached in
+      let may = subst (λ (p : Shape T). KeepsRule p w → Lies p w homes → Acts p step w i (f n) e hand homes (told n)) (knows_plan k w e at kept)
+      (λ known there. acts w at known small homes there) in
+      let a = may kept lies in let m = a.moves in record {
         mine = a.mine;
         same = a.same;
         does = a.does;

@@ -101,10 +101,10 @@ module _ {T : Type 0} where
       }
 
   follows : (k : Shape T) (w : World T) (h j : ℕ) (r u : ReceiverRecord T) → get_elem? w.receivers h ≡ some r → get_elem? w.receivers j ≡ some u → KeepsRule k w
-      → FollowsUpstream k r u
+      → FollowsUpstream r u
   follows k w h j r u at there K has =
       let was = K.received h r at in let other = K.received j u there in
-      let here = subst (λ (n : ℕ). Contains (upstreams_of k.upstreams n) u.number) was.number has in
+      let here = subst (λ (e : Shape T × ℕ). Contains (upstreams_of e.0.upstreams e.1) u.number) (λ i. (was.plan i, was.number i)) has in
       let le : length r.received ≤ word_at w.words (count_word j) =
       was.after j (subst (λ (n : ℕ). Contains (upstreams_of k.upstreams h) n) other.number here) in
       let count : word_at w.words (count_word j) ≡ u.completed = other.count in omega arith

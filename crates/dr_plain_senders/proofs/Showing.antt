@@ -21,7 +21,7 @@ use Rattle.dr_plain_senders.specs.declared.record.SenderRecord.{SenderRecord}
 use Rattle.dr_plain_senders.specs.Calls.Ends.{SenderStand}
 use Rattle.dr_plain_senders.specs.Inside.Fits.{MarksFit, SenderFits, open_rows}
 use Rattle.dr_plain_senders.specs.Inside.Owned.{Owned, is_open}
-use Rattle.dr_plain_senders.specs.Inside.Hands.{with_hand}
+use Rattle.dr_lent.specs.Ends.{with_hand}
 use Rattle.dr_plain_senders.specs.Inside.Rows.{row, blank_row}
 use Rattle.dr_plain_senders.specs.Inside.Seats.{Hand}
 use Rattle.dr_plain_senders.proofs.Fitting.{no_lent}
@@ -46,7 +46,7 @@ still_shown : {T : Type 0} (l : Lent T) (b : Bool) (t u : Stage T) → is_publis
 still_shown l true t u shown is = ap is_published is
 still_shown l false t u shown is = ap is_published is ∙ shown
 
-module _ {T : Type 0} (k : Shape T) (r : SenderRecord T) (o : Owned) (s : ℕ) (size : 0 < k.size) (F : MarksFit k r o)
+module _ {T : Type 0} (r : SenderRecord T) (o : Owned) (s : ℕ) (size : 0 < r.plan.size) (F : MarksFit r o)
     (mine : is_marked o.claimed s ≡ true) where
   abbrev pub shown_marks : Owned
   shown_marks = record o { published = set o.published (s % length o.published) (entry_of (length o.published) s) }
@@ -56,7 +56,7 @@ module _ {T : Type 0} (k : Shape T) (r : SenderRecord T) (o : Owned) (s : ℕ) (
       let place : length o.published ≡ length o.claimed = F.shows ∙ sym F.claims in
       mark_beside o.published s z (entry_of (length o.published) s) (subst (λ (n : ℕ). z % n ≢ s % n) (sym place) (marked_apart o.claimed z s marked mine ne))
 
-  pub marks_shown : (l : Lent T) → MarksFit k (brought r s (published l)) shown_marks
+  pub marks_shown : (l : Lent T) → MarksFit (brought r s (published l)) shown_marks
   marks_shown l = let len = F.shows in let f : Stage T → Stage T = published l in record {
     claims = F.claims;
     writes = F.writes;
@@ -88,13 +88,13 @@ module _ {T : Type 0} (k : Shape T) (r : SenderRecord T) (o : Owned) (s : ℕ) (
   ]
 
 -- the sender has published its open sequence s
-module _ {T : Type 0} (e : SenderStand T) (o : Owned) (end s low : ℕ) (tokens : List (Token T)) (size : 0 < e.plan.size) (F : SenderFits e o end tokens)
-    (opened : is_open o s ≡ true) (from : low ≡ end - e.plan.size) where
+module _ {T : Type 0} (e : SenderStand T) (o : Owned) (end s low : ℕ) (tokens : List (Token T)) (size : 0 < e.knows.plan.size) (F : SenderFits e o end tokens)
+    (opened : is_open o s ≡ true) (from : low ≡ end - e.knows.plan.size) where
   pub mine : is_marked o.claimed s ≡ true
   mine = first_of (is_marked o.claimed s) (not (is_marked o.published s)) opened
 
   abbrev pub now : Owned
-  now = shown_marks e.plan e.knows o s size F.marks mine
+  now = shown_marks e.knows o s size F.marks mine
 
   pub within : (low ≤ s) × (s < end)
   within = let own = F.marks.own s mine in let below = F.below s own.0 own.1 in let near = F.near s opened in (omega arith, below)
@@ -107,73 +107,72 @@ module _ {T : Type 0} (e : SenderStand T) (o : Owned) (end s low : ℕ) (tokens 
 
   -- the rows before it and behind it
   abbrev pub before_it : Hand T
-  before_it = open_rows e.plan (is_open o) low (s - low)
+  before_it = open_rows e.knows.plan (is_open o) low (s - low)
 
   abbrev pub behind_it : Hand T
-  behind_it = open_rows e.plan (is_open o) (s + 1) (end - (s + 1))
+  behind_it = open_rows e.knows.plan (is_open o) (s + 1) (end - (s + 1))
 
-  pub hand_around : e.hand ≡ before_it ++ (blank_row e.plan s ++ behind_it)
-  hand_around = F.hand ∙ open_around e.plan (is_open o) low s end within.0 within.1 nothing_below
-      ∙ ap (λ (b : Bool). before_it ++ (if b then blank_row e.plan s ++ behind_it else behind_it)) opened
+  pub hand_around : e.hand ≡ before_it ++ (blank_row e.knows.plan s ++ behind_it)
+  hand_around = F.hand ∙ open_around e.knows.plan (is_open o) low s end within.0 within.1 nothing_below
+      ∙ ap (λ (b : Bool). before_it ++ (if b then blank_row e.knows.plan s ++ behind_it else behind_it)) opened
 
-  hand_left : open_rows e.plan (is_open now) 0 end ≡ before_it ++ behind_it
+  hand_left : open_rows e.knows.plan (is_open now) 0 end ≡ before_it ++ behind_it
   hand_left =
-      open_around e.plan (is_open now) low s end within.0 within.1
-      (λ q lt. (let a = within.0 in open_beside e.plan e.knows o s size F.marks mine q (λ (z : q ≡ s). omega arith)) ∙ nothing_below q lt)
-      ∙ (λ i. open_same e.plan (is_open now) (is_open o) low (s - low)
-      (λ q a b. (let w = within.0 in open_beside e.plan e.knows o s size F.marks mine q (λ (z : q ≡ s). omega arith))) i
-      ++ (if closed_here e.plan e.knows o s size F.marks mine i
-      then blank_row e.plan s ++ open_rows e.plan (is_open now) (s + 1) (end - (s + 1))
-      else open_same e.plan (is_open now) (is_open o) (s + 1) (end - (s + 1))
-      (λ q a b. open_beside e.plan e.knows o s size F.marks mine q (λ (z : q ≡ s). omega arith)) i))
+      open_around e.knows.plan (is_open now) low s end within.0 within.1
+      (λ q lt. (let a = within.0 in open_beside e.knows o s size F.marks mine q (λ (z : q ≡ s). omega arith)) ∙ nothing_below q lt)
+      ∙ (λ i. open_same e.knows.plan (is_open now) (is_open o) low (s - low)
+      (λ q a b. (let w = within.0 in open_beside e.knows o s size F.marks mine q (λ (z : q ≡ s). omega arith))) i
+      ++ (if closed_here e.knows o s size F.marks mine i
+      then blank_row e.knows.plan s ++ open_rows e.knows.plan (is_open now) (s + 1) (end - (s + 1))
+      else open_same e.knows.plan (is_open now) (is_open o) (s + 1) (end - (s + 1))
+      (λ q a b. open_beside e.knows o s size F.marks mine q (λ (z : q ≡ s). omega arith)) i))
 
   pub fits_shown : (l : Lent T) (e' : SenderStand T) (o' : Owned) (tokens' : List (Token T)) (place : ℕ)
-      → e'.plan ≡ e.plan → e'.knows ≡ has_published e.knows s (l ∷ [])
-      → e'.hand ≡ before_it ++ behind_it → o' ≡ now → place ≡ cell_of e.plan s → tokens' ≡ set tokens place no_token → SenderFits e' o' end tokens'
-  fits_shown l e' o' tokens' place plan knows hand is at put =
-      let k = e.plan in let q : SenderRecord T = brought e.knows s (published l) in
-      let P : Shape T → SenderRecord T → Owned → Type 0 = λ p r w. SenderFits (record e' { plan = p; knows = r }) w end tokens' in
+      → e'.knows ≡ has_published e.knows s (l ∷ [])
+      → e'.hand ≡ before_it ++ behind_it → o' ≡ now → place ≡ cell_of e.knows.plan s → tokens' ≡ set tokens place no_token → SenderFits e' o' end tokens'
+  fits_shown l e' o' tokens' place knows hand is at put =
+      let k = e.knows.plan in let q : SenderRecord T = brought e.knows s (published l) in
+      let P : SenderRecord T → Owned → Type 0 = λ r w. SenderFits (record e' { knows = r }) w end tokens' in
       let once : tokens' ≡ set tokens (cell_of k s) no_token = put ∙ ap (λ (i : ℕ). set tokens i no_token) at in
-      let fits : P k q now = record {
-        marks = marks_shown k e.knows o s size F.marks mine l;
+      let fits : P q now = record {
+        marks = marks_shown e.knows o s size F.marks mine l;
         limit = F.limit;
         last = λ some_end. (let x = F.last some_end in (_, after e.knows s (published l) (end - 1) x.0 x.1));
         below = λ z u own. (let x = had e.knows s (published l) z u own in F.below z x.0 x.1);
         near = λ z is_opened. elim (cases_eq z s) [
-          | inl same ↦ absurd (let closed = closed_here k e.knows o s size F.marks mine in
+          | inl same ↦ absurd (let closed = closed_here e.knows o s size F.marks mine in
               let same_open : is_open now s ≡ true = subst (λ (n : ℕ). is_open now n ≡ true) same is_opened in cc)
-          | inr ne ↦ F.near z (sym (open_beside k e.knows o s size F.marks mine z ne) ∙ is_opened)
+          | inr ne ↦ F.near z (sym (open_beside e.knows o s size F.marks mine z ne) ∙ is_opened)
         ];
         count = ap length once ∙ length-set tokens (cell_of k s) no_token ∙ F.count;
         whole = λ z t is_opened there_at. elim (cases_eq z s) [
-          | inl same ↦ absurd (let closed = closed_here k e.knows o s size F.marks mine in
+          | inl same ↦ absurd (let closed = closed_here e.knows o s size F.marks mine in
               let same_open : is_open now s ≡ true = subst (λ (n : ℕ). is_open now n ≡ true) same is_opened in cc)
           | inr ne ↦ (let marked = first_of (is_marked o.claimed z) (not (is_marked now.published z)) is_opened in
               let apart : cell_of k z ≢ cell_of k s = subst (λ (n : ℕ). z % n ≢ s % n) F.marks.claims (marked_apart o.claimed z s marked mine ne) in
-              F.whole z t (sym (open_beside k e.knows o s size F.marks mine z ne) ∙ is_opened)
+              F.whole z t (sym (open_beside e.knows o s size F.marks mine z ne) ∙ is_opened)
               (sym (ap (λ (ts : List (Token T)). get_elem? ts (cell_of k z)) once ∙ set_else tokens (cell_of k s) (cell_of k z) no_token apart) ∙ there_at))
         ];
         hand = hand ∙ sym hand_left;
-      } in subst (λ (p : Shape T). P p e'.knows o') (sym plan)
-      (subst (λ (r : SenderRecord T). P k r o') (sym knows) (subst (λ (w : Owned). P k q w) (sym is) fits))
+      } in subst (λ (r : SenderRecord T). P r o') (sym knows) (subst (λ (w : Owned). P q w) (sym is) fits)
 
   -- its hand, as the rows before it go behind, and at last those behind it
   pub room_before : (b : ℕ) → length before_it ≡ b → b ≤ length e.hand
-  room_before b many = let long = ap length hand_around in omega (arith, length-append before_it (blank_row e.plan s ++ behind_it))
+  room_before b many = let long = ap length hand_around in omega (arith, length-append before_it (blank_row e.knows.plan s ++ behind_it))
 
   pub front_row : (b : ℕ) (e1 : SenderStand T) → length before_it ≡ b → e1 ≡ with_hand e (drop b e.hand ++ take b e.hand)
-      → e1.hand ≡ blank_row e.plan s ++ (behind_it ++ before_it)
+      → e1.hand ≡ blank_row e.knows.plan s ++ (behind_it ++ before_it)
   front_row b e1 many new =
-      let rest : Hand T = blank_row e.plan s ++ behind_it in
+      let rest : Hand T = blank_row e.knows.plan s ++ behind_it in
       ap (λ (x : SenderStand T). x.hand) new ∙ (λ i. drop b (hand_around i) ++ take b (hand_around i))
-      ∙ (λ i. drop_seam before_it rest b many i ++ take_seam before_it rest b many i) ∙ append_assoc (blank_row e.plan s) behind_it before_it
+      ∙ (λ i. drop_seam before_it rest b many i ++ take_seam before_it rest b many i) ∙ append_assoc (blank_row e.knows.plan s) behind_it before_it
 
-  pub lent_row : (l : Lent T) (e1 e2 : SenderStand T) (k' : Shape T) → k' ≡ e.plan → e1.hand ≡ blank_row e.plan s ++ (behind_it ++ before_it)
+  pub lent_row : (l : Lent T) (e1 e2 : SenderStand T) (k' : Shape T) → k' ≡ e.knows.plan → e1.hand ≡ blank_row e.knows.plan s ++ (behind_it ++ before_it)
       → e2 ≡ with_hand e1 (row k' s (lent l) ++ drop (lanes_of k') e1.hand) → e2.hand ≡ row k' s (lent l) ++ (behind_it ++ before_it)
   lent_row l e1 e2 k' plan front new =
       ap (λ (x : SenderStand T). x.hand) new
       ∙ ap (λ (h : Hand T). row k' s (lent l) ++ h)
-      ((λ i. drop (lanes_of (plan i)) (front i)) ∙ drop_seam (blank_row e.plan s) (behind_it ++ before_it) (lanes_of e.plan) (blank_row_count T e.plan s))
+      ((λ i. drop (lanes_of (plan i)) (front i)) ∙ drop_seam (blank_row e.knows.plan s) (behind_it ++ before_it) (lanes_of e.knows.plan) (blank_row_count T e.knows.plan s))
 
   pub room_behind : (a : ℕ) (e3 : SenderStand T) → length behind_it ≡ a → e3.hand ≡ behind_it ++ before_it → a ≤ length e3.hand
   room_behind a e3 many is = let long = ap length is in omega (arith, length-append behind_it before_it)

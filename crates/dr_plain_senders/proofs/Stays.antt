@@ -33,6 +33,7 @@ module _ {T : Type 0} where
       → (r.told ≡ true → (is_halted (word_at us claim_word) ≡ true) × (length more ≤ length r.received)) → ReceiverKept k words stages h r
       → ReceiverKept k us more h r
   receiver_stays k words us stages more h r graph inside same rises lasts longer told was = record {
+    plan = was.plan;
     number = was.number;
     count = same ∙ was.count;
     completed = was.completed;
@@ -48,6 +49,7 @@ module _ {T : Type 0} where
       → ((s : ℕ) (t : Stage T) → get_elem? more s ≡ some t → t.owner ≡ q → get_elem? stages s ≡ some t)
       → SenderKept k words stages q r → SenderKept k us more q r
   sender_stays k words us stages more q r rises same back was = record {
+    plan = was.plan;
     number = was.number;
     own = λ i o at. (let d = was.own i o at in (d.0, same o.sequence o.stage d.1 d.0));
     all = λ s t there mine. was.all s t (back s t there mine) mine;

@@ -53,11 +53,11 @@ passes T k s refusal rest F = elim F [
   ]
 ]
 
-module _ {T : Type 0} (e : SenderEnd T) (w : World T) (K : KeepsRule e.plan w) (writes : List (ℕ × T))
+module _ {T : Type 0} (e : SenderEnd T) (w : World T) (K : KeepsRule e.knows.plan w) (writes : List (ℕ × T))
     (p lo hi : ℕ) (seen : PublishLooks T) (at : get_elem? w.senders p ≡ some e.knows)
-    (tells : TellsWrites e.plan w writes e) (sees : PublishSees e lo hi seen) where
+    (tells : TellsWrites e.knows.plan w writes e) (sees : PublishSees e lo hi seen) where
   abbrev k : Shape T
-  k = e.plan
+  k = e.knows.plan
 
   abbrev r : SenderRecord T
   r = e.knows
@@ -108,7 +108,7 @@ module _ {T : Type 0} (e : SenderEnd T) (w : World T) (K : KeepsRule e.plan w) (
       )
 
   -- Whether the last sequence is claimed, as the end knows it.
-  reach_now : (reach : Reach) → IsReach k r hi reach → ReachesNow w hi reach → reach_unclaimed hi reach ≡ Exactly (nat_le (length m.owners) hi)
+  reach_now : (reach : Reach) → IsReach r hi reach → ReachesNow w hi reach → reach_unclaimed hi reach ≡ Exactly (nat_le (length m.owners) hi)
   reach_now Inside own now =
       let inside = at_below w.stages hi own.0 (own_stage hi own.0 own.1).1 in let count = owned in
       ap Exactly (sym (lt-leb (length m.owners) hi (omega arith)))
@@ -221,11 +221,11 @@ module _ {T : Type 0} (e : SenderEnd T) (w : World T) (K : KeepsRule e.plan w) (
 -- the same, where the ring is the end's
 pub publish_replies_of : {T : Type 0} (k : Shape T) (w : World T) → KeepsRule k w
     → (writes : List (ℕ × T)) (p lo hi : ℕ) (e : SenderEnd T) (seen : PublishLooks T) (result : Result (Unit {0}) Refusal)
-    → e.plan ≡ k → get_elem? w.senders p ≡ some e.knows → TellsWrites k w writes e → PublishSees e lo hi seen
+    → get_elem? w.senders p ≡ some e.knows → TellsWrites k w writes e → PublishSees e lo hi seen
     → IsAnswerOf (publish_causes lo hi (tests_of_publication k lo hi seen)) (as_end result) → DecidesPublication k w lo hi seen result
     → RepliesIn k (picture_with k w writes) (Publish p lo hi) (unit_reply Published result)
-publish_replies_of {T} k w K writes p lo hi e seen result plan at tells sees answer decides =
+publish_replies_of {T} k w K writes p lo hi e seen result at tells sees answer decides =
     let P : Shape T → Type 0 =
     λ q. KeepsRule q w → TellsWrites q w writes e → IsAnswerOf (publish_causes lo hi (tests_of_publication q lo hi seen)) (as_end result)
     → DecidesPublication q w lo hi seen result → RepliesIn q (picture_with q w writes) (Publish p lo hi) (unit_reply Published result) in
-    subst P plan (λ L t a d. publish_replies e w L writes p lo hi seen at t sees result a d) K tells answer decides
+    subst P (K.sent p e.knows at).plan (λ L t a d. publish_replies e w L writes p lo hi seen at t sees result a d) K tells answer decides

@@ -45,21 +45,21 @@ module _ {T : Type 0} where
   -- the ends of a new ring are all of its ends
   pub all_fresh : (k : Shape T) (ss : List (SenderEnd T)) (rs : List (ReceiverEnd T)) (t : HalterEnd T) → AreFreshEnds k ss rs t → AreAllEnds ss rs t
   all_fresh k ss rs t F =
-      let plan : t.plan ≡ k = ap (λ (e : HalterEnd T). e.plan) F.halter in
+      let plan : t.knows.plan ≡ k = ap (λ (e : HalterEnd T). e.knows.plan) F.halter in
       let place : ℕ → EndPlace T = λ i. (t.ring, k, i) in record {
-        senders = ap length F.senders ∙ length-map (fresh_senders 0 k.senders) (sender_at_ring t.ring k) ∙ senders_count T 0 k.senders
+        senders = ap length F.senders ∙ length-map (fresh_senders k 0 k.senders) (λ (r : SenderRecord T). sender_at_ring t.ring r) ∙ senders_count T k 0 k.senders
             ∙ ap (λ (p : Shape T). p.senders) (sym plan);
-        receivers = ap length F.receivers ∙ length-map (fresh_receivers 0 (handlers_of k)) (receiver_at_ring t.ring k) ∙ receivers_count T 0 (handlers_of k)
-            ∙ ap handlers_of (sym plan);
+        receivers = ap length F.receivers ∙ length-map (fresh_receivers k 0 (handlers_of k)) (λ (r : ReceiverRecord T). receiver_at_ring t.ring r)
+            ∙ receivers_count T k 0 (handlers_of k) ∙ ap handlers_of (sym plan);
         each_sender = subst (λ (p : Shape T). AreInPlace sender_place t.ring p ss) (sym plan)
-            (fresh_in_place sender_place t.ring k (sender_at_ring t.ring k) (fresh_senders 0 k.senders) ss
-            (λ p r at. (let number : r.number ≡ p = ap (λ (q : SenderRecord T). q.number) (sender_fresh 0 k.senders p r at) ∙ omega arith in ap place number))
+            (fresh_in_place sender_place t.ring k (λ (r : SenderRecord T). sender_at_ring t.ring r) (fresh_senders k 0 k.senders) ss
+            (λ p r at. (let z : 0 + p ≡ p = omega arith in
+            ap (λ (q : SenderRecord T). sender_place (sender_at_ring t.ring q)) (sender_fresh k 0 k.senders p r at) ∙ ap place z))
             F.senders);
         each_receiver = subst (λ (p : Shape T). AreInPlace receiver_place t.ring p rs) (sym plan)
-            (fresh_in_place receiver_place t.ring k (receiver_at_ring t.ring k) (fresh_receivers 0 (handlers_of k)) rs
-            (λ h r at.
-            (let number : r.number ≡ h =
-            ap (λ (q : ReceiverRecord T). q.number) (receiver_fresh 0 (handlers_of k) h r at) ∙ omega arith in ap place number))
+            (fresh_in_place receiver_place t.ring k (λ (r : ReceiverRecord T). receiver_at_ring t.ring r) (fresh_receivers k 0 (handlers_of k)) rs
+            (λ h r at. (let z : 0 + h ≡ h = omega arith in
+            ap (λ (q : ReceiverRecord T). receiver_place (receiver_at_ring t.ring q)) (receiver_fresh k 0 (handlers_of k) h r at) ∙ ap place z))
             F.receivers);
       }
 
@@ -69,7 +69,7 @@ module _ {T : Type 0} where
   all_sender ss rs t p e e' A at place = record {
     senders = length-set ss p e' ∙ A.senders;
     receivers = A.receivers;
-    each_sender = place_stays sender_place t.ring t.plan ss p e e' A.each_sender at place;
+    each_sender = place_stays sender_place t.ring t.knows.plan ss p e e' A.each_sender at place;
     each_receiver = A.each_receiver;
   }
 
@@ -80,11 +80,11 @@ module _ {T : Type 0} where
     senders = A.senders;
     receivers = length-set rs h e' ∙ A.receivers;
     each_sender = A.each_sender;
-    each_receiver = place_stays receiver_place t.ring t.plan rs h e e' A.each_receiver at place;
+    each_receiver = place_stays receiver_place t.ring t.knows.plan rs h e e' A.each_receiver at place;
   }
 
   -- the halter halts
-  pub all_halter : (ss : List (SenderEnd T)) (rs : List (ReceiverEnd T)) (t t' : HalterEnd T) → AreAllEnds ss rs t → t'.ring ≡ t.ring → t'.plan ≡ t.plan
+  pub all_halter : (ss : List (SenderEnd T)) (rs : List (ReceiverEnd T)) (t t' : HalterEnd T) → AreAllEnds ss rs t → t'.ring ≡ t.ring → t'.knows.plan ≡ t.knows.plan
       → AreAllEnds ss rs t'
   all_halter ss rs t t' A ring plan = record {
     senders = A.senders ∙ ap (λ (k : Shape T). k.senders) (sym plan);

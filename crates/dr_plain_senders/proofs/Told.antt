@@ -49,11 +49,11 @@ module _ {T : Type 0} where
   exchanges w p c n r true = refl
   exchanges w p c n r false = refl
 
-  pub look_tells : (w : World T) (g : ℕ) (q : ReceiverRecord T) → get_elem? w.receivers g ≡ some q → tells_drained q (word_at w.words claim_word) ≡ true
-      → Contains (if tells_drained (receiver_at w g) (word_at w.words claim_word) then told_drained g ∷ [] else []) (told_drained {T = T} g)
-  look_tells w g q at tells =
+  pub look_tells : (k : Shape T) (w : World T) (g : ℕ) (q : ReceiverRecord T) → get_elem? w.receivers g ≡ some q → tells_drained q (word_at w.words claim_word) ≡ true
+      → Contains (if tells_drained (receiver_at k w g) (word_at w.words claim_word) then told_drained g ∷ [] else []) (told_drained {T = T} g)
+  look_tells k w g q at tells =
       let n = word_at w.words claim_word in
-      let here : tells_drained (receiver_at w g) n ≡ true = ap (λ (x : ReceiverRecord T). tells_drained x n) (is_receiver w g q at) ∙ tells in
+      let here : tells_drained (receiver_at k w g) n ≡ true = ap (λ (x : ReceiverRecord T). tells_drained x n) (is_receiver k w g q at) ∙ tells in
       subst (λ (b : Bool). Contains (if b then told_drained g ∷ [] else []) (told_drained {T = T} g)) (sym here) (0, omega arith, refl)
 
   pub same_receivers : (k : Shape T) (p s : ℕ) (events : List T) (w u : World T) → PublishesAll k p s events w u → u.receivers ≡ w.receivers
@@ -95,6 +95,6 @@ module _ {T : Type 0} where
   were_told k tell steps es w R h r at heard =
       elim (told_runs (Happens k) (entries_of k) (λ (x : World T). x.receivers) was_told (λ s v u j H. told_step k tell s v u j H) steps es (new_world k) w h R
       (r, at, heard)) [
-        | inl before ↦ absurd (false≢true (sym (ap was_told (receiver_fresh 0 (handlers_of k) h before.0 before.1)) ∙ before.2))
+        | inl before ↦ absurd (false≢true (sym (ap was_told (receiver_fresh k 0 (handlers_of k) h before.0 before.1)) ∙ before.2))
         | inr told ↦ told
       ]

@@ -60,12 +60,12 @@ module _ {T : Type 0} where
   ]
 
   -- where each sender of a new ring stands in the first view
-  sender_in : (k : Shape T) (p : ℕ) → p < k.senders → get_elem? (fresh_ends {T = T} k) (suc p) ≡ some (Sends (fresh_sender p))
+  sender_in : (k : Shape T) (p : ℕ) → p < k.senders → get_elem? (fresh_ends {T = T} k) (suc p) ≡ some (Sends (fresh_sender k p))
   sender_in k p lt =
-      let count = senders_count T 0 k.senders in let t = there (fresh_senders {T = T} 0 k.senders) p (omega arith) in
-      let is : t.0 ≡ fresh_sender p = sender_fresh 0 k.senders p t.0 t.1 ∙ (let z : 0 + p ≡ p = omega arith in ap fresh_sender z) in
-      at_longer (known_senders 0 k.senders) (known_receivers 0 (handlers_of k)) p (Sends (fresh_sender p))
-      (map_there (λ (r : SenderRecord T). Sends r) (fresh_senders 0 k.senders) p (fresh_sender p) (t.1 ∙ ap (λ (r : SenderRecord T). some r) is))
+      let count = senders_count T k 0 k.senders in let t = there (fresh_senders k 0 k.senders) p (omega arith) in
+      let is : t.0 ≡ fresh_sender k p = sender_fresh k 0 k.senders p t.0 t.1 ∙ (let z : 0 + p ≡ p = omega arith in ap (fresh_sender k) z) in
+      at_longer (known_senders k 0 k.senders) (known_receivers k 0 (handlers_of k)) p (Sends (fresh_sender k p))
+      (map_there (λ (r : SenderRecord T). Sends r) (fresh_senders k 0 k.senders) p (fresh_sender k p) (t.1 ∙ ap (λ (r : SenderRecord T). some r) is))
 
   -- what lies in a cell while nothing is claimed
   first_laid : (k : Shape T) (w : World T) (homes : List (maybe.Option (Token T))) (i : ℕ) (a : Laid T) → i < k.size → LiesIn k w.receivers w.stages homes i a
@@ -84,9 +84,9 @@ module _ {T : Type 0} where
             let w = R.world in let K = kept_of k w R.reached in
             let fresh : (p : ℕ) (r : SenderRecord T) → get_elem? w.senders p ≡ some r → r.own ≡ [] = λ p r at.
             (let below = at_below w.senders p r at in let all = K.inlets in
-            let stands : get_elem? w.senders p ≡ some (fresh_sender p) =
-            (R.each_end id (all_ends k) F.1.1 (suc p) (Sends (fresh_sender p)) (sender_in k p (omega arith))).1 in
-            ap (λ (q : SenderRecord T). q.own) (some-injective r (fresh_sender p) (sym at ∙ stands))) in
+            let stands : get_elem? w.senders p ≡ some (fresh_sender k p) =
+            (R.each_end id (all_ends k) F.1.1 (suc p) (Sends (fresh_sender k p)) (sender_in k p (omega arith))).1 in
+            ap (λ (q : SenderRecord T). q.own) (some-injective r (fresh_sender k p) (sym at ∙ stands))) in
             let none = none_claimed w (owned_since k R.reached.steps R.reached.entries w R.reached.made R.reached.runs) fresh in
             let laid = R.lies.lies i (omega arith) (omega arith) (λ s e. absurd (omega arith)) in
             let x = first_laid k w F.0.homes i laid.0 lt laid.1 in (x.0, F.4 i (token_at k.strip i (whole x.0)) x.1))

@@ -1,14 +1,13 @@
 //! What a claim is made of.
 
-ghost use Rattle.std.specs.Prelude.{◌≡◌, ◌+◌, ◌^◌, ◌≤◌, IfOk};
-ghost use Rattle.dr_plain_senders.specs.Calls.Ends.{HasLoaded};
+ghost use Rattle.std.specs.Prelude.{◌+◌, ◌^◌, ◌≤◌, IfOk};
+ghost use Rattle.dr_lent.specs.Ends.{HasLoaded};
 ghost use Rattle.dr_plain_senders.specs.Calls.Sending.{ClaimCall, IsCount};
 ghost use Rattle.dr_plain_senders.specs.Inside.Scans.{Scans, ClaimsApart, ClaimTakes};
 
 use crate::laws::SenderStation;
 use crate::plan::HALT_BIT;
 use dr_meaning::{ClaimFault, Claimed, Refusal};
-use std::marker::Brand;
 
 impl<T> SenderStation<T> {
     /// Claims the next `n` sequences. It looks at the claim word, then at each final handler's
@@ -28,7 +27,7 @@ impl<T> SenderStation<T> {
         // All sequences that it had are earlier, and none that is not published loses its cell to these.
         ensures own { IfOk result (λ c. ClaimsApart self.old c.lo n) }
         // They are at least one and at most as many as the cells, and all of them are below 2^62.
-        ensures fits { IfOk result (λ c. (c.lo + n ≤ 2 ^ 62) × IsCount self.old.plan n) }
+        ensures fits { IfOk result (λ c. (c.lo + n ≤ 2 ^ 62) × IsCount self.old.knows.plan n) }
     {
         let size = self.plan().size().get();
         let limit = self.plan().limit();
@@ -46,7 +45,7 @@ impl<T> SenderStation<T> {
         if !self.has_room(upto.saturating_sub(size)) {
             return Err(ClaimFault::Refused(Refusal::NoRoom));
         }
-        let found = self.claim::<Brand>(lo, n);
+        let found = self.claim(lo, n);
         if found == lo {
             return Ok(Claimed { lo, hi: upto - 1 });
         }
@@ -60,7 +59,7 @@ impl<T> SenderStation<T> {
     /// up to the first that is less.
     pub(crate) fn has_room(&mut self, need: u64) -> bool
         ensures only { HasLoaded self.old self.new.knows self.old.hand self.new }
-        ensures answer { Scans self.old.plan self.old.knows need self.new.knows result }
+        ensures answer { Scans self.old.knows need self.new.knows result }
     {
         for place in 0..self.plan().finals().len() {
             let handler = self.plan().finals()[place];

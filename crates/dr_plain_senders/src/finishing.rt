@@ -86,7 +86,7 @@ pub(crate) fn bring_sender<T>(
     brought: &mut Vec<bool>,
 )
     requires table { (seat.old.table_id ≡ words.now.table_id) × (sender.ring ≡ words.now.table_id) × (0 < words.now.table_id.words) }
-    requires plan { (sender.plan ≡ plan.now) × (0 < plan.now.size) }
+    requires plan { (sender.knows.plan ≡ plan.now) × (0 < plan.now.size) }
     requires places { (length tokens.old.items ≡ plan.now.size) × (length brought.old.items ≡ plan.now.size) }
     ensures seat { (seat.new.table_id ≡ seat.old.table_id) × (seat.new.me.1 ≡ seat.old.me.1) }
     ensures view { (own : View (EndRecord T) (Step T)) × IsInView ring_ends own (sender_known sender) × (seat.new.me.0 ≡ both_views seat.old.me.0 own) }
@@ -111,7 +111,7 @@ pub(crate) fn bring_receiver<T>(
     ensures seat { (seat.new.table_id ≡ seat.old.table_id) × (seat.new.me.1 ≡ seat.old.me.1) }
     ensures view { (own : View (EndRecord T) (Step T)) × IsInView ring_ends own (receiver_known receiver) × (seat.new.me.0 ≡ both_views seat.old.me.0 own) }
     ensures counts { counts.new.items ≡ slice_set counts.old.items place (handler_counts receiver.knows) }
-    ensures hands { (parts : List (TokenValue T)) × PartsFit receiver.plan receiver.knows parts × (map (λ hand. hand.items) hands.new.items ≡ slice_set (map (λ hand. hand.items) hands.old.items) place parts) }
+    ensures hands { (parts : List (TokenValue T)) × PartsFit receiver.knows parts × (map (λ hand. hand.items) hands.new.items ≡ slice_set (map (λ hand. hand.items) hands.old.items) place parts) }
 {
     counts[place] = HandlerCounts {
         taken: receiver.taken,
@@ -132,7 +132,7 @@ fn gather_senders<T: Drop>(
 )
     requires table { (seat.old.table_id ≡ words.now.table_id) × (0 < words.now.table_id.words) }
     requires senders { AreSendersAt seat.old.table_id senders.items }
-    requires plans { (p : ℕ) (e : SenderEnd T) → get_elem? senders.items p ≡ some e → e.plan ≡ plan.now }
+    requires plans { (p : ℕ) (e : SenderEnd T) → get_elem? senders.items p ≡ some e → e.knows.plan ≡ plan.now }
     requires size { 0 < plan.now.size }
     requires places { (length tokens.old.items ≡ plan.now.size) × (brought.old.items ≡ replicate plan.now.size false) }
     ensures seat { (seat.new.table_id ≡ seat.old.table_id) × (seat.new.me.1 ≡ seat.old.me.1) }
@@ -217,7 +217,7 @@ pub fn settle_all<T: Drop>(
     ensures ends { (result.0.senders.value.items ≡ senders.items) × (result.0.receivers.value.items ≡ receivers.items) × (result.0.halter.value ≡ halter) }
     ensures handlers { result.0.handlers.items ≡ map (λ e. handler_counts e.knows) receivers.items }
     ensures run { HasRun senders.items receivers.items halter result.0.claimed result.0.is_halted }
-    ensures events { GivesBack halter.plan result.0.claimed senders.items result.1 }
+    ensures events { GivesBack halter.knows.plan result.0.claimed senders.items result.1 }
 {
     let ends = (
         Snapshot::of(&senders),

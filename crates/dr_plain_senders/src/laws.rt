@@ -32,7 +32,6 @@ pub use halter::Halter;
 pub use receiver::ReceiverStation;
 pub use sender::SenderStation;
 use std::alloc::Global;
-use std::marker::Brand;
 
 /// The rule that every step keeps.
 pub struct RingRule;
@@ -54,25 +53,6 @@ pub type RingTable<T> = Table<Token<T>, View<T>, Plan<T>, RingRule, Global>;
 /// What an end steps with.
 pub type RingSeat<T> = Seat<Token<T>, View<T>>;
 
-/// What a step names, for its proof alone: what the ring is made for, and a sequence or how many
-/// events there is room for.
-pub trait Names<T> {
-    ghost plan: { Shape T };
-
-    ghost number: { ℕ };
-
-    ghost use Rattle.std.specs.Prelude.{ℕ};
-    ghost use Rattle.dr_plain_senders.specs.Meaning.Shape.{Shape};
-}
-
-impl<T> Names<T> for Brand {
-    ghost use Rattle.dr_plain_senders.specs.Inside.Seats.{no_shape};
-
-    ghost plan = { no_shape };
-
-    ghost number = { 0 };
-}
-
 /// Whatever steps fall in whatever order: between any two of them the rule holds, the entries of
 /// their events lead the machine to the ring's picture, in which nobody is stuck, and the
 /// transcript has the five laws. Whatever senders wrote besides and did not publish, those writes
@@ -83,8 +63,8 @@ impl<T> Names<T> for Brand {
 /// publication of a whole stretch and a poll that takes nothing by what the deciding look finds, a
 /// write of one's own sequence and a completion are answered as the machine then replies. A poll
 /// hands over at least what the picture had at any moment since its receiver last stepped. An
-/// end that was told `Drained` was told so by a poll of the transcript. No handler's count
-/// falls, and no claim is taken back. Once a ring is halted, nothing more is claimed. It does
+/// end that was told `Drained` was told so by a poll of the transcript. No word
+/// falls but those with marks, and no claim is taken back. Once a ring is halted, nothing more is claimed. It does
 /// nothing when it runs: the contract is the theorem.
 pub fn moments<T>()
     // Between any two steps the ring's rule holds.
@@ -109,7 +89,7 @@ pub fn moments<T>()
     ensures replies { (k : Shape T) (steps : List (Step T)) (entries : Transcript T) (w : World T) → IsShape k → Runs k steps entries (new_world k) w → RepliesAsAnswered k w }
     // As far as there is room, a poll hands over what was there at any moment since its receiver's last step.
     ensures hands { (k : Shape T) (steps more : List (Step T)) (entries rest : Transcript T) (w u : World T) → IsShape k → Runs k steps entries (new_world k) w → Runs k more rest w u → HandsWhatWasThere k w u }
-    // No handler's count falls, and no claim is taken back.
+    // No word falls but those with marks, and no claim is taken back.
     ensures rises { (k : Shape T) (steps more : List (Step T)) (entries rest : Transcript T) (w u : World T) → IsShape k → Runs k steps entries (new_world k) w → Runs k more rest w u → NothingFalls k w u }
     // Once the ring is halted, nothing more is claimed.
     ensures halted { (k : Shape T) (steps more : List (Step T)) (entries rest : Transcript T) (w u : World T) → IsShape k → Runs k steps entries (new_world k) w → Runs k more rest w u → is_halted (slice_index w.words claim_word) ≡ true → length u.stages ≡ length w.stages }

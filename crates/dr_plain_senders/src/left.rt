@@ -3,17 +3,14 @@
 use crate::brought_together::BroughtTogether;
 use crate::laws::{RingSeat, Words};
 use crate::owned::Owned;
-use crate::plan::Plan;
 use dr_cells::{Strip, Token};
 use dr_places::Belongs;
 use std::marker::Model;
-use std::snapshot::Snapshot;
 
 /// What a sender leaves: all that it has but the ring.
 #[derive(Drop)]
 pub struct SenderLeft<T> {
     pub(crate) seat: RingSeat<T>,
-    pub(crate) plan: Snapshot<Plan<T>>,
     pub(crate) owned: Owned,
     pub(crate) end: u64,
     pub(crate) tokens: Vec<Token<T>>,
@@ -29,9 +26,9 @@ impl<T> Model for SenderLeft<T> {
 
     ghost Value = { SenderEnd T };
 
-    ghost view = { λ s. sender_end (sender_stand s.seat.table_id s.plan.value s.seat.me) s.owned s.tokens.items };
+    ghost view = { λ s. sender_end (sender_stand s.seat.table_id s.seat.me) s.owned s.tokens.items };
 
-    ghost invariant = { λ s. IsSender (end_of s.seat.me) × SenderFits (sender_stand s.seat.table_id s.plan.value s.seat.me) s.owned s.end s.tokens.items };
+    ghost invariant = { λ s. IsSender (end_of s.seat.me) × SenderFits (sender_stand s.seat.table_id s.seat.me) s.owned s.end s.tokens.items };
 }
 
 impl<T> Belongs<Words<T>> for SenderLeft<T> {
@@ -44,7 +41,6 @@ impl<T> Belongs<Words<T>> for SenderLeft<T> {
 #[derive(Drop)]
 pub struct ReceiverLeft<T> {
     pub(crate) seat: RingSeat<T>,
-    pub(crate) plan: Snapshot<Plan<T>>,
     pub(crate) taken: u64,
     pub(crate) completed: u64,
     pub(crate) parts: Vec<Token<T>>,
@@ -60,9 +56,9 @@ impl<T> Model for ReceiverLeft<T> {
 
     ghost Value = { ReceiverEnd T };
 
-    ghost view = { λ s. receiver_end (receiver_stand s.seat.table_id s.plan.value s.seat.me) };
+    ghost view = { λ s. receiver_end (receiver_stand s.seat.table_id s.seat.me) };
 
-    ghost invariant = { λ s. IsReceiver (end_of s.seat.me) × ReceiverFits (receiver_stand s.seat.table_id s.plan.value s.seat.me) s.taken s.completed s.parts.items };
+    ghost invariant = { λ s. IsReceiver (end_of s.seat.me) × ReceiverFits (receiver_stand s.seat.table_id s.seat.me) s.taken s.completed s.parts.items };
 }
 
 impl<T> Belongs<Words<T>> for ReceiverLeft<T> {
@@ -75,7 +71,6 @@ impl<T> Belongs<Words<T>> for ReceiverLeft<T> {
 #[derive(Drop)]
 pub struct HalterLeft<T> {
     pub(crate) seat: RingSeat<T>,
-    pub(crate) plan: Snapshot<Plan<T>>,
     pub(crate) strip: Strip<T>,
     pub(crate) gathered: BroughtTogether<T>,
 }
@@ -88,9 +83,9 @@ impl<T> Model for HalterLeft<T> {
 
     ghost Value = { HalterEnd T };
 
-    ghost view = { λ s. halter_end s.seat.table_id s.plan.value s.seat.me };
+    ghost view = { λ s. halter_end s.seat.table_id s.seat.me };
 
-    ghost invariant = { λ s. HalterKeeps s.plan.value (end_of s.seat.me) s.strip.cells.ptr s.strip.len s.gathered };
+    ghost invariant = { λ s. HalterKeeps (end_of s.seat.me) s.strip.cells.ptr s.strip.len s.gathered };
 }
 
 impl<T> Belongs<Words<T>> for HalterLeft<T> {

@@ -12,7 +12,6 @@ ghost use Rattle.dr_plain_senders.specs.Meaning.Moments.{fresh_senders, fresh_re
 ghost use Rattle.dr_plain_senders.specs.Calls.Plans.{IsPlan};
 ghost use Rattle.dr_runs.specs.Seats.{fresh_seat};
 ghost use Rattle.dr_plain_senders.specs.Inside.Seats.{IsAtTable, known_senders, known_receivers, fresh_ends};
-ghost use Rattle.dr_plain_senders.specs.Inside.Stations.{IsKeyed};
 ghost use Rattle.dr_plain_senders.specs.Inside.Making.{AreFirst};
 ghost use Rattle.dr_plain_senders.specs.Inside.Rooms.{unmarked, AreBlankRows, AreRooms};
 ghost use Rattle.dr_plain_senders.specs.Calls.Making.{sender_at_ring, receiver_at_ring, AreFreshEnds, fault_of};
@@ -46,14 +45,14 @@ fn senders<T: Drop>(
     mut senders: Vec<Sender<T>>,
 ) -> Result<(Vec<Sender<T>>, RingSeat<T>), AllocError>
     requires table { IsAtTable rest.table_id (arc_value ring.now).table.shared.table_id (arc_value ring.now).plan }
-    requires keyed { IsKeyed (arc_value ring.now).table.shared.key (arc_value ring.now).plan }
-    requires all { rest.me ≡ fresh_seat (known_senders 0 (arc_value ring.now).plan.senders ++ known_receivers 0 (handlers_of (arc_value ring.now).plan)) }
+    requires made { IsPlan (arc_value ring.now).plan }
+    requires all { rest.me ≡ fresh_seat (known_senders (arc_value ring.now).plan 0 (arc_value ring.now).plan.senders ++ known_receivers (arc_value ring.now).plan 0 (handlers_of (arc_value ring.now).plan)) }
     requires marks { marks.items ≡ replicate (arc_value ring.now).plan.senders (unmarked (arc_value ring.now).plan.size) }
     requires rows { AreBlankRows (arc_value ring.now).plan.senders (arc_value ring.now).plan.size rows.items }
     requires none { senders.items ≡ [] }
-    ensures senders { IfOk result (λ made. made.0.items ≡ map (sender_at_ring rest.table_id (arc_value ring.now).plan) (fresh_senders 0 (arc_value ring.now).plan.senders)) }
+    ensures senders { IfOk result (λ made. made.0.items ≡ map (λ r. sender_at_ring rest.table_id r) (fresh_senders (arc_value ring.now).plan 0 (arc_value ring.now).plan.senders)) }
     ensures table { IfOk result (λ made. made.1.table_id ≡ rest.table_id) }
-    ensures rest { IfOk result (λ made. made.1.me ≡ fresh_seat (known_receivers 0 (handlers_of (arc_value ring.now).plan))) }
+    ensures rest { IfOk result (λ made. made.1.me ≡ fresh_seat (known_receivers (arc_value ring.now).plan 0 (handlers_of (arc_value ring.now).plan))) }
 {
     let count = ring.plan.senders();
     for number in 0..count {
@@ -82,11 +81,11 @@ fn receivers<T: Drop>(
     mut receivers: Vec<Receiver<T>>,
 ) -> Result<Vec<Receiver<T>>, AllocError>
     requires table { IsAtTable rest.table_id (arc_value ring.now).table.shared.table_id (arc_value ring.now).plan }
-    requires keyed { IsKeyed (arc_value ring.now).table.shared.key (arc_value ring.now).plan }
-    requires all { rest.me ≡ fresh_seat (known_receivers 0 (handlers_of (arc_value ring.now).plan)) }
+    requires made { IsPlan (arc_value ring.now).plan }
+    requires all { rest.me ≡ fresh_seat (known_receivers (arc_value ring.now).plan 0 (handlers_of (arc_value ring.now).plan)) }
     requires rows { AreBlankRows (handlers_of (arc_value ring.now).plan) (arc_value ring.now).plan.size rows.items }
     requires none { receivers.items ≡ [] }
-    ensures { IfOk result (λ v. v.items ≡ map (receiver_at_ring rest.table_id (arc_value ring.now).plan) (fresh_receivers 0 (handlers_of (arc_value ring.now).plan))) }
+    ensures { IfOk result (λ v. v.items ≡ map (λ r. receiver_at_ring rest.table_id r) (fresh_receivers (arc_value ring.now).plan 0 (handlers_of (arc_value ring.now).plan))) }
 {
     let handlers = ring.plan.handlers();
     for number in 0..handlers {
@@ -131,7 +130,7 @@ fn assemble<T: Drop>(
     lists: Lists<T>,
 ) -> Result<(Vec<Sender<T>>, Vec<Receiver<T>>, Halter<T>), AllocError>
     requires table { IsAtTable seat.table_id (arc_value ring).table.shared.table_id (arc_value ring).plan }
-    requires keyed { IsKeyed (arc_value ring).table.shared.key (arc_value ring).plan }
+    requires made { IsPlan (arc_value ring).plan }
     requires all { seat.me ≡ fresh_seat (fresh_ends (arc_value ring).plan) }
     requires strip { ((arc_value ring).plan.strip ≡ strip.cells.ptr) × ((arc_value ring).plan.size ≡ strip.len) }
     requires rooms { AreRooms (arc_value ring).plan rooms }

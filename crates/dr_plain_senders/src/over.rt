@@ -30,7 +30,7 @@ fn gather_senders_left<T>(
 )
     requires table { (seat.old.table_id ≡ words.now.table_id) × (0 < words.now.table_id.words) }
     requires senders { AreSendersAt seat.old.table_id senders }
-    requires plans { (p : ℕ) (e : SenderEnd T) → get_elem? senders p ≡ some e → e.plan ≡ plan.now }
+    requires plans { (p : ℕ) (e : SenderEnd T) → get_elem? senders p ≡ some e → e.knows.plan ≡ plan.now }
     requires size { 0 < plan.now.size }
     requires places { (length tokens.old.items ≡ plan.now.size) × (brought.old.items ≡ replicate plan.now.size false) }
     ensures seat { (seat.new.table_id ≡ seat.old.table_id) × (seat.new.me.1 ≡ seat.old.me.1) }

@@ -8,7 +8,7 @@ ghost use Rattle.dr_plain_senders.specs.declared.record.Step.TheVariants.{Sender
 ghost use Rattle.dr_plain_senders.specs.Meaning.Words.{in_word};
 ghost use Rattle.dr_plain_senders.specs.Meaning.Records.{Owns, has_published};
 ghost use Rattle.dr_lent.specs.Events.{events_of};
-ghost use Rattle.dr_plain_senders.specs.Calls.Ends.{HasStored};
+ghost use Rattle.dr_lent.specs.Ends.{HasStored};
 ghost use Rattle.dr_plain_senders.specs.Calls.Publishing.{PublishCall};
 ghost use Rattle.dr_plain_senders.specs.Inside.Fits.{SenderFits};
 ghost use Rattle.dr_plain_senders.specs.Inside.Owned.{is_ready};
@@ -35,7 +35,7 @@ pub(crate) fn publish_run<T>(
     upto: u64,
 )
     requires fits { SenderFits station.old owned.old end tokens.old.items }
-    requires order { (lo < upto) × (upto ≤ lo + in_word station.old.plan lo) }
+    requires order { (lo < upto) × (upto ≤ lo + in_word station.old.knows.plan lo) }
     requires ready { (s : ℕ) → lo ≤ s → s < upto → is_ready owned.old s ≡ true }
     ensures fits { SenderFits station.new owned.new end tokens.new.items }
     ensures published { HasPublishedRun station.old owned.old tokens.old.items lo upto station.new owned.new tokens.new.items }
@@ -92,10 +92,10 @@ impl<T> SenderStation<T> {
     /// in hand.
     pub(crate) fn publish_rows(&mut self, sequence: u64, count: u64)
         requires some { 0 < count }
-        requires word { count ≤ in_word self.old.plan sequence }
+        requires word { count ≤ in_word self.old.knows.plan sequence }
         requires own { (i : ℕ) → i < count → (t : Stage T) × Owns self.old.knows (sequence + i) t × (t.lent ≡ None) }
-        requires hand { (lents : List (Lent T)) × (others : Hand T) × (length lents ≡ count) × (self.old.hand ≡ given_by_publication self.old.plan sequence lents ++ others) }
-        ensures { (lents : List (Lent T)) → (others : Hand T) → length lents ≡ count → self.old.hand ≡ given_by_publication self.old.plan sequence lents ++ others → HasStored self.old (SenderPublishes self.old.knows.number sequence (events_of lents)) (has_published self.old.knows sequence lents) others self.new }
+        requires hand { (lents : List (Lent T)) × (others : Hand T) × (length lents ≡ count) × (self.old.hand ≡ given_by_publication self.old.knows.plan sequence lents ++ others) }
+        ensures { (lents : List (Lent T)) → (others : Hand T) → length lents ≡ count → self.old.hand ≡ given_by_publication self.old.knows.plan sequence lents ++ others → HasStored self.old (SenderPublishes self.old.knows.number sequence (events_of lents)) (has_published self.old.knows sequence lents) others self.new }
     {
         self.publish::<Brand, Brand>(sequence, count);
     }

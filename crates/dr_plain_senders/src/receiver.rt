@@ -9,16 +9,16 @@ ghost use Rattle.dr_plain_senders.specs.Inside.Fits.{ReceiverFits};
 ghost use Rattle.dr_plain_senders.specs.Inside.Leaving.{BelongsReceiver};
 ghost use Rattle.dr_plain_senders.specs.Inside.Views.{receiver_end};
 
-use crate::answers::{claimed_in, nothing_offered};
+use crate::answers::claimed_in;
 use crate::body::RingBody;
 use crate::laws::ReceiverStation;
 use crate::left::ReceiverLeft;
 use crate::plan::HALT_BIT;
 use dr_cells::Token;
 use dr_meaning::{Polled, Refusal};
+use dr_runs::nothing_offered;
 use std::alloc::Global;
-use std::marker::{Brand, Model};
-use std::snapshot::Snapshot;
+use std::marker::Model;
 use std::sync::Arc;
 
 /// The end of one handler, which receives every event after its upstreams. No call waits or takes
@@ -119,7 +119,7 @@ impl<T> Receiver<T> {
         self.station
             .give_back(self.completed, upto, &mut self.parts);
         self.station.turn_all(self.taken - upto);
-        self.station.complete::<Brand>(upto);
+        self.station.complete(upto);
         self.completed = upto;
         Ok(())
     }
@@ -166,10 +166,8 @@ impl<T> Receiver<T> {
             number,
             looks: _,
         } = station;
-        let plan = Snapshot::of(&ring.plan);
         let left = ReceiverLeft {
             seat,
-            plan,
             taken,
             completed,
             parts,

@@ -1,5 +1,6 @@
-//! What the ends know. No value of a record is ever made: they stand in proofs alone.
+//! What the ends of a ring know. No value of a record is ever made: they stand in proofs alone.
 
+use crate::plan::Plan;
 pub use dr_lent::Lent;
 use dr_runs::Look;
 use std::collections::LinkedList;
@@ -28,6 +29,7 @@ pub struct MarkLook {
 /// What a sender knows: its number, the sequences that it claimed, and its looks, those at marks
 /// apart.
 pub struct SenderRecord<T> {
+    pub plan: Plan<T>,
     pub number: u64,
     pub own: LinkedList<Own<T>>,
     pub marks: LinkedList<MarkLook>,
@@ -37,6 +39,7 @@ pub struct SenderRecord<T> {
 /// What a receiver knows: its number, the events that it received, each as it was lent, how many it
 /// completed, whether it was told that the ring drained, and its looks, those at marks apart.
 pub struct ReceiverRecord<T> {
+    pub plan: Plan<T>,
     pub number: u64,
     pub received: LinkedList<Lent<T>>,
     pub marks: LinkedList<MarkLook>,
@@ -45,8 +48,9 @@ pub struct ReceiverRecord<T> {
     pub looks: LinkedList<Look>,
 }
 
-/// What the halter knows.
-pub struct HalterRecord {
+/// What the halter knows: what it saw.
+pub struct HalterRecord<T> {
+    pub plan: Plan<T>,
     pub looks: LinkedList<Look>,
 }
 
@@ -54,7 +58,7 @@ pub struct HalterRecord {
 pub enum EndRecord<T> {
     Sends(SenderRecord<T>),
     Receives(ReceiverRecord<T>),
-    Halts(HalterRecord),
+    Halts(HalterRecord<T>),
 }
 
 /// A step of a ring: one atomic change of one word, with what no record tells of it.

@@ -1,7 +1,7 @@
 //! An end that claims, writes and publishes.
 
 ghost use Rattle.std.specs.Arc.{arc_value};
-ghost use Rattle.std.specs.Prelude.{◌≡◌, ◌<◌, ℕ};
+ghost use Rattle.std.specs.Prelude.{◌≡◌, ◌<◌};
 ghost use Rattle.dr_runs.specs.Looks.{looks_counted};
 ghost use Rattle.dr_plain_senders.specs.Calls.Sending.{HaltCall, SenderClaimCall};
 ghost use Rattle.dr_plain_senders.specs.Inside.Fits.{SenderFits};
@@ -16,7 +16,6 @@ use dr_cells::Token;
 use dr_meaning::{ClaimFault, Claimed};
 use std::alloc::Global;
 use std::marker::Model;
-use std::snapshot::Snapshot;
 use std::sync::Arc;
 
 /// An end of one of a ring's senders, which claims, writes and publishes. No call waits or takes
@@ -124,10 +123,8 @@ impl<T> Sender<T> {
             number,
             looks: _,
         } = station;
-        let plan = Snapshot::of(&ring.plan);
         let left = SenderLeft {
             seat,
-            plan,
             owned,
             end,
             tokens,

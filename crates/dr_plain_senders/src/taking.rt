@@ -13,10 +13,10 @@ impl<T> Receiver<T> {
     /// Looks at the word with the mark of its next event, and takes the next events, as many as have
     /// their marks there one after the other and there is room for. Gives up to where they are there.
     pub(crate) fn take_next(&mut self, room: u64) -> u64
-        requires first { ups_of self.old.plan self.old.knows ≡ [] }
+        requires first { ups_of self.old.knows ≡ [] }
         requires small { length self.old.knows.received < 2 ^ 63 }
         ensures loads { OnlyLoads self.old self.new }
-        ensures took { TakesNext self.old.plan self.old.knows room result self.new.knows }
+        ensures took { TakesNext self.old.knows room result self.new.knows }
     {
         let next = self.taken;
         let found = self.station.look_at_mark::<Brand>(next, room);
@@ -31,9 +31,9 @@ impl<T> Receiver<T> {
     /// events, as many as the upstreams then let through and there is room for. Gives up to where
     /// the upstreams let events through.
     pub(crate) fn take_past_upstreams(&mut self, claimed: u64, room: u64) -> u64
-        requires { 0 < length (ups_of self.old.plan self.old.knows) }
+        requires { 0 < length (ups_of self.old.knows) }
         ensures loads { OnlyLoads self.old self.new }
-        ensures took { TakesPast self.old.plan self.old.knows claimed room result self.new.knows }
+        ensures took { TakesPast self.old.knows claimed room result self.new.knows }
     {
         let first = self.taken;
         let available = self.station.look_past_upstreams(claimed, room);
@@ -46,11 +46,11 @@ impl<T> Receiver<T> {
     // Takes its next events, as many as there is room for, word after word of marks, up to the first
     // mark that is not there or to where it has seen all below `end`, and gives where it stopped.
     fn take_each(&mut self, room: u64, end: u64) -> u64
-        requires first { ups_of self.old.plan self.old.knows ≡ [] }
+        requires first { ups_of self.old.knows ≡ [] }
         requires next { (length self.old.knows.received ≤ end) × (end ≤ length self.old.knows.received + room + 1) }
         requires small { end < 2 ^ 63 }
         ensures loads { OnlyLoads self.old self.new }
-        ensures took { TakesEach self.old.plan self.old.knows room end result self.new.knows }
+        ensures took { TakesEach self.old.knows room end result self.new.knows }
     {
         let first = self.taken;
         let mut front = first;
@@ -68,10 +68,10 @@ impl<T> Receiver<T> {
     /// is room for. Where all these are there and more is claimed, it looks on. Gives up to where
     /// the marks that it looked at are there.
     pub(crate) fn take_marked(&mut self, claimed: u64, room: u64) -> u64
-        requires first { ups_of self.old.plan self.old.knows ≡ [] }
+        requires first { ups_of self.old.knows ≡ [] }
         requires claimed { (length self.old.knows.received ≤ claimed) × (claimed < 2 ^ 63) }
         ensures loads { OnlyLoads self.old self.new }
-        ensures took { TakesMarked self.old.plan self.old.knows claimed room result self.new.knows }
+        ensures took { TakesMarked self.old.knows claimed room result self.new.knows }
     {
         let first = self.taken;
         let last = first + room.min(claimed - first);
@@ -93,7 +93,7 @@ impl<T> Receiver<T> {
     pub(crate) fn take_offered(&mut self, claimed: u64, room: u64) -> u64
         requires { (length self.old.knows.received ≤ claimed) × (claimed < 2 ^ 63) }
         ensures loads { OnlyLoads self.old self.new }
-        ensures took { TakesOffered self.old.plan self.old.knows claimed room result self.new.knows }
+        ensures took { TakesOffered self.old.knows claimed room result self.new.knows }
     {
         if self.station.upstreams().is_empty() {
             return self.take_marked(claimed, room);

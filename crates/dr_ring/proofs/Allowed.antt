@@ -238,7 +238,7 @@ tells_count : (k : Shape) (w : World) (r : ReceiverRecord) (u : ℕ) → get_ele
     → Contains (upstreams_of k.upstreams r.number) u → KeepsRule k w
     → (u < handlers_of k) × (length r.received ≤ get_or w.words (count_word u) 0) × (r.told ≡ true → get_or w.words (count_word u) 0 ≤ length r.received)
 tells_count k w r u at has K =
-    let was = K.received r.number r at in let inside = upstream_inside k.upstreams K.graph r.number u (inside_of k w r.number r K at) has in
+    let was = K.received r.number r at in let inside = upstream_inside k.upstreams K.shape.graph r.number u (inside_of k w r.number r K at) has in
     let t = receiver_of_handler k w K u inside in let a = t.2.count in let b = t.2.completed in let c = t.2.taken in
     (inside, was.after u has, λ told. (let d = (was.told told).1 in omega arith))
 

@@ -26,10 +26,9 @@ fresh_count k h (suc n) = ap suc (fresh_count k (suc h) n)
 
 pub kept_opening : (k : Shape) → IsShape k → KeepsRule k (new_world k)
 kept_opening k shape = let n = words_of k in let ws = zeros n in let halt = all_zero n halt_word in let close = all_zero n closed_word in record {
-  graph = shape.graph;
-  some_slot = shape.some_slot;
+  shape = shape;
   wide = (let z : ℕ = 0 in length-replicate n z);
-  ends = fresh_count k 0 (handlers_of k);
+  outlets = fresh_count k 0 (handlers_of k);
   sender_plan = refl;
   halter_plan = refl;
   counts = record { cursor = all_zero n cursor_word; limit = omega arith };

@@ -21,7 +21,8 @@ use Rattle.dr_ring.specs.Calls.Sending.{gate_looks, FoundRoom, TriesToClaim}
 use Rattle.dr_ring.specs.Inside.Scans.{sender_saw, more_claimed, LooksAtFinals, IsEnough, IsShort}
 use Rattle.dr_ring.specs.Inside.Fits.{IsSeenLeast, SenderFields, SenderFits}
 use Rattle.dr_runs.proofs.Answering.{bad_count_fails}
-use Rattle.dr_runs.proofs.Scans.{Rises, rises_then, rises_at_halt}
+use Rattle.dr_runs.specs.OneSender.Scans.{Rises}
+use Rattle.dr_runs.proofs.Scans.{rises_then, rises_at_halt}
 use Rattle.dr_runs.proofs.Looks.{last_look_else}
 use Rattle.dr_ring.proofs.Noting.{noted_claim}
 

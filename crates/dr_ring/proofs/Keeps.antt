@@ -32,11 +32,11 @@ apart k a b i j ne up down low high e = let same : a % k.size ≡ b % k.size = o
 -- what a handler completed, by its word
 pub receiver_of_handler : (k : Shape) (w : World) → KeepsRule k w → (h : ℕ) → h < handlers_of k
     → (r : ReceiverRecord) × (get_elem? w.receivers h ≡ some r) × ReceiverKept k w.words w.sender.sent.published h r
-receiver_of_handler k w K h lt = let count = K.ends in let t = there w.receivers h (omega arith) in (t.0, t.1, K.received h t.0 t.1)
+receiver_of_handler k w K h lt = let count = K.outlets in let t = there w.receivers h (omega arith) in (t.0, t.1, K.received h t.0 t.1)
 
 -- a receiver that is there is a handler's
 pub inside_of : (k : Shape) (w : World) (h : ℕ) (r : ReceiverRecord) → KeepsRule k w → get_elem? w.receivers h ≡ some r → h < handlers_of k
-inside_of k w h r K at = let b = at_below w.receivers h r at in let e = K.ends in omega arith
+inside_of k w h r K at = let b = at_below w.receivers h r at in let e = K.outlets in omega arith
 
 -- completed counts fall along the graph
 pub orderly : (k : Shape) (w : World) → KeepsRule k w → IsOrderly k.upstreams (λ h. word_at w.words (count_word h))
@@ -46,11 +46,11 @@ orderly k w K =
 
 -- no claim is more than a round ahead of any handler
 pub above : (k : Shape) (w : World) → KeepsRule k w → (h : ℕ) → h < handlers_of k → claimed w.sender ≤ k.size + word_at w.words (count_word h)
-above k w K h lt = ahead_of_all k.upstreams w.words k.size (claimed w.sender) K.graph (orderly k w K) K.room h lt
+above k w K h lt = ahead_of_all k.upstreams w.words k.size (claimed w.sender) K.shape.graph (orderly k w K) K.room h lt
 
 pub near : (k : Shape) (w : World) → KeepsRule k w → claimed w.sender ≤ k.size + length w.sender.sent.published
 near k w K =
-    let some_one = K.graph.some in let a = above k w K 0 some_one in let t = receiver_of_handler k w K 0 some_one in
+    let some_one = K.shape.graph.some in let a = above k w K 0 some_one in let t = receiver_of_handler k w K 0 some_one in
     let d = t.2.count in let c = t.2.completed in let b = t.2.taken in omega arith
 
 -- what the sender saw room for has room
@@ -100,10 +100,9 @@ sender_learns : (k : Shape) (w : World) (pending : List (Option Event)) (looks :
     → ArePast k w.words looks → KeepsRule k w
     → KeepsRule k (sender_knows w (record w.sender { sent = record w.sender.sent { pending = pending }; looks = looks }))
 sender_learns k w pending looks limit room payload flags past K = record {
-  graph = K.graph;
-  some_slot = K.some_slot;
+  shape = K.shape;
   wide = K.wide;
-  ends = K.ends;
+  outlets = K.outlets;
   sender_plan = K.sender_plan;
   halter_plan = K.halter_plan;
   counts = record { cursor = K.counts.cursor; limit = limit };
@@ -191,15 +190,14 @@ payload_kept k w i v r low high p1 p2 p3 p4 p5 p6 payload K =
     let wide = K.wide in let us = set w.words i v in let inside : i < length w.words = omega arith in
     let stays : (j : ℕ) → j < payload_start k → word_at us j ≡ word_at w.words j = λ j below. get_or-set_other w.words i j v 0 (λ (e : j ≡ i). omega arith) in
     let halt = stays halt_word (omega arith) in let close = stays closed_word (omega arith) in record {
-      graph = K.graph;
-      some_slot = K.some_slot;
+      shape = K.shape;
       wide = length-set w.words i v ∙ K.wide;
-      ends = K.ends;
+      outlets = K.outlets;
       sender_plan = K.sender_plan;
       halter_plan = K.halter_plan;
       counts = record { cursor = stays cursor_word (omega arith) ∙ K.counts.cursor; limit = let l = K.counts.limit in omega arith };
       received = λ h q at. (let was = K.received h q at in let inside_h = inside_of k w h q K at in
-          receiver_stays k w.words us w.sender.sent.published h q K.graph inside_h (stays (count_word h) (omega arith))
+          receiver_stays k w.words us w.sender.sent.published h q K.shape.graph inside_h (stays (count_word h) (omega arith))
           (λ u lt. (let e = stays (count_word u) (omega arith) in omega arith)) (λ c. close ∙ c)
           (past_set (payload_start k) w.words i v q.looks inside (λ h. absurd (omega arith)) was.looks) was);
       room = (let same : length w.sender.sent.published + length r.sent.pending ≡ claimed w.sender = omega arith in
@@ -220,7 +218,7 @@ stored_else x event t ne = rw (ne_eqb x.sequence t (λ (e : x.sequence ≡ t). n
 payload_first : (k : Shape) (w : World) (s v : ℕ) → IsOpen w.sender s → w.sender.half ≡ None → KeepsRule k w
     → Payload k (set w.words (payload_word k s 0) v) w.sender.sent.published w.sender.sent.pending (Some record { sequence = s; first = v })
 payload_first k w s v is free K =
-    let P = K.payload in let wide = K.wide in let some_slot = K.some_slot in let close = near k w K in let le = is.0 in let lt = is.1 in
+    let P = K.payload in let wide = K.wide in let some_slot = K.shape.some_slot in let close = near k w K in let le = is.0 in let lt = is.1 in
     let i = payload_word k s 0 in let us = set w.words i v in let inside : i < length w.words = omega arith in
     let len = length w.sender.sent.published in
     let stays : (j : ℕ) → j ≢ i → word_at us j ≡ word_at w.words j = λ j ne. get_or-set_other w.words i j v 0 ne in record {
@@ -250,7 +248,7 @@ payload_first k w s v is free K =
 
 pub keeps_first : (k : Shape) (w : World) (s v : ℕ) → IsOpen w.sender s → w.sender.half ≡ None → KeepsRule k w
     → KeepsRule k (sender_stores w (payload_word k s 0) v (half_written w.sender s v))
-keeps_first k w s v is free K = let some_slot = K.some_slot in
+keeps_first k w s v is free K = let some_slot = K.shape.some_slot in
     payload_kept k w (payload_word k s 0) v (half_written w.sender s v) (omega arith) (omega arith) refl refl refl refl refl refl
     (payload_first k w s v is free K) K
 
@@ -258,7 +256,7 @@ payload_second : (k : Shape) (w : World) (x : HalfWrite) (v : ℕ) → w.sender.
     → Payload k (set w.words (payload_word k x.sequence 1) v) w.sender.sent.published
     (set w.sender.sent.pending (x.sequence - length w.sender.sent.published) (Some record { first = x.first; second = v })) None
 payload_second k w x v has K =
-    let P = K.payload in let wide = K.wide in let some_slot = K.some_slot in let close = near k w K in
+    let P = K.payload in let wide = K.wide in let some_slot = K.shape.some_slot in let close = near k w K in
     let s = x.sequence in let event : Event = record { first = x.first; second = v } in let pending = w.sender.sent.pending in
     let half = P.halves x has in let le = half.0 in let lt = half.1 in
     let i = payload_word k s 1 in let us = set w.words i v in let inside : i < length w.words = omega arith in
@@ -293,6 +291,6 @@ payload_second k w x v has K =
 
 pub keeps_second : (k : Shape) (w : World) (x : HalfWrite) (v : ℕ) → w.sender.half ≡ Some x → KeepsRule k w
     → KeepsRule k (sender_stores w (payload_word k x.sequence 1) v (written w.sender x.sequence record { first = x.first; second = v }))
-keeps_second k w x v has K = let some_slot = K.some_slot in
+keeps_second k w x v has K = let some_slot = K.shape.some_slot in
     payload_kept k w (payload_word k x.sequence 1) v (written w.sender x.sequence record { first = x.first; second = v }) (omega arith) (omega arith)
     refl refl (length-set w.sender.sent.pending _ _) refl refl refl (payload_second k w x v has K) K

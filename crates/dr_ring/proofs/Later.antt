@@ -179,7 +179,7 @@ hands_what_was_there k steps es w u R K h r r' out out' polled at there P =
     let cursor : word_at w.words cursor_word ≤ seen.cursor = all 1 (look 0 0) (omega arith) (omega arith) in
     let published = at_front k w K in let kept = K.counts.cursor in
     let inside : (v : ℕ) → Contains ups v → v < handlers_of k = λ v has.
-    upstream_inside k.upstreams K.graph h v (inside_of k w h r K at) (subst (λ (vs : List ℕ). Contains vs v) same has) in
+    upstream_inside k.upstreams K.shape.graph h v (inside_of k w h r K at) (subst (λ (vs : List ℕ). Contains vs v) same has) in
     let more = offered_later k w ups seen.counts seen.cursor P.1.1 inside (λ i d lt. all (suc (suc i)) d (omega arith)) (omega arith) in
     hands r r' out out' seen polled (available (ring_setup k) (picture_of k w) h) answer
     (subst (λ (vs : List ℕ). offered (picture_of k w) vs ≤ offer seen) same more)

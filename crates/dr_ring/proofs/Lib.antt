@@ -7,7 +7,6 @@ pub mod Beginning
 pub mod Seats
 pub mod Allowed
 pub mod Plans
-pub mod Stations
 pub mod Rounds
 pub mod Noting
 pub mod Writing

@@ -59,7 +59,7 @@ keeps_step k SenderCloses w u H K = subst (KeepsRule k) (sym H.2) (keeps_closes 
 keeps_step k (ReceiverLooksAtClosed h) w u H K = subst (KeepsRule k) (sym H.2) (keeps_receiver_looks k w h closed_word H.0 (omega arith) H.1 K)
 keeps_step k (ReceiverLooksAtCursor h) w u H K = subst (KeepsRule k) (sym H.2) (keeps_cursor_look k w h H.0 H.1 K)
 keeps_step k (ReceiverLooksAtCount h c) w u H K =
-    let inside = upstream_inside k.upstreams K.graph h c (inside_of k w h H.0 K H.1) H.2.0 in
+    let inside = upstream_inside k.upstreams K.shape.graph h c (inside_of k w h H.0 K H.1) H.2.0 in
     subst (KeepsRule k) (sym H.2.1) (keeps_receiver_looks k w h (count_word c) H.0 (omega arith) H.1 K)
 keeps_step k (ReceiverLoadsFirst h) w u H K = subst (KeepsRule k) (sym H.2.1) (keeps_half_taken k w h H.0 H.1 H.2.0 K)
 keeps_step k (ReceiverLoadsSecond h) w u H K = subst (KeepsRule k) (sym H.2.3) (keeps_takes k w h H.2.0 H.0 H.1 H.2.1 H.2.2 K)
@@ -106,13 +106,13 @@ same_picture k w h r q at same =
 -- what a claim of the sender has room for, the machine has
 pub claim_room : (k : Shape) (w : World) (n : ℕ) (t : List ℕ) (m : State Event) → m.completed ≡ counts_of k w.words → SeesRoom k w.sender n → KeepsRule k w
     → claimed w.sender + n ≤ k.size + least_completed m (finals k.upstreams)
-claim_room k w n t m same room K = machine_room k.upstreams w.words k.size (claimed w.sender + n) m same K.graph (seen_room k w n room K)
+claim_room k w n t m same room K = machine_room k.upstreams w.words k.size (claimed w.sender + n) m same K.shape.graph (seen_room k w n room K)
 
 -- a claim is of the size at most
 pub claim_fits : (k : Shape) (w : World) (n : ℕ) → SeesRoom k w.sender n → KeepsRule k w → n ≤ k.size
 claim_fits k w n room K =
-    let some_one = K.graph.some in
-    let a = ahead_of_all k.upstreams w.words k.size (claimed w.sender + n) K.graph (orderly k w K) (seen_room k w n room K) 0 some_one in
+    let some_one = K.shape.graph.some in
+    let a = ahead_of_all k.upstreams w.words k.size (claimed w.sender + n) K.shape.graph (orderly k w K) (seen_room k w n room K) 0 some_one in
     let t = receiver_of_handler k w K 0 some_one in let e = t.2.count in let f = t.2.completed in let h = t.2.taken in omega arith
 
 abbrev Leads : Shape → Transcript Event → State Event → State Event → Type 0
@@ -235,7 +235,7 @@ lead_drained k w h r rest end at tells K leads =
     let seen : front (S true) ≡ word_at w.words cursor_word =
     shown_front k.upstreams k.size k.limit (claimed s) vs (word_at w.words cursor_word) ts d true (omega arith) in
     let offer : available (ring_setup k) (S true) h ≤ claimed s = offered_at_most (S true) (upstreams_of k.upstreams h) (claimed s) (omega arith)
-    (λ u has. (let i = upstream_inside k.upstreams K.graph h u inside has in let c = count_at k.upstreams w.words u i in
+    (λ u has. (let i = upstream_inside k.upstreams K.shape.graph h u inside has in let c = count_at k.upstreams w.words u i in
     let o = receiver_of_handler k w K u i in let a = o.2.count in let b = o.2.completed in let e = o.2.taken in omega arith)) in
     let step = drained_step k.upstreams k.size k.limit (claimed s) vs (word_at w.words cursor_word) ts d h inside offer (taken_at w h r at ∙ omega arith) in
     subst (λ (b : Bool). Leads k (entry (Poll h 1) Drained [] ++ rest) (S b) end) on
@@ -275,7 +275,7 @@ lead_take k w h first r rest end at half low K leads =
     shown_front k.upstreams k.size k.limit (claimed s) (values_of s.sent.published s.sent.pending) (word_at w.words cursor_word) ts (counts_of k w.words)
     (word_at w.words halt_word == 1) (omega arith) in
     let more : n < available (ring_setup k) m h = offered_more m (upstreams_of k.upstreams h) n (λ none. omega arith)
-    (λ u has. (let i = upstream_inside k.upstreams K.graph h u inside has in let c = count_at k.upstreams w.words u i in let a = low.completed u has in
+    (λ u has. (let i = upstream_inside k.upstreams K.shape.graph h u inside has in let c = count_at k.upstreams w.words u i in let a = low.completed u has in
     let b = last_look_le (payload_start k) w.words 0 r.looks (count_word u) (omega arith) was.looks in omega arith)) in
     let value : m.written n ≡ Some found =
     get_or_append_left (map (λ event. Some event) s.sent.published) s.sent.pending None n
@@ -338,7 +338,7 @@ lead_step : (k : Shape) (s : Step) (w u : World) (rest : Transcript Event) (end 
 lead_step k (SenderLooksAtCount f) w u rest end H K L = subst (LeadsAt k rest end) H.1 L
 lead_step k (SenderLooksAtHalt n) w u rest end H K L = lead_claim k w n rest end H.0 K (subst (LeadsAt k rest end) H.1 L)
 lead_step k (SenderStoresFirst s v) w u rest end H K L =
-    let some_slot = K.some_slot in let i = payload_word k s 0 in let us = set w.words i v in
+    let some_slot = K.shape.some_slot in let i = payload_word k s 0 in let us = set w.words i v in
     let now : Leads k rest (picture_of k (sender_stores w i v (half_written w.sender s v))) end =
     subst (LeadsAt k rest end) H.2 L in
     let one : word_at us cursor_word ≡ word_at w.words cursor_word = get_or-set_other w.words i cursor_word v 0 (λ (e : cursor_word ≡ i). omega arith) in

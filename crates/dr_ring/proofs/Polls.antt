@@ -2,7 +2,7 @@
 use Rattle.std.proofs.Common.{◌≡◌, ◌≢◌, ℕ, ◌+◌, ◌-◌, ◌<◌, ◌≤◌, ◌⊎◌, inl, inr, Bool, true, ◌==◌, ◌&&◌, ◌||◌, min}
 use Rattle.std.proofs.Common.{List, [], ◌∷◌, ◌++◌, length, take, drop, sym, refl, ap, ◌∙◌, subst, arith, append_assoc}
 use Rattle.std.specs.Prelude.{Contains, IsTrue, ◌↔◌}
-use Rattle.std.proofs.lemmas.Bool.{cases_eq, eqb-true, eq-eqb}
+use Rattle.std.proofs.lemmas.Bool.{cases_eq, eqb-true, eq-eqb, ne_eqb}
 use Rattle.std.proofs.lemmas.List.{length-append, append-nil}
 use Rattle.dr_seq.specs.declared.event.Event.{Event}
 use Rattle.dr_meaning.specs.declared.command.Polled.{Polled}
@@ -14,7 +14,8 @@ use Rattle.dr_ring.specs.Meaning.Records.{receiver_looked, cursor_looked}
 use Rattle.dr_runs.specs.Looks.{look, last_look, offered_by}
 use Rattle.dr_runs.specs.OneSender.Looks.{count_looks}
 use Rattle.dr_ring.specs.Calls.Receiving.{looked_round, received_all, AnswersAsSeen, ups_of}
-use Rattle.dr_runs.specs.OneSender.Polls.{PollLooks, nothing_offered}
+use Rattle.dr_runs.specs.OneSender.Polls.{PollLooks}
+use Rattle.dr_runs.specs.Polls.{nothing_offered}
 use Rattle.dr_ring.specs.Inside.Polling.{receiver_saw, IsOfferedUpTo, LooksAtUpstreams}
 use Rattle.dr_ring.specs.Inside.Fits.{ReceiverFits}
 use Rattle.dr_runs.proofs.Looks.{last_look_more}
@@ -56,7 +57,7 @@ is_told r closed cursor one all = rw (eq-eqb closed 1 one, eq-eqb cursor (length
 -- nothing is offered
 pub poll_nothing : (r s : ReceiverRecord) (out : List Event) (closed cursor available taken : ℕ) → taken ≡ length r.received
     → (L : LooksAtUpstreams (looked_twice r closed cursor) cursor s available)
-    → closed ≤ 1 → taken ≤ cursor → available ≤ taken → AnswersAsSeen r out s out (saw closed cursor L.counts) (nothing_offered closed cursor taken)
+    → closed ≤ 1 → taken ≤ cursor → available ≤ taken → AnswersAsSeen r out s out (saw closed cursor L.counts) (nothing_offered (closed == 1) cursor taken)
 poll_nothing r s out closed cursor available taken next L flag ahead none =
     let round = round_of r s closed cursor available L in
     let least = L.taken in
@@ -66,15 +67,15 @@ poll_nothing r s out closed cursor available taken next L flag ahead none =
       | inl all ↦ elim (cases_eq closed 1) [
         | inl one ↦
             let told = ap (λ (q : ReceiverRecord). q.told) round ∙ is_told r closed cursor one (omega arith) in
-            subst P (sym (drains closed cursor taken one all)) (one, omega arith, sym L.offered ∙ level, round, told, refl)
-        | inr still ↦ subst P (sym (idles closed cursor taken still (omega arith))) (omega arith, omega arith, sym L.offered ∙ level, round, refl)
+            subst P (sym (drains (closed == 1) cursor taken (eq-eqb closed 1 one) (omega arith))) (one, omega arith, sym L.offered ∙ level, round, told, refl)
+        | inr still ↦ subst P (sym (idles (closed == 1) cursor taken (ne_eqb closed 1 still) (omega arith))) (omega arith, omega arith, sym L.offered ∙ level, round, refl)
       ]
       | inr more ↦ (
           let taken_least = L.taken in
           let ups : ups_of r ≢ [] = λ e. more (let c = only_cursor (looked_twice r closed cursor) s cursor available e L in omega arith) in
           let at : available ≡ length r.received = omega arith in
           let found = subst (λ (n : ℕ). Contains L.counts n) at (L.found ups) in
-          subst P (sym (gates closed cursor taken more (omega arith))) (omega arith, found, sym L.offered ∙ at, round, refl))
+          subst P (sym (gates (closed == 1) cursor taken (omega arith))) (omega arith, found, sym L.offered ∙ at, round, refl))
     ]
 
 -- what is offered is offered as far as the receiver saw

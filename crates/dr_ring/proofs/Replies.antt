@@ -57,7 +57,7 @@ module _ (k : Shape) (w : World) (K : KeepsRule k w) where
 
   kept : IsKept p
   kept = record {
-    graph = K.graph;
+    graph = K.shape.graph;
     cursor = K.counts.cursor;
     completed = λ h lt. (let o = receiver_of_handler k w K h lt in let a = o.2.count in let b = o.2.completed in let e = o.2.taken in omega arith);
     closed = K.flags.complete;

@@ -48,7 +48,7 @@ module _ (i : ℕ) where
   rises_step k (ReceiverLoadsFirst h) w u lt H K = subst (Rises i w) (sym H.2.1) (omega arith)
   rises_step k (ReceiverLoadsSecond h) w u lt H K = subst (Rises i w) (sym H.2.3) (omega arith)
   rises_step k (ReceiverCompletes h n) w u lt H K =
-      let wide = K.wide in let up = H.2.0 in let was = (K.received h H.0 H.1).count in let inside = at_below w.receivers h H.0 H.1 in let ends = K.ends in
+      let wide = K.wide in let up = H.2.0 in let was = (K.received h H.0 H.1).count in let inside = at_below w.receivers h H.0 H.1 in let ends = K.outlets in
       subst (Rises i w) (sym H.2.2) (raised_word w.words i (count_word h) n (omega arith) (omega arith))
   rises_step k HalterHalts w u lt H K = let wide = K.wide in subst (Rises i w) (sym H) (raised_word w.words i halt_word 1 (omega arith) K.flags.halt)
 

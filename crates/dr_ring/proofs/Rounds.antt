@@ -20,7 +20,7 @@ use Rattle.dr_ring.specs.Inside.Scans.{LooksAtFinals, IsEnough, IsShort}
 use Rattle.dr_runs.proofs.Lists.{no_elements, take_whole}
 use Rattle.dr_runs.proofs.Looks.{last_look_more, last_least, looks_more}
 use Rattle.dr_runs.proofs.Scans as scans
-use Rattle.dr_runs.proofs.Scans.{AreScanned, AreEnough, rises_none, rises_more}
+use Rattle.dr_runs.proofs.Scans.{AreScanned, rises_none, rises_more}
 use Rattle.dr_runs.proofs.Elements.{get_any, contains_more, contains_last}
 use Rattle.dr_runs.proofs.Offers.{offers_more, some_final}
 
@@ -40,10 +40,6 @@ saw_more r s s' xs i v S is rise = record {
   rises = rises_more r.looks xs i v S.rises (subst (λ (q : SenderRecord). last_look 0 q.looks i ≤ v) S.is rise);
 }
 
-enough : (r : SenderRecord) (xs : List Look) (needed least : ℕ) → AreEnough (finals r.plan.upstreams) r.looks (length r.sent.published) needed xs least
-    → IsEnough r xs needed least
-enough r xs needed least E = record { enough = E.enough; front = E.front; seen = E.seen; counts = E.counts; are = E.are; all = E.all; high = E.high }
-
 pub scanned_more : (r s s' : SenderRecord) (needed least least' i f v : ℕ) → Scanned r needed least i s → i < length (finals r.plan.upstreams)
     → get_or (finals r.plan.upstreams) i 0 ≡ f → s' ≡ sender_looked s (count_word f) v → last_look 0 s.looks (count_word f) ≤ v
     → needed ≤ v → v ≤ length s.sent.published → least' ≡ min least v → Scanned r needed least' (i + 1) s'
@@ -61,7 +57,7 @@ scanned_low r s s' needed least i f v S inside at is rise low =
     let E = scans.scanned_low (finals r.plan.upstreams) r.looks (length r.sent.published) needed S.xs least i f v S.are inside at low in (
       S.xs ++ look (count_word f) v ∷ [],
       saw_more r s s' S.xs (count_word f) v S.saw is rise,
-      record { counts = E.counts; are = E.are; before = E.before; last = E.last; among = E.among; high = E.high; low = E.low },
+      E,
     )
 
 pub scanned_all : (r s : SenderRecord) (needed least i : ℕ) → IsPlan r.plan → Scanned r needed least i s → i ≡ length (finals r.plan.upstreams)
@@ -69,14 +65,14 @@ pub scanned_all : (r s : SenderRecord) (needed least i : ℕ) → IsPlan r.plan 
 scanned_all r s needed least i plan S all =
     let some_one = some_final r.plan.upstreams plan.graph in
     let E = scans.scanned_all (finals r.plan.upstreams) r.looks (length r.sent.published) needed S.xs least i some_one S.are all in
-    (S.xs, S.saw, enough r S.xs needed least E)
+    (S.xs, S.saw, E)
 
 -- what is remembered serves
 pub remembers : (r : SenderRecord) (needed least front : ℕ) → needed ≤ least → least ≤ front → front ≡ length r.sent.published → IsSeenLeast r least
     → (xs : List Look) × LooksAtFinals r xs r × IsEnough r xs needed least
 remembers r needed least front serves low at seen =
     let E = scans.remembers (finals r.plan.upstreams) r.looks (length r.sent.published) needed least serves (omega arith) seen in
-    ([], saw_nothing r, enough r [] needed least E)
+    ([], saw_nothing r, E)
 
 -- the counts of the first i upstreams were looked at
 pub record Round (ups : List ℕ) (r : ReceiverRecord) (cursor available i : ℕ) (s : ReceiverRecord) : Type 0 where

@@ -72,10 +72,9 @@ keeps_publishes k w n lt le all free K =
     let not_closed : word_at w.words closed_word ≢ 1 = λ (c : word_at w.words closed_word ≡ 1). (let e = (K.flags.complete c).1 in omega arith) in
     let one = stays halt_word (omega arith) in let two = stays closed_word (omega arith) in
     let F = K.flags in let whole : length (old ++ new) + length (drop m pending) ≡ claimed w.sender = omega arith in record {
-      graph = K.graph;
-      some_slot = K.some_slot;
+      shape = K.shape;
       wide = length-set w.words cursor_word n ∙ K.wide;
-      ends = K.ends;
+      outlets = K.outlets;
       sender_plan = K.sender_plan;
       halter_plan = K.halter_plan;
       counts = record { cursor = get_or-set_same w.words cursor_word n 0 inside ∙ sym longer; limit = let l = K.counts.limit in omega arith };
@@ -119,15 +118,14 @@ flagged k w i pos lt flag a b c before flags K =
     let stays : (j : ℕ) → j ≢ i → word_at us j ≡ word_at w.words j = λ j ne. get_or-set_other w.words i j 1 0 ne in
     let up : (j : ℕ) → word_at w.words j ≡ 1
     → word_at us j ≡ 1 = λ j e. elim (cases_eq j i) [ inl same ↦ ap (λ (m : ℕ). word_at us m) same ∙ here | inr ne ↦ stays j ne ∙ e ] in record {
-      graph = K.graph;
-      some_slot = K.some_slot;
+      shape = K.shape;
       wide = length-set w.words i 1 ∙ K.wide;
-      ends = K.ends;
+      outlets = K.outlets;
       sender_plan = K.sender_plan;
       halter_plan = K.halter_plan;
       counts = record { cursor = stays cursor_word (λ e. omega arith) ∙ K.counts.cursor; limit = K.counts.limit };
       received = λ h r there. (let was = K.received h r there in let inside_h = inside_of k w h r K there in
-          receiver_stays k w.words us w.sender.sent.published h r K.graph inside_h (stays (count_word h) (λ e. omega arith))
+          receiver_stays k w.words us w.sender.sent.published h r K.shape.graph inside_h (stays (count_word h) (λ e. omega arith))
           (λ u lt'. (let e = stays (count_word u) (λ e. omega arith) in omega arith)) (up closed_word)
           (past_set (payload_start k) w.words i 1 r.looks inside rises was.looks) was);
       room = room_stays k.upstreams w.words k.size (claimed w.sender) us (λ h lt'. (let e = stays (count_word h) (λ e. omega arith) in omega arith)) K.room;
@@ -159,10 +157,9 @@ keeps_closes k w halted all K =
 receiver_changes : (k : Shape) (w : World) (h : ℕ) (q : ReceiverRecord) → ReceiverKept k w.words w.sender.sent.published h q → KeepsRule k w
     → KeepsRule k (receiver_knows w h q)
 receiver_changes k w h q new K = record {
-  graph = K.graph;
-  some_slot = K.some_slot;
+  shape = K.shape;
   wide = K.wide;
-  ends = length-set w.receivers h q ∙ K.ends;
+  outlets = length-set w.receivers h q ∙ K.outlets;
   sender_plan = K.sender_plan;
   halter_plan = K.halter_plan;
   counts = K.counts;
@@ -227,7 +224,7 @@ early_by k w h r (u ∷ ups) at completed published same K =
     let was = K.received h r at in let has : Contains (u ∷ ups) u = (0, omega arith, refl) in let a = completed u has in
     let inside : h < handlers_of k = inside_of k w h r K at in
     let b = last_look_le (payload_start k) w.words 0 r.looks (count_word u) (omega arith) was.looks in
-    let t = receiver_of_handler k w K u (upstream_inside k.upstreams K.graph h u inside (subst (λ (xs : List ℕ). Contains xs u) same has)) in
+    let t = receiver_of_handler k w K u (upstream_inside k.upstreams K.shape.graph h u inside (subst (λ (xs : List ℕ). Contains xs u) same has)) in
     let d = t.2.count in let e = t.2.completed in let f = t.2.taken in omega arith
 
 -- the next event is published
@@ -293,10 +290,9 @@ keeps_completes k w h n r at rise le K =
     let up : (j : ℕ) → j < handlers_of k → word_at w.words (count_word j) ≤ word_at us (count_word j) =
     λ j _. counts_rise k.upstreams w.words h n inside (omega arith) j in
     let one = stays halt_word (λ e. omega arith) in let two = stays closed_word (λ e. omega arith) in record {
-      graph = K.graph;
-      some_slot = K.some_slot;
+      shape = K.shape;
       wide = length-set w.words i n ∙ K.wide;
-      ends = length-set w.receivers h (completed_to r n) ∙ K.ends;
+      outlets = length-set w.receivers h (completed_to r n) ∙ K.outlets;
       sender_plan = K.sender_plan;
       halter_plan = K.halter_plan;
       counts = record { cursor = stays cursor_word (λ e. omega arith) ∙ K.counts.cursor; limit = K.counts.limit };
@@ -307,14 +303,14 @@ keeps_completes k w h n r at rise le K =
             count = here;
             completed = le;
             taken = was.taken;
-            after = λ u isup. (let a = was.after u isup in let b = up u (upstream_inside k.upstreams K.graph h u lt isup) in omega arith);
+            after = λ u isup. (let a = was.after u isup in let b = up u (upstream_inside k.upstreams K.shape.graph h u lt isup) in omega arith);
             beginning = was.beginning;
             half = was.half;
             told = λ yes. (two ∙ (was.told yes).0, (was.told yes).1);
             looks = past_set (payload_start k) w.words i n r.looks inside rises was.looks;
           })
           (λ j q ne there. (let old = K.received j q there in let inside_j = inside_of k w j q K there in
-          receiver_stays k w.words us w.sender.sent.published j q K.graph inside_j (stays (count_word j) (λ e. ne (omega arith))) up
+          receiver_stays k w.words us w.sender.sent.published j q K.shape.graph inside_j (stays (count_word j) (λ e. ne (omega arith))) up
           (λ c. two ∙ c) (past_set (payload_start k) w.words i n q.looks inside rises old.looks) old));
       room = room_stays k.upstreams w.words k.size (claimed w.sender) us up K.room;
       payload = payload_stays k w.words us w.sender.sent.published w.sender.sent.pending w.sender.half (λ j big. stays j (λ e. omega arith)) K.payload;

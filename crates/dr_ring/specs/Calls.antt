@@ -3,7 +3,6 @@ pub mod Plans
 pub mod Finds
 pub mod Ends
 pub mod Making
-pub mod Fault
 pub mod Settling
 pub mod Sending
 pub mod Receiving

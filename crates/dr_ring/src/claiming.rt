@@ -3,7 +3,7 @@
 ghost use Rattle.std.specs.Prelude.{◌≡◌, ◌≤◌, if◌then◌else◌, length, IfSome};
 ghost use Rattle.dr_ring.specs.Meaning.Records.{halt_looked, SeesRoom};
 ghost use Rattle.dr_ring.specs.Inside.Fits.{IsSeenLeast};
-ghost use Rattle.dr_ring.specs.Calls.Ends.{HasLoaded};
+ghost use Rattle.dr_runs.specs.Ends.{HasLoaded};
 ghost use Rattle.dr_ring.specs.Inside.Scans.{Scans};
 
 use crate::laws::SenderStation;

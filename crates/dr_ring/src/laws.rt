@@ -67,9 +67,9 @@ pub(crate) struct RingBody {
 /// transcript has the five laws. An end that was told `Drained` was told so by a poll of the
 /// transcript. What an end answers by what it knows, and by what the deciding
 /// look finds, is what the machine then replies on the picture. A poll hands over at least what the
-/// picture had at any moment since its receiver last stepped. No handler's count falls, so what the
-/// last look of a claim without room finds was so already at its first. Once a ring is halted,
-/// nothing more is claimed. It does nothing when it runs: the contract is the theorem.
+/// picture had at any moment since its receiver last stepped. No word falls but those of events, so
+/// what the last look of a claim without room finds was so already at its first. Once a ring is
+/// halted, nothing more is claimed. It does nothing when it runs: the contract is the theorem.
 pub fn moments()
     // Between any two steps the ring's rule holds.
     ensures rule { (k : Shape) (steps : List Step) (entries : Transcript Event) (w : World) → IsShape k → Runs k steps entries (new_world k) w → KeepsRule k w }
@@ -85,7 +85,7 @@ pub fn moments()
     ensures replies { (k : Shape) (steps : List Step) (entries : Transcript Event) (w : World) → IsShape k → Runs k steps entries (new_world k) w → RepliesAsAnswered k w }
     // As far as there is room, a poll hands over what was there at any moment since its receiver's last step.
     ensures hands { (k : Shape) (steps more : List Step) (entries rest : Transcript Event) (w u : World) → IsShape k → Runs k steps entries (new_world k) w → Runs k more rest w u → HandsWhatWasThere k w u }
-    // No handler's count falls.
+    // No word falls but those of events.
     ensures rises { (k : Shape) (steps more : List Step) (entries rest : Transcript Event) (w u : World) → IsShape k → Runs k steps entries (new_world k) w → Runs k more rest w u → NothingFalls k w u }
     // Once halt is 1, nothing more is claimed.
     ensures halted { (k : Shape) (steps more : List Step) (entries rest : Transcript Event) (w u : World) → IsShape k → Runs k steps entries (new_world k) w → Runs k more rest w u → slice_index w.words halt_word ≡ 1 → claimed u.sender ≡ claimed w.sender }

@@ -9,7 +9,6 @@
 #![tactic(auto)]
 
 mod claiming;
-mod fault;
 mod inlet;
 pub mod laws;
 mod opening;
@@ -21,8 +20,8 @@ pub mod record;
 mod sender;
 mod settled;
 
+pub use dr_meaning::OpenFault;
 pub use dr_runs::HandlerCounts;
-pub use fault::RingFault;
 pub use laws::Halter;
 pub use opening::ring;
 pub use plan::Plan;

@@ -9,16 +9,14 @@ ghost use Rattle.dr_ring.specs.Meaning.Moments.{fresh_receivers};
 ghost use Rattle.dr_runs.specs.Seats.{fresh_seat};
 ghost use Rattle.dr_ring.specs.Inside.Seats.{IsAtTable, known_receivers};
 ghost use Rattle.dr_ring.specs.Calls.Settling.{AreAllEnds};
-ghost use Rattle.dr_ring.specs.Calls.Making.{receiver_at_ring, AreFreshEnds};
-ghost use Rattle.dr_ring.specs.Calls.Fault.{fault_of};
+ghost use Rattle.dr_ring.specs.Calls.Making.{receiver_at_ring, AreFreshEnds, fault_of};
 
-use crate::fault::RingFault;
 use crate::laws::{Halter, ReceiverStation, RingBody, RingSeat, RingTable, SenderStation};
 use crate::plan::Plan;
 use crate::receiver::Receiver;
 use crate::sender::Sender;
 use dr_graph::Graph;
-use dr_meaning::is_valid_limit;
+use dr_meaning::{OpenFault, is_valid_limit};
 use dr_runs::{Cut, HandlerCounts, Written};
 use dr_seq::{GateCache, Size};
 use std::alloc::{AllocError, Global};
@@ -100,7 +98,7 @@ pub fn ring(
     graph: &Graph,
     size: Size,
     limit: u64,
-) -> Result<(Sender, Vec<Receiver>, Halter), RingFault>
+) -> Result<(Sender, Vec<Receiver>, Halter), OpenFault>
     // They are all ends of a new ring of this shape, in which nothing is claimed, taken or halted.
     ensures made { IfOk result (λ made. AreFreshEnds (record { upstreams = graph.now.upstreams; size = size; limit = limit }) made.0 made.1.items made.2) }
     ensures all { IfOk result (λ made. AreAllEnds made.0 made.1.items made.2) }
@@ -109,7 +107,7 @@ pub fn ring(
     ensures refused { IfErr result (λ fault. fault ≡ fault_of limit) }
 {
     if !is_valid_limit(limit) {
-        return Err(RingFault::BadLimit);
+        return Err(OpenFault::BadLimit);
     }
     let plan = Plan::of(alloc, graph, size, limit)?;
     Ok(ends(alloc, plan)?)

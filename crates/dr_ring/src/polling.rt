@@ -2,7 +2,7 @@
 
 ghost use Rattle.std.specs.Prelude.{◌≡◌, ◌+◌, ◌^◌, ◌<◌, ◌≤◌, None, length};
 ghost use Rattle.dr_ring.specs.Calls.Receiving.{received_all};
-ghost use Rattle.dr_ring.specs.Calls.Ends.{HasLoaded};
+ghost use Rattle.dr_runs.specs.Ends.{HasLoaded};
 ghost use Rattle.dr_ring.specs.Inside.Polling.{LooksAtUpstreams, IsOfferedUpTo};
 
 use crate::laws::ReceiverStation;

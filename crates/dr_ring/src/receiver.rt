@@ -50,7 +50,7 @@ impl Receiver {
         let cursor = self.station.look_at_cursor();
         let available = self.station.barrier(cursor);
         if available <= first {
-            return Ok(nothing_offered(closed, cursor, first));
+            return Ok(nothing_offered(closed == 1, cursor, first));
         }
         let count = (available - first).min(out.len() as u64);
         let (front, _) = out.split_at_mut(count as usize);

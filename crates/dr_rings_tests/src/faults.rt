@@ -1,7 +1,7 @@
 //! The printed text of each fault of making a ring, and of a claim of one of several senders.
 
 use crate::checks::check;
-use dr_meaning::{ClaimFault, Refusal};
+use dr_meaning::{ClaimFault, OpenFault, Refusal};
 use std::alloc::Global;
 use std::fmt::Display;
 use std::process::Abort;
@@ -12,15 +12,9 @@ fn check_text<T: Display + Drop>(rt: &impl Abort, alloc: Global, fault: T, text:
 }
 
 #[test]
-fn faults_of_a_ring_over_words(rt: HostRuntime) {
-    check_text(&rt, rt.alloc(), dr_ring::RingFault::BadLimit, "bad-limit");
-    check_text(&rt, rt.alloc(), dr_ring::RingFault::NoMemory, "no-memory");
-}
-
-#[test]
-fn faults_of_a_ring_over_plain_memory(rt: HostRuntime) {
-    check_text(&rt, rt.alloc(), dr_plain::OpenFault::BadLimit, "bad-limit");
-    check_text(&rt, rt.alloc(), dr_plain::OpenFault::NoMemory, "no-memory");
+fn faults_of_a_ring(rt: HostRuntime) {
+    check_text(&rt, rt.alloc(), OpenFault::BadLimit, "bad-limit");
+    check_text(&rt, rt.alloc(), OpenFault::NoMemory, "no-memory");
 }
 
 #[test]

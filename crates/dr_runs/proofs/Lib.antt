@@ -1,5 +1,6 @@
 pub mod Lists
 pub mod Beginnings
+pub mod Stations
 pub mod Seats
 pub mod Cuts
 pub mod Gathering

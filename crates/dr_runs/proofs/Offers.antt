@@ -1,8 +1,7 @@
 -- What counts offer, and which answers follow.
-use Rattle.std.proofs.Common.{◌≡◌, ◌≢◌, ℕ, zero, suc, ◌+◌, ◌<◌, ◌≤◌, ◌⊎◌, inl, inr, Bool, true, false, ◌==◌, ◌&&◌, ◌||◌, min}
+use Rattle.std.proofs.Common.{◌≡◌, ℕ, zero, suc, ◌+◌, ◌<◌, ◌≤◌, ◌⊎◌, inl, inr, Bool, true, false, ◌==◌, ◌&&◌, ◌||◌, min}
 use Rattle.std.proofs.Common.{List, [], ◌∷◌, ◌++◌, map, length, get_or, sym, refl, ◌∙◌, arith}
 use Rattle.std.specs.Prelude.{Contains, IsTrue, ◌↔◌}
-use Rattle.std.proofs.Math.Bool.{and-false}
 use Rattle.std.proofs.lemmas.Bool.{cases_lt, eq-eqb, ne_eqb, lt-ltb, le-ltb, eqb-true}
 use Rattle.std.proofs.lemmas.List.{length-map, get_or-map}
 use Rattle.dr_graph.specs.Meaning.Graph.{finals, nobody, least_of, IsGated, IsGraph}
@@ -10,7 +9,7 @@ use Rattle.dr_graph.proofs.Gating.{final_left}
 use Rattle.dr_meaning.specs.declared.command.Polled.TheVariants.{Drained, Gating, Idle}
 use Rattle.dr_meaning.specs.Meaning.Machine.{State, front, offered, least_completed}
 use Rattle.dr_runs.specs.Looks.{offered_by, lesser_of}
-use Rattle.dr_runs.specs.OneSender.Polls.{nothing_offered}
+use Rattle.dr_runs.specs.Polls.{nothing_offered}
 
 -- a final handler is a handler
 pub final_inside : (graph : List (List ℕ)) (f : ℕ) → Contains (finals graph) f → f < length graph
@@ -91,14 +90,14 @@ pub only_cursor : (counts : List ℕ) (cursor : ℕ) → length counts ≡ 0 →
 only_cursor [] cursor e = refl
 only_cursor (n ∷ counts) cursor e = absurd (omega arith)
 
-pub drains : (closed cursor taken : ℕ) → closed ≡ 1 → cursor ≡ taken → nothing_offered closed cursor taken ≡ Drained
-drains closed cursor taken one all = rw (eq-eqb closed 1 one, eq-eqb cursor taken all) refl
+pub gates : (ended : Bool) (upto taken : ℕ) → taken < upto → nothing_offered ended upto taken ≡ Gating
+gates ended upto taken more = rw (lt-ltb taken upto more) refl
 
-pub idles : (closed cursor taken : ℕ) → closed ≢ 1 → cursor ≤ taken → nothing_offered closed cursor taken ≡ Idle
-idles closed cursor taken still le = rw (ne_eqb closed 1 still, le-ltb taken cursor le) refl
+pub drains : (ended : Bool) (upto taken : ℕ) → ended ≡ true → upto ≤ taken → nothing_offered ended upto taken ≡ Drained
+drains ended upto taken on all = rw (le-ltb taken upto all, on) refl
 
-pub gates : (closed cursor taken : ℕ) → cursor ≢ taken → taken < cursor → nothing_offered closed cursor taken ≡ Gating
-gates closed cursor taken more lt = rw (ne_eqb cursor taken more, and-false (closed == 1), lt-ltb taken cursor lt) refl
+pub idles : (ended : Bool) (upto taken : ℕ) → ended ≡ false → upto ≤ taken → nothing_offered ended upto taken ≡ Idle
+idles ended upto taken off all = rw (le-ltb taken upto all, off) refl
 
 pub or_true : (b : Bool) → (b || true) ≡ true
 or_true true = refl

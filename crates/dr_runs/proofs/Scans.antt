@@ -6,16 +6,11 @@ use Rattle.std.proofs.lemmas.Bool.{cases_lt}
 use Rattle.std.proofs.lemmas.List.{length-append, append-nil, get_or_append_left}
 use Rattle.dr_runs.specs.OneSender.Words.{halt_word, count_word}
 use Rattle.dr_runs.specs.declared.look.Look.{Look}
-use Rattle.dr_runs.specs.Looks.{look, last_look, looks_at}
+use Rattle.dr_runs.specs.Looks.{look, last_look}
+use Rattle.dr_runs.specs.OneSender.Looks.{count_looks}
+use Rattle.dr_runs.specs.OneSender.Scans.{Rises, IsEnough, IsShort}
 use Rattle.dr_runs.proofs.Elements.{get_any, number_at}
 use Rattle.dr_runs.proofs.Looks.{last_look_more, last_look_else, last_rises, last_least, looks_more, looks_few, no_looks_at}
-
-abbrev pub count_looks : List ℕ → List ℕ → List Look
-count_looks fs counts = looks_at count_word fs counts
-
--- no count fell
-abbrev pub Rises : List Look → List Look → Type 0
-Rises looks xs = (f : ℕ) → last_look 0 looks (count_word f) ≤ last_look 0 (looks ++ xs) (count_word f)
 
 -- looks after looks are looks
 again : (looks xs ys : List Look) (word : ℕ) → last_look 0 ((looks ++ xs) ++ ys) word ≡ last_look 0 (looks ++ (xs ++ ys)) word
@@ -46,26 +41,6 @@ pub record AreScanned (fs : List ℕ) (looks : List Look) (published needed : �
   pub either : (least ≡ published) ⊎ (needed ≤ least)
   pub some_one : 0 < i → needed ≤ published
   pub front : least ≤ published
-
--- every count was at least what was needed, or what was remembered served
-pub record AreEnough (fs : List ℕ) (looks : List Look) (published needed : ℕ) (xs : List Look) (least : ℕ) : Type 0 where
-  pub enough : needed ≤ least
-  pub front : least ≤ published
-  pub seen : (f : ℕ) → Contains fs f → least ≤ last_look 0 (looks ++ xs) (count_word f)
-  pub counts : List ℕ
-  pub are : xs ≡ count_looks fs counts
-  pub all : (counts ≡ []) ⊎ (length counts ≡ length fs)
-  pub high : (i : ℕ) → i < length counts → needed ≤ get_or counts i 0
-
--- the last count was the first that was less
-pub record AreShort (fs : List ℕ) (needed : ℕ) (xs : List Look) : Type 0 where
-  pub counts : List ℕ
-  pub are : xs ≡ count_looks fs counts
-  pub before : ℕ
-  pub last : length counts ≡ before + 1
-  pub among : length counts ≤ length fs
-  pub high : (i : ℕ) → i < before → needed ≤ get_or counts i 0
-  pub low : get_or counts before 0 < needed
 
 module _ (fs : List ℕ) (looks : List Look) (published needed : ℕ) where
   -- one look more, in their order
@@ -112,7 +87,7 @@ module _ (fs : List ℕ) (looks : List Look) (published needed : ℕ) where
       }
 
   pub scanned_low : (xs : List Look) (least i f v : ℕ) → AreScanned fs looks published needed xs least i → i < length fs → get_or fs i 0 ≡ f → v < needed
-      → AreShort fs needed (xs ++ look (count_word f) v ∷ [])
+      → IsShort fs needed (xs ++ look (count_word f) v ∷ [])
   scanned_low xs least i f v S inside at low =
       let each = S.each in let len : length (S.counts ++ v ∷ []) ≡ i + 1 = omega (arith, length-append S.counts (v ∷ [])) in record {
         counts = S.counts ++ v ∷ [];
@@ -125,7 +100,7 @@ module _ (fs : List ℕ) (looks : List Look) (published needed : ℕ) where
       }
 
   pub scanned_all : (xs : List Look) (least i : ℕ) → 0 < length fs → AreScanned fs looks published needed xs least i → i ≡ length fs
-      → AreEnough fs looks published needed xs least
+      → IsEnough fs looks published needed xs least
   scanned_all xs least i some_one S all = let low = S.some_one (omega arith) in record {
     enough = elim S.either [ inl e ↦ omega arith | inr e ↦ e ];
     front = S.front;
@@ -139,7 +114,7 @@ module _ (fs : List ℕ) (looks : List Look) (published needed : ℕ) where
 
   -- what is remembered serves
   pub remembers : (least : ℕ) → needed ≤ least → least ≤ published → ((f : ℕ) → Contains fs f → least ≤ last_look 0 looks (count_word f))
-      → AreEnough fs looks published needed [] least
+      → IsEnough fs looks published needed [] least
   remembers least enough low seen = record {
     enough = enough;
     front = low;

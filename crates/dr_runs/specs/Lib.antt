@@ -1,5 +1,6 @@
 pub mod Runs
 pub mod Seats
+pub mod Ends
 pub mod Gathering
 pub mod Stretches
 pub mod Looks

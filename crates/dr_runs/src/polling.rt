@@ -2,7 +2,7 @@
 
 ghost use Rattle.std.specs.Prelude.{◌≡◌};
 ghost use Rattle.dr_runs.specs.Looks.{lesser_of};
-ghost use Rattle.dr_runs.specs.OneSender.Polls.{nothing_offered as answer_of};
+ghost use Rattle.dr_runs.specs.Polls.{nothing_offered as answer_of};
 
 use dr_meaning::Polled;
 
@@ -14,15 +14,16 @@ pub fn lesser(first: bool, count: u64, seen: u64) -> u64
     if first || count < seen { count } else { seen }
 }
 
-/// What a poll answers where its barrier offers nothing.
+/// What a poll answers where its barrier offers nothing: events are there up to `upto`, and behind
+/// these none come where the ring has `ended`.
 #[inline]
-pub fn nothing_offered(closed: u64, cursor: u64, taken: u64) -> Polled
-    ensures { result ≡ answer_of closed cursor taken }
+pub fn nothing_offered(ended: bool, upto: u64, taken: u64) -> Polled
+    ensures { result ≡ answer_of ended upto taken }
 {
-    if closed == 1 && cursor == taken {
-        Polled::Drained
-    } else if cursor > taken {
+    if upto > taken {
         Polled::Gating
+    } else if ended {
+        Polled::Drained
     } else {
         Polled::Idle
     }

@@ -1,50 +1,33 @@
--- What an end of a ring is to its caller, and what one of its steps leaves of it.
-use Rattle.std.specs.Prelude.{◌≡◌, ℕ, Option, List, [], ◌∷◌, ◌++◌}
+-- What the ends of a ring are, to their callers and at their stations.
+use Rattle.std.specs.Prelude.{ℕ}
 use Rattle.atomic_table.specs.Seated.{TableId}
-use Rattle.dr_cells.specs.declared.token.Token.{Token}
 use Rattle.dr_meaning.specs.Calls.Ends.{Sent, Received}
-use Rattle.dr_runs.specs.Runs.{IsBeginning}
 use Rattle.dr_plain.specs.Meaning.Shape.{Shape}
+use Rattle.dr_runs.specs.Ends.{EndOf}
+use Rattle.dr_lent.specs.Ends.{StandOf, SendingEnd}
 use Rattle.dr_lent.specs.Events.{events_of}
 use Rattle.dr_plain.specs.declared.record.Step.{Step}
 use Rattle.dr_plain.specs.declared.record.SenderRecord.{SenderRecord}
 use Rattle.dr_plain.specs.declared.record.ReceiverRecord.{ReceiverRecord}
 use Rattle.dr_plain.specs.declared.record.HalterRecord.{HalterRecord}
 
--- an end: of which ring it is, what it knows, the slots that it has in hand,
--- the run as it was at its last step, and what it has stored since the ring's opening
-pub record EndOf (T K : Type 0) : Type 0 where
-  pub ring : TableId
-  pub knows : K
-  pub hand : List (ℕ × Token T)
-  pub past : List (Step T)
-  pub stored : List (Step T)
-
+-- the ends at their stations, with the slots that each has in hand
 abbrev pub SenderStand : Type 0 → Type 0
-SenderStand T = EndOf T (SenderRecord T)
+SenderStand T = StandOf T (Step T) (SenderRecord T)
 
 abbrev pub ReceiverStand : Type 0 → Type 0
-ReceiverStand T = EndOf T (ReceiverRecord T)
+ReceiverStand T = StandOf T (Step T) (ReceiverRecord T)
 
 -- the halter is to its caller what it is at its station
 abbrev pub HalterEnd : Type 0 → Type 0
-HalterEnd T = EndOf T (HalterRecord T)
+HalterEnd T = StandOf T (Step T) (HalterRecord T)
 
--- the sender as its caller sees it: with what was written of each sequence that is claimed and not published, and what lies in each cell
-pub record SenderEnd (T : Type 0) : Type 0 where
-  pub ring : TableId
-  pub knows : SenderRecord T
-  pub writes : List (Option T)
-  pub cells : List (Option T)
-  pub past : List (Step T)
-  pub stored : List (Step T)
+-- the others as their callers see them: the sender with what lies in each cell
+abbrev pub SenderEnd : Type 0 → Type 0
+SenderEnd T = SendingEnd T (Step T) (SenderRecord T)
 
--- a receiver as its caller sees it
-pub record ReceiverEnd (T : Type 0) : Type 0 where
-  pub ring : TableId
-  pub knows : ReceiverRecord T
-  pub past : List (Step T)
-  pub stored : List (Step T)
+abbrev pub ReceiverEnd : Type 0 → Type 0
+ReceiverEnd T = EndOf (Step T) (ReceiverRecord T)
 
 -- which end it is: of which ring, made for what, and a receiver's number
 abbrev pub SenderPlace : Type 0
@@ -67,12 +50,3 @@ module _ {T : Type 0} where
   -- what a receiver received
   abbrev pub received_of : ReceiverRecord T → Received T
   received_of r = record { events = events_of r.received; completed = r.completed }
-
-module _ {T K : Type 0} where
-  -- an end has loaded words, knows this and has this in hand: all that it saw comes before, and it has stored nothing
-  abbrev pub HasLoaded : EndOf T K → K → List (ℕ × Token T) → EndOf T K → Type 0
-  HasLoaded e knows hand e' = (e'.ring ≡ e.ring) × (e'.knows ≡ knows) × (e'.hand ≡ hand) × IsBeginning e.past e'.past × (e'.stored ≡ e.stored)
-
-  -- an end has stored a word, knows this and has this in hand
-  abbrev pub HasStored : EndOf T K → Step T → K → List (ℕ × Token T) → EndOf T K → Type 0
-  HasStored e step knows hand e' = (e'.ring ≡ e.ring) × (e'.knows ≡ knows) × (e'.hand ≡ hand) × IsBeginning e.past e'.past × (e'.stored ≡ e.stored ++ step ∷ [])

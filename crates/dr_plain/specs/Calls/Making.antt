@@ -4,6 +4,7 @@ use Rattle.atomic_table.specs.Seated.{TableId}
 use Rattle.dr_meaning.specs.declared.open_fault.OpenFault.{OpenFault}
 use Rattle.dr_meaning.specs.declared.open_fault.OpenFault.TheVariants.{BadLimit, NoMemory}
 use Rattle.dr_meaning.specs.Calls.OpenFault.{is_bad_limit}
+use Rattle.dr_lent.specs.Ends.{at_ring}
 use Rattle.dr_plain.specs.declared.record.ReceiverRecord.{ReceiverRecord}
 use Rattle.dr_plain.specs.Meaning.Shape.{Shape, handlers_of}
 use Rattle.dr_plain.specs.Meaning.Moments.{fresh_sender, fresh_receivers, fresh_halter}
@@ -22,7 +23,7 @@ pub record AreFreshEnds {T : Type 0} (k : Shape) (events : List T) (s : SenderEn
   pub past : s.past ≡ []
   pub stored : s.stored ≡ []
   pub receivers : rs ≡ map (λ r. receiver_at_ring s.ring r) (fresh_receivers k 0 (handlers_of k))
-  pub halter : t ≡ record { ring = s.ring; knows = fresh_halter k; hand = []; past = []; stored = [] }
+  pub halter : t ≡ at_ring s.ring (fresh_halter k)
 
 -- why a ring is refused: its limit, or that memory ran out
 abbrev pub fault_of : ℕ → OpenFault

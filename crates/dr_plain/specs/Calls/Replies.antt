@@ -47,9 +47,13 @@ module _ {T : Type 0} where
   abbrev pub sent_with : SenderRecord T → List (Option T) → Sent T
   sent_with r writes = record { published = events_of r.published; pending = writes }
 
-  -- in this state of it the machine replies so
-  abbrev pub Replies : Shape → State T → Command T → Reply → Type 0
-  Replies k m command reply = (machine.step (ring_setup k) m command).reply ≡ reply
+  -- in a state of it the machine replies so
+  abbrev pub RepliesIn : Shape → State T → Command T → Reply → Type 0
+  RepliesIn k m command reply = (machine.step (ring_setup k) m command).reply ≡ reply
+
+  -- and on the ring's picture
+  abbrev pub Replies : Shape → World T → Command T → Reply → Type 0
+  Replies k w command reply = RepliesIn k (picture_of k w) command reply
 
   -- at halt is what the last of these looks found there
   abbrev pub FoundHalt : World T → List Look → Type 0
@@ -73,14 +77,14 @@ module _ {T : Type 0} where
     -- by what the sender knew when the claim began, since when it has only looked
     pub claim : (n : ℕ) (r : SenderRecord T) (seen : List Look) (result : Result Claimed Refusal) → w.sender ≡ record r { looks = w.sender.looks }
         → IsAnswerOf (claim_causes (tests_of_claim r n)) (as_end result) → LooksToClaim r n seen result → DecidesClaim k w n seen result
-        → Replies k (picture_of k w) (Claim 0 n) (claim_reply result)
+        → Replies k w (Claim 0 n) (claim_reply result)
     pub write : (writes : List (Option T)) (s : ℕ) (event : T) (result : Result (Unit {0}) Refusal) → length writes ≡ w.sender.pending
-        → WriteAnswers (Some (sent_with w.sender writes)) s (as_end result) → Replies k (picture_with k w writes) (Write 0 s event) (unit_reply Written result)
+        → WriteAnswers (Some (sent_with w.sender writes)) s (as_end result) → RepliesIn k (picture_with k w writes) (Write 0 s event) (unit_reply Written result)
     pub publish : (writes : List (Option T)) (lo hi : ℕ) (result : Result (Unit {0}) Refusal) → length writes ≡ w.sender.pending
         → PublishAnswers (Some (sent_with w.sender writes)) lo hi (as_end result)
-        → Replies k (picture_with k w writes) (Publish 0 lo hi) (unit_reply Published result)
+        → RepliesIn k (picture_with k w writes) (Publish 0 lo hi) (unit_reply Published result)
     pub poll : (h room : ℕ) (r : ReceiverRecord T) (result : Result Polled Refusal) → get_elem? w.receivers h ≡ some r
         → IsAnswerOf (poll_causes (tests_of_poll r room)) (as_end result) → DecidesPoll k w r result
-        → Replies k (picture_of k w) (Poll h room) (poll_reply result)
+        → Replies k w (Poll h room) (poll_reply result)
     pub complete : (h upto : ℕ) (r : ReceiverRecord T) (result : Result (Unit {0}) Refusal) → get_elem? w.receivers h ≡ some r
-        → IsAnswerOf (complete_causes (tests_of_completion r upto)) (as_end result) → Replies k (picture_of k w) (Complete h upto) (unit_reply Completed result)
+        → IsAnswerOf (complete_causes (tests_of_completion r upto)) (as_end result) → Replies k w (Complete h upto) (unit_reply Completed result)

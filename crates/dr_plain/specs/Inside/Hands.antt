@@ -1,23 +1,23 @@
 -- What an end has in hand, and what its tokens tell of the lendings.
-use Rattle.std.specs.Prelude.{ℕ, replicate, Option, Some, None}
+use Rattle.std.specs.Prelude.{ℕ, replicate, Some, None}
 use Rattle.dr_cells.specs.Hold.{Hold, blank, whole, part, kept}
 use Rattle.dr_runs.specs.Stretches.{stretch}
-use Rattle.dr_lent.specs.declared.lent.Lent.{Lent}
 use Rattle.dr_plain.specs.Meaning.Shape.{Shape, handlers_of}
 use Rattle.dr_plain.specs.Meaning.Lying.{placed}
-use Rattle.dr_plain.specs.Calls.Ends.{EndOf}
+use Rattle.dr_plain.specs.Meaning.Records.{Laid}
 use Rattle.dr_plain.specs.Inside.Seats.{Hand}
 
 module _ {T : Type 0} where
-  abbrev pub with_hand : {K : Type 0} → EndOf T K → Hand T → EndOf T K
-  with_hand e hand = record e { hand = hand }
+  -- nothing lent, for n sequences
+  abbrev pub no_lents : ℕ → List (Laid T)
+  no_lents n = replicate n None
 
   -- every handler's slot for a sequence, with its part of this
-  abbrev pub row : Shape → ℕ → Option (Lent T) → Hand T
+  abbrev pub row : Shape → ℕ → Laid T → Hand T
   row k s l = stretch (λ h b. placed k h s b) 0 (replicate (handlers_of k) l)
 
   -- what is lent, as its lender's token tells
-  abbrev pub lent_by : Hold T → Option (Lent T)
+  abbrev pub lent_by : Hold T → Laid T
   lent_by blank = None
   lent_by (whole x) = None
   lent_by (part r x) = None

@@ -12,26 +12,27 @@ use Rattle.dr_lent.specs.declared.lent.Lent.{Lent}
 use Rattle.dr_plain.specs.Meaning.Shape.{Shape, handlers_of}
 use Rattle.dr_plain.specs.Meaning.Words.{cell_of}
 use Rattle.dr_plain.specs.Meaning.Lying.{placed}
-use Rattle.dr_plain.specs.Meaning.Records.{laid, published_more}
+use Rattle.dr_plain.specs.Meaning.Records.{laid, published_more, Laid}
 use Rattle.dr_lent.specs.Events.{events_of}
 use Rattle.dr_plain.specs.declared.record.SenderRecord.{SenderRecord}
 use Rattle.dr_plain.specs.declared.record.Step.TheVariants.{SenderPublishes}
-use Rattle.dr_plain.specs.Calls.Ends.{SenderStand, HasStored}
+use Rattle.dr_lent.specs.Ends.{HasStored}
+use Rattle.dr_plain.specs.Calls.Ends.{SenderStand}
 use Rattle.dr_plain.specs.Inside.Fits.{Keeps}
 use Rattle.dr_plain.specs.Inside.Seats.{Hand, given_by_publication}
 
 module _ {T : Type 0} where
   -- the slots of the sequences from first on, in every lane, each with its part of what is lent
-  abbrev pub lanes : Shape → ℕ → List (Option (Lent T)) → Hand T
+  abbrev pub lanes : Shape → ℕ → List (Laid T) → Hand T
   lanes k first lents = rows (placed k) (handlers_of k) first lents
 
   -- what lies in the cells of some sequences
-  abbrev pub laid_between : SenderRecord T → ℕ → ℕ → List (Option (Lent T))
+  abbrev pub laid_between : SenderRecord T → ℕ → ℕ → List (Laid T)
   laid_between r first upto = take (upto - first) (drop first (laid r))
 
   -- the token is what the sender keeps of what lies in the cell of a sequence
   abbrev pub TokenFits : SenderRecord T → ℕ → Token T → Type 0
-  TokenFits r s t = (l : Option (Lent T)) × (get_elem? (laid r) s ≡ some l) × Keeps r.plan s l t
+  TokenFits r s t = (l : Laid T) × (get_elem? (laid r) s ≡ some l) × Keeps r.plan s l t
 
   -- and so is each of some sequences
   abbrev pub TokensFitBetween : SenderRecord T → ℕ → ℕ → List (Token T) → Type 0

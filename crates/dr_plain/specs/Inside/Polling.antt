@@ -21,7 +21,7 @@ module _ {T : Type 0} where
 
   -- the cursor is not below what it took, nor more than a round beyond what it completed
   abbrev pub IsNear : ReceiverRecord T → ℕ → Type 0
-  IsNear r cursor = (length r.received ≤ cursor) × (cursor ≤ r.plan.size + r.completed)
+  IsNear r n = (length r.received ≤ n) × (n ≤ r.plan.size + r.completed)
 
   -- it looked at the counts of its first upstreams, and took nothing
   pub record LooksAtFirst (r : ReceiverRecord T) (cursor first : ℕ) (r' : ReceiverRecord T) (least : ℕ) : Type 0 where

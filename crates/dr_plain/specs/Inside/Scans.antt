@@ -1,23 +1,15 @@
 -- What the sender's looks come to, as a claim goes on.
-use Rattle.std.specs.Prelude.{◌≡◌, ℕ, ◌+◌, ◌<◌, ◌≤◌, ◌⊎◌, List, [], ◌++◌, length, slice_index, Option, Some, None}
+use Rattle.std.specs.Prelude.{◌≡◌, ℕ, ◌+◌, List, ◌++◌, length, Option, Some, None}
 use Rattle.dr_graph.specs.Meaning.Graph.{finals}
-use Rattle.dr_plain.specs.Meaning.Shape.{Shape}
-use Rattle.dr_runs.specs.OneSender.Words.{count_word}
 use Rattle.dr_runs.specs.declared.look.Look.{Look}
+use Rattle.dr_runs.specs.OneSender.Scans as scans
+use Rattle.dr_runs.specs.OneSender.Scans.{Rises}
+use Rattle.dr_plain.specs.Meaning.Shape.{Shape}
 use Rattle.dr_plain.specs.declared.record.SenderRecord.{SenderRecord}
-use Rattle.dr_runs.specs.Looks.{last_look}
-use Rattle.dr_runs.specs.OneSender.Looks.{count_looks}
-use Rattle.dr_plain.specs.Inside.Fits.{IsSeenLeast}
 
--- the last count was the first that was less
-pub record IsShort (k : Shape) (xs : List Look) (needed : ℕ) : Type 0 where
-  pub counts : List ℕ
-  pub are : xs ≡ count_looks (finals k.upstreams) counts
-  pub before : ℕ
-  pub last : length counts ≡ before + 1
-  pub among : length counts ≤ length (finals k.upstreams)
-  pub high : (i : ℕ) → i < before → needed ≤ slice_index counts i
-  pub low : slice_index counts before < needed
+-- the last final's count was the first that was less
+abbrev pub IsShort : Shape → List Look → ℕ → Type 0
+IsShort k xs needed = scans.IsShort (finals k.upstreams) needed xs
 
 module _ {T : Type 0} where
   -- the sender has made these looks more
@@ -31,17 +23,11 @@ module _ {T : Type 0} where
   -- the sender made these looks, in which no count fell
   pub record LooksAtFinals (r : SenderRecord T) (xs : List Look) (r' : SenderRecord T) : Type 0 where
     pub is : r' ≡ sender_saw r xs
-    pub rises : (f : ℕ) → last_look 0 r.looks (count_word f) ≤ last_look 0 (r.looks ++ xs) (count_word f)
+    pub rises : Rises r.looks xs
 
-  -- every count was at least what was needed, or what was remembered served
-  pub record IsEnough (r : SenderRecord T) (xs : List Look) (needed least : ℕ) : Type 0 where
-    pub enough : needed ≤ least
-    pub front : least ≤ length r.published
-    pub seen : IsSeenLeast (sender_saw r xs) least
-    pub counts : List ℕ
-    pub are : xs ≡ count_looks (finals r.plan.upstreams) counts
-    pub all : (counts ≡ []) ⊎ (length counts ≡ length (finals r.plan.upstreams))
-    pub high : (i : ℕ) → i < length counts → needed ≤ slice_index counts i
+  -- every final's count was at least what was needed, or what was remembered served
+  abbrev pub IsEnough : SenderRecord T → List Look → ℕ → ℕ → Type 0
+  IsEnough r xs needed least = scans.IsEnough (finals r.plan.upstreams) r.looks (length r.published) needed xs least
 
   abbrev pub Scans : SenderRecord T → ℕ → SenderRecord T → Option ℕ → Type 0
   Scans r need r' (Some least) = (seen : List Look) × LooksAtFinals r seen r' × IsEnough r seen need least

@@ -1,5 +1,5 @@
 -- The seats that stand for the ends of a ring, the rule that its table keeps, and what each kind of step tells.
-use Rattle.std.specs.Prelude.{◌≡◌, ℕ, ◌-◌, ◌==◌, if◌then◌else◌, List, [], ◌∷◌, ◌++◌, map, length, take, drop, Option, Some}
+use Rattle.std.specs.Prelude.{◌≡◌, ℕ, ◌-◌, ◌==◌, if◌then◌else◌, List, [], ◌∷◌, ◌++◌, map, length, take, drop, Some}
 use mathlib.Core.Option.{some}
 use denote.RawPtr.{null_ptr}
 use lib.ListN.{get_elem?}
@@ -21,7 +21,7 @@ use Rattle.dr_plain.specs.declared.record.EndRecord.TheVariants.{Receives, Sends
 use Rattle.dr_plain.specs.declared.record.Step.{Step}
 use Rattle.dr_plain.specs.Meaning.Shape.{Shape, IsShape, handlers_of}
 use Rattle.dr_plain.specs.Meaning.Words.{words_of, slots_of}
-use Rattle.dr_plain.specs.Meaning.Records.{claimed, laid, sender_looked, halt_looked, published_more, sender_halted, sender_closed, closed_looked}
+use Rattle.dr_plain.specs.Meaning.Records.{claimed, laid, sender_looked, halt_looked, published_more, sender_halted, sender_closed, closed_looked, Laid}
 use Rattle.dr_plain.specs.Meaning.Records.{receiver_looked, taken_at, cursor_looked, completed_to, halter_halted, halter_looked}
 use Rattle.dr_plain.specs.Meaning.Rule.{World}
 use Rattle.dr_plain.specs.Meaning.Lying.{placed, Lies}
@@ -145,7 +145,7 @@ module _ {T : Type 0} where
   Stores step tells s me n me' = seats.Stores ring_ends (λ s. step) tells s me n me'
 
   -- something is lent for each
-  abbrev pub lent_all : List (Lent T) → List (Option (Lent T))
+  abbrev pub lent_all : List (Lent T) → List (Laid T)
   lent_all lents = map (λ (l : Lent T). Some l) lents
 
   -- the parts that a claim of n takes, where it finds this at halt: of what lay in their cells, one for each handler

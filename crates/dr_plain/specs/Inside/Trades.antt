@@ -3,7 +3,7 @@ use Rattle.std.specs.Prelude.{ℕ, ◌-◌, take, drop}
 use Rattle.dr_runs.specs.Stretches.{stretch}
 use Rattle.dr_plain.specs.Meaning.Lying.{placed}
 use Rattle.dr_plain.specs.declared.record.ReceiverRecord.{ReceiverRecord}
-use Rattle.dr_plain.specs.Inside.Fits.{no_lents}
+use Rattle.dr_plain.specs.Inside.Hands.{no_lents}
 use Rattle.dr_plain.specs.Inside.Seats.{Hand, lent_all}
 
 module _ {T : Type 0} where

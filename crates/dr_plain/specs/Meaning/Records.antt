@@ -15,13 +15,17 @@ use Rattle.dr_runs.specs.Looks.{look, last_look, offered_by}
 abbrev pub barrier_seen : Shape → ℕ → List Look → ℕ
 barrier_seen k h looks = offered_by (last_look 0 looks cursor_word) (map (λ u. last_look 0 looks (count_word u)) (upstreams_of k.upstreams h))
 
+-- What lies in a cell, as its slots tell: one as it was lent. Of a cell that is not lent they tell nothing, for it is with the one sender always.
+abbrev pub Laid : Type 0 → Type 0
+Laid T = Option (Lent T)
+
 module _ {T : Type 0} where
   -- how many sequences the sender claimed
   abbrev pub claimed : SenderRecord T → ℕ
   claimed r = length r.published + r.pending
 
   -- What was lent, in order, after a round of nothing: what lies in the cell that a sequence claims stands at its number, and its own event a round later.
-  abbrev pub laid : SenderRecord T → List (Option (Lent T))
+  abbrev pub laid : SenderRecord T → List (Laid T)
   laid r = replicate r.plan.size None ++ map (λ (l : Lent T). Some l) r.published
 
   -- the sender has looked at a word

@@ -1,10 +1,10 @@
 -- The rule of a ring, which holds between any two steps.
-use Rattle.std.specs.Prelude.{◌≡◌, ℕ, ◌+◌, ◌<◌, ◌≤◌, true, List, length, take, slice_index, Contains}
+use Rattle.std.specs.Prelude.{◌≡◌, ℕ, ◌+◌, ◌≤◌, true, List, length, take, slice_index, Contains}
 use mathlib.Core.Option.{some}
 use lib.ListN.{get_elem?}
-use Rattle.dr_graph.specs.Meaning.Graph.{upstreams_of, finals, IsGraph}
+use Rattle.dr_graph.specs.Meaning.Graph.{upstreams_of, finals}
 use Rattle.dr_lent.specs.declared.lent.Lent.{Lent}
-use Rattle.dr_plain.specs.Meaning.Shape.{Shape, handlers_of}
+use Rattle.dr_plain.specs.Meaning.Shape.{IsShape, Shape, handlers_of}
 use Rattle.dr_plain.specs.Meaning.Words.{words_of}
 use Rattle.dr_runs.specs.OneSender.Words.{cursor_word, closed_word, count_word, HaltAndClose}
 use Rattle.dr_plain.specs.Meaning.Records.{claimed}
@@ -49,10 +49,9 @@ pub record ReceiverKept {T : Type 0} (k : Shape) (words : List ℕ) (published :
   pub looks : ArePast k words r.looks
 
 pub record KeepsRule {T : Type 0} (k : Shape) (w : World T) : Type 0 where
-  pub graph : IsGraph k.upstreams
-  pub some_slot : 0 < k.size
+  pub shape : IsShape k
   pub wide : length w.words ≡ words_of k
-  pub ends : length w.receivers ≡ handlers_of k
+  pub outlets : length w.receivers ≡ handlers_of k
   pub sender_plan : w.sender.plan ≡ k
   pub halter_plan : w.halter.plan ≡ k
   pub counts : CountsFit k w.words (length w.sender.published) (claimed w.sender)
@@ -60,4 +59,4 @@ pub record KeepsRule {T : Type 0} (k : Shape) (w : World T) : Type 0 where
   pub room : Room k w.words (claimed w.sender)
   pub flags : HaltAndClose w.words w.sender.pending w.sender.halted w.sender.closed w.halter.halted
   pub looks : ArePast k w.words w.sender.looks
-  pub watched : ArePast k w.words w.halter.looks
+  pub halter : ArePast k w.words w.halter.looks

@@ -9,7 +9,7 @@ ghost use Rattle.dr_runs.specs.Looks.{FindsMore};
 ghost use Rattle.dr_plain.specs.declared.record.Step.TheVariants.{HalterHalts};
 ghost use Rattle.std.specs.Arc.{arc_value};
 ghost use Rattle.std.specs.Prelude.{◌≡◌, ◌<◌, ◌≤◌};
-ghost use Rattle.dr_plain.specs.Calls.Ends.{HasLoaded, HasStored};
+ghost use Rattle.dr_lent.specs.Ends.{HasLoaded, HasStored};
 ghost use Rattle.dr_plain.specs.Inside.Leaving.{BelongsHalter};
 
 use super::RingSeat;

@@ -9,7 +9,7 @@ ghost use Rattle.dr_plain.specs.declared.record.Step.TheVariants.{ReceiverComple
 ghost use Rattle.dr_runs.specs.OneSender.Words.{cursor_word, closed_word, count_word as count_word_of};
 ghost use Rattle.dr_plain.specs.Meaning.Records.{closed_looked, cursor_looked, receiver_looked, taken_at, completed_to};
 ghost use Rattle.dr_plain.specs.Calls.Finds.{FindsClosed, FindsEvents};
-ghost use Rattle.dr_plain.specs.Calls.Ends.{HasLoaded, HasStored};
+ghost use Rattle.dr_lent.specs.Ends.{HasLoaded, HasStored};
 ghost use Rattle.dr_plain.specs.Inside.Seats.{taken_by_poll, given_by_completion};
 
 use super::RingSeat;

@@ -9,7 +9,7 @@ ghost use Rattle.dr_plain.specs.Meaning.Records.{sender_looked, halt_looked, pub
 ghost use Rattle.dr_lent.specs.Events.{events_of};
 ghost use Rattle.dr_plain.specs.declared.record.Step.TheVariants.{SenderPublishes, SenderHalts, SenderCloses};
 ghost use Rattle.dr_plain.specs.Calls.Finds.{FindsCompleted, FindsHalt};
-ghost use Rattle.dr_plain.specs.Calls.Ends.{HasLoaded, HasStored};
+ghost use Rattle.dr_lent.specs.Ends.{HasLoaded, HasStored};
 ghost use Rattle.dr_plain.specs.Inside.Seats.{taken_by_claim, given_by_publication};
 
 use super::RingSeat;

@@ -1,11 +1,9 @@
--- What an end of a ring is to its caller, and what one of its steps leaves of it.
-use Rattle.std.specs.Prelude.{◌≡◌, ℕ, ◌+◌, Option, List, [], ◌∷◌, ◌++◌}
+-- What the ends of a ring are, to their callers and at their stations.
+use Rattle.std.specs.Prelude.{◌≡◌, ℕ, ◌+◌, List, [], ◌∷◌}
 use Rattle.atomic_table.specs.Seated.{TableId}
-use Rattle.dr_cells.specs.declared.token.Token.{Token}
 use Rattle.dr_meaning.specs.Calls.Ends.{Received}
 use Rattle.dr_runs.specs.declared.look.Look.{Look}
 use Rattle.dr_runs.specs.Looks.{looks_at}
-use Rattle.dr_runs.specs.Runs.{IsBeginning}
 use Rattle.dr_plain_senders.specs.Meaning.Shape.{Shape}
 use Rattle.dr_plain_senders.specs.Meaning.Words.{count_word, marked_from}
 use Rattle.dr_plain_senders.specs.declared.record.Step.{Step}
@@ -14,27 +12,27 @@ use Rattle.dr_plain_senders.specs.declared.record.ReceiverRecord.{ReceiverRecord
 use Rattle.dr_plain_senders.specs.declared.record.HalterRecord.{HalterRecord}
 use Rattle.dr_plain_senders.specs.declared.record.MarkLook.{MarkLook}
 use Rattle.dr_plain_senders.specs.Meaning.Records.{mark_look}
+use Rattle.dr_runs.specs.Ends.{EndOf}
+use Rattle.dr_lent.specs.Ends.{StandOf, SendingEnd, HasStored}
 use Rattle.dr_lent.specs.Events.{events_of}
 
--- an end: of which ring it is, made for what, what it knows, the slots that it has in hand,
--- the run as it was at its last step, and what it has stored since the ring's opening
-pub record EndOf (T K : Type 0) : Type 0 where
-  pub ring : TableId
-  pub plan : Shape T
-  pub knows : K
-  pub hand : List (ℕ × Token T)
-  pub past : List (Step T)
-  pub stored : List (Step T)
-
+-- the ends at their stations, with the slots that each has in hand
 abbrev pub SenderStand : Type 0 → Type 0
-SenderStand T = EndOf T (SenderRecord T)
+SenderStand T = StandOf T (Step T) (SenderRecord T)
 
 abbrev pub ReceiverStand : Type 0 → Type 0
-ReceiverStand T = EndOf T (ReceiverRecord T)
+ReceiverStand T = StandOf T (Step T) (ReceiverRecord T)
 
 -- the halter is to its caller what it is at its station
 abbrev pub HalterEnd : Type 0 → Type 0
-HalterEnd T = EndOf T HalterRecord
+HalterEnd T = StandOf T (Step T) (HalterRecord T)
+
+-- the others as their callers see them: a sender with what it has in the cells
+abbrev pub SenderEnd : Type 0 → Type 0
+SenderEnd T = SendingEnd T (Step T) (SenderRecord T)
+
+abbrev pub ReceiverEnd : Type 0 → Type 0
+ReceiverEnd T = EndOf (Step T) (ReceiverRecord T)
 
 -- looks at the counts of some handlers
 abbrev pub count_looks : List ℕ → List ℕ → List Look
@@ -45,58 +43,25 @@ abbrev pub mark_looks : {T : Type 0} → Shape T → List Look → ℕ → List 
 mark_looks k looks s [] = []
 mark_looks k looks s (m ∷ marks) = mark_look looks s m ∷ mark_looks k looks (s + marked_from k s m) marks
 
--- a sender as its caller sees it: with what is written of each of its sequences, as it
--- claimed them one after another, while it is not published, and what it has in the cells
-pub record SenderEnd (T : Type 0) : Type 0 where
-  pub ring : TableId
-  pub plan : Shape T
-  pub knows : SenderRecord T
-  pub writes : List (Option T)
-  pub cells : List (Option T)
-  pub past : List (Step T)
-  pub stored : List (Step T)
-
--- a receiver as its caller sees it
-pub record ReceiverEnd (T : Type 0) : Type 0 where
-  pub ring : TableId
-  pub plan : Shape T
-  pub knows : ReceiverRecord T
-  pub past : List (Step T)
-  pub stored : List (Step T)
-
 -- which end it is: of which ring, made for what, and its number
 abbrev pub EndPlace : Type 0 → Type 0
 EndPlace T = TableId × Shape T × ℕ
 
 module _ {T : Type 0} where
   abbrev pub sender_place : SenderEnd T → EndPlace T
-  sender_place e = (e.ring, e.plan, e.knows.number)
+  sender_place e = (e.ring, e.knows.plan, e.knows.number)
 
   -- a sender's station alone
   abbrev pub at_station : SenderEnd T → SenderStand T
-  at_station e = record { ring = e.ring; plan = e.plan; knows = e.knows; hand = []; past = e.past; stored = e.stored }
+  at_station e = record { ring = e.ring; knows = e.knows; hand = []; past = e.past; stored = e.stored }
 
   abbrev pub receiver_place : ReceiverEnd T → EndPlace T
-  receiver_place e = (e.ring, e.plan, e.knows.number)
+  receiver_place e = (e.ring, e.knows.plan, e.knows.number)
 
   -- what a receiver received
   abbrev pub received_of : ReceiverRecord T → Received T
   received_of r = record { events = events_of r.received; completed = r.completed }
 
-module _ {T K : Type 0} where
-  -- an end is still of this ring, and the plan that it was made for
-  abbrev pub Stays : EndOf T K → EndOf T K → Type 0
-  Stays e e' = (e'.ring ≡ e.ring) × (e'.plan ≡ e.plan)
-
-  -- an end has loaded words, knows this and has this in hand: all that it saw comes before, and it has stored nothing
-  abbrev pub HasLoaded : EndOf T K → K → List (ℕ × Token T) → EndOf T K → Type 0
-  HasLoaded e knows hand e' = Stays e e' × (e'.knows ≡ knows) × (e'.hand ≡ hand) × IsBeginning e.past e'.past × (e'.stored ≡ e.stored)
-
-  -- an end has stored a word, knows this and has this in hand
-  abbrev pub HasStored : EndOf T K → Step T → K → List (ℕ × Token T) → EndOf T K → Type 0
-  HasStored e step knows hand e' = Stays e e' × (e'.knows ≡ knows) × (e'.hand ≡ hand) × IsBeginning e.past e'.past × (e'.stored ≡ e.stored ++ step ∷ [])
-
-module _ {T : Type 0} where
   -- a sender has stored a word and knows this, and what is written and lies in its cells is as before
   abbrev pub HasStoredAt : SenderEnd T → Step T → SenderRecord T → SenderEnd T → Type 0
   HasStoredAt e step knows e' = HasStored (at_station e) step knows [] (at_station e') × (e'.writes ≡ e.writes) × (e'.cells ≡ e.cells)

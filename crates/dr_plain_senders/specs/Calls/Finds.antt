@@ -19,13 +19,13 @@ module _ {T : Type 0} where
       (last_look 0 r.looks claim_word ≤ n) × (length r.received ≤ claimed_in n) × (r.told ≡ true → (is_halted n ≡ true) × (claimed_in n ≡ length r.received))
 
   -- an upstream completed no less than a receiver took, no more where it was told that the ring drained, nor more than a round beyond what it completed
-  abbrev pub FindsEvents : Shape T → ReceiverRecord T → ℕ → ℕ → Type 0
-  FindsEvents k r word n =
-      (last_look 0 r.looks word ≤ n) × (length r.received ≤ n) × (r.told ≡ true → n ≤ length r.received) × (n ≤ k.size + r.completed)
+  abbrev pub FindsEvents : ReceiverRecord T → ℕ → ℕ → Type 0
+  FindsEvents r word n =
+      (last_look 0 r.looks word ≤ n) × (length r.received ≤ n) × (r.told ≡ true → n ≤ length r.received) × (n ≤ r.plan.size + r.completed)
 
   -- who was told that the ring drained finds no mark of its next event there, and nobody more of them than leave it a round in hand
-  abbrev pub FindsNext : Shape T → ReceiverRecord T → ℕ → Type 0
-  FindsNext k r n = (r.told ≡ true → marked_next k r n ≡ 0) × (length r.received + marked_next k r n ≤ k.size + r.completed)
+  abbrev pub FindsNext : ReceiverRecord T → ℕ → Type 0
+  FindsNext r n = (r.told ≡ true → marked_next r n ≡ 0) × (length r.received + marked_next r n ≤ r.plan.size + r.completed)
 
   -- what a sender has is claimed
   abbrev pub FindsOwn : SenderRecord T → ℕ → Type 0

@@ -16,4 +16,4 @@ use Rattle.dr_plain_senders.specs.Calls.Receiving.{PollSees}
 abbrev pub HandsWhatWasThere : {T : Type 0} → Shape T → World T → World T → Type 0
 HandsWhatWasThere {T} k w u =
     (h room : ℕ) (r r' : ReceiverRecord T) (polled : Polled) → get_elem? w.receivers h ≡ some r → get_elem? u.receivers h ≡ some r'
-    → PollSees k r room r' (Ok polled) → min (available (ring_setup k) (picture_of k w) h - length r.received) room ≤ handed polled
+    → PollSees r room r' (Ok polled) → min (available (ring_setup k) (picture_of k w) h - length r.received) room ≤ handed polled

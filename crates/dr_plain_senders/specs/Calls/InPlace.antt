@@ -57,7 +57,7 @@ module _ {T : Type 0} where
       else record { published = events_in own; first = 2 ^ 64; pending = None ∷ [] }
 
   abbrev pub sending_of : SenderEnd T → Sending T
-  sending_of e = sending_by e.plan e.knows.own e.writes
+  sending_of e = sending_by e.knows.plan e.knows.own e.writes
 
   -- each call of a sender tells all that the ring's own does: so no claim, change or publication halts the ring
   abbrev pub sends_in_place : SenderEnd T → InPlaceInletCall → SenderEnd T → Type 0
@@ -82,8 +82,8 @@ module _ {T : Type 0} where
   offered_in k (u ∷ ups) marks looks = least_of (found_last (length (u ∷ ups)) looks)
 
   abbrev pub offered_of : ReceiverEnd T → ℕ
-  offered_of e = offered_in e.plan (ups_of e.plan e.knows) e.knows.marks e.knows.looks
+  offered_of e = offered_in e.knows.plan (ups_of e.knows) e.knows.marks e.knows.looks
 
   -- it saw at least so many: no less bounds what it saw
   abbrev pub SawSome : ReceiverEnd T → ℕ → Type 0
-  SawSome e n = (m : ℕ) → SawAtMost m e.plan (ups_of e.plan e.knows) e.knows → n ≤ m
+  SawSome e n = (m : ℕ) → SawAtMost m e.knows.plan (ups_of e.knows) e.knows → n ≤ m

@@ -54,10 +54,10 @@ pub record PublishLooks (T : Type 0) : Type 0 where
   pub stop : Sight T
 
 module _ {T : Type 0} where
-  abbrev pub IsReach : Shape T → SenderRecord T → ℕ → Reach → Type 0
-  IsReach k r hi Inside = (t : Stage T) × Owns r hi t
-  IsReach k r hi Outside = k.limit ≤ hi
-  IsReach k r hi (Looked found) = (hi < k.limit) × ((t : Stage T) → Owns r hi t → is_published t ≡ true)
+  abbrev pub IsReach : SenderRecord T → ℕ → Reach → Type 0
+  IsReach r hi Inside = (t : Stage T) × Owns r hi t
+  IsReach r hi Outside = r.plan.limit ≤ hi
+  IsReach r hi (Looked found) = (hi < r.plan.limit) × ((t : Stage T) → Owns r hi t → is_published t ≡ true)
 
   -- this is written of a sequence of the sender's own
   abbrev pub IsWritten : SenderEnd T → ℕ → T → Type 0
@@ -68,7 +68,7 @@ module _ {T : Type 0} where
   IsReady e s = (t : Stage T) × (event : T) × Holds e s t (Some event) × (is_published t ≡ false)
 
   pub record PublishSees (e : SenderEnd T) (lo hi : ℕ) (seen : PublishLooks T) : Type 0 where
-    pub reach : lo ≤ hi → IsReach e.plan e.knows hi seen.reach
+    pub reach : lo ≤ hi → IsReach e.knows hi seen.reach
     pub ready : (s : ℕ) → lo ≤ s → s < lo + seen.ready → IsReady e s
     pub stop : IsSight e (lo + seen.ready) seen.stop
     -- a stretch that ends before it begins is looked at nowhere
@@ -113,7 +113,7 @@ module _ {T : Type 0} where
     pub others : (i : ℕ) → ((s : ℕ) → lo ≤ s → s < upto → cell_of k s ≢ i) → get_elem? cells' i ≡ get_elem? cells i
 
   abbrev pub PublishLoses : SenderEnd T → ℕ → ℕ → SenderEnd T → Result (Unit {0}) Refusal → Type 0
-  PublishLoses e lo hi e' (Ok _) = LosesCells e.plan lo (hi + 1) e.cells e'.cells
+  PublishLoses e lo hi e' (Ok _) = LosesCells e.knows.plan lo (hi + 1) e.cells e'.cells
   PublishLoses e lo hi e' (Err refusal) = e'.cells ≡ e.cells
 
   -- the sequences from s on are published with these events, in rising order: those whose marks are in one word together, and a word after another
@@ -126,7 +126,7 @@ module _ {T : Type 0} where
     pub place : sender_place e' ≡ sender_place e
     pub seen : PublishLooks T
     pub sees : PublishSees e lo hi seen
-    pub answer : IsAnswerOf (publish_causes lo hi (tests_of_publication e.plan lo hi seen)) (as_end result)
+    pub answer : IsAnswerOf (publish_causes lo hi (tests_of_publication e.knows.plan lo hi seen)) (as_end result)
     pub all : AllReady lo hi seen.ready result
     pub lents : List (Lent T)
     pub lent : LendsWritten e lo hi lents result
@@ -134,6 +134,6 @@ module _ {T : Type 0} where
     pub writes : e'.writes ≡ writes_left e.knows.own e.writes lo hi result
     pub cells : PublishLoses e lo hi e' result
     pub steps : List (Step T)
-    pub published : ArePublished e.plan e.knows.number lo (events_of lents) steps
+    pub published : ArePublished e.knows.plan e.knows.number lo (events_of lents) steps
     pub stored : StoresWhereOk e.stored steps e'.stored result
     pub past : IsBeginning e.past e'.past

@@ -38,8 +38,8 @@ abbrev pub offer : PollLooks → ℕ
 offer seen = offered_by seen.upto seen.counts
 
 module _ {T : Type 0} where
-  abbrev pub ups_of : Shape T → ReceiverRecord T → List ℕ
-  ups_of k r = upstreams_of k.upstreams r.number
+  abbrev pub ups_of : ReceiverRecord T → List ℕ
+  ups_of r = upstreams_of r.plan.upstreams r.number
 
   -- a receiver knows all of its own tests
   abbrev pub tests_of_poll : ReceiverRecord T → ℕ → PollTests Verdict
@@ -53,17 +53,17 @@ module _ {T : Type 0} where
   walk_end r claimed room = min claimed (length r.received + room + 1)
 
   -- it looked at nothing else
-  pub record LooksInOrder (k : Shape T) (r : ReceiverRecord T) (room : ℕ) (seen : PollLooks) : Type 0 where
-    pub walks : ups_of k r ≡ [] → WalksTo k (walk_end r (claimed_in seen.claims) room) (length r.received) seen.marks seen.upto
-    pub stands : ups_of k r ≢ [] → (seen.marks ≡ []) × (seen.upto ≡ length r.received)
-    pub each : length seen.counts ≡ length (ups_of k r)
+  pub record LooksInOrder (r : ReceiverRecord T) (room : ℕ) (seen : PollLooks) : Type 0 where
+    pub walks : ups_of r ≡ [] → WalksTo r.plan (walk_end r (claimed_in seen.claims) room) (length r.received) seen.marks seen.upto
+    pub stands : ups_of r ≢ [] → (seen.marks ≡ []) × (seen.upto ≡ length r.received)
+    pub each : length seen.counts ≡ length (ups_of r)
 
   -- what a receiver knows once it has looked so
-  abbrev pub looked_round : Shape T → ReceiverRecord T → PollLooks → ReceiverRecord T
-  looked_round k r seen = record r {
+  abbrev pub looked_round : ReceiverRecord T → PollLooks → ReceiverRecord T
+  looked_round r seen = record r {
     told = r.told || (is_halted seen.claims && (claimed_in seen.claims == length r.received));
-    marks = r.marks ++ mark_looks k (r.looks ++ look claim_word seen.claims ∷ []) (length r.received) seen.marks;
-    looks = r.looks ++ look claim_word seen.claims ∷ count_looks (ups_of k r) seen.counts;
+    marks = r.marks ++ mark_looks r.plan (r.looks ++ look claim_word seen.claims ∷ []) (length r.received) seen.marks;
+    looks = r.looks ++ look claim_word seen.claims ∷ count_looks (ups_of r) seen.counts;
   }
 
   -- a receiver has taken these events more, each as it was lent
@@ -71,26 +71,26 @@ module _ {T : Type 0} where
   received_all r lents = record r { received = r.received ++ lents }
 
   -- what a poll with room for so many answers, where it saw this; who was told that the ring drained gets no batch any more
-  abbrev pub AnswersAsSeen : Shape T → ReceiverRecord T → ℕ → ReceiverRecord T → PollLooks → Polled → Type 0
-  AnswersAsSeen k r room r' seen (Batch first count last) =
+  abbrev pub AnswersAsSeen : ReceiverRecord T → ℕ → ReceiverRecord T → PollLooks → Polled → Type 0
+  AnswersAsSeen r room r' seen (Batch first count last) =
       (first ≡ length r.received) × (first < offer seen) × (count ≡ min (offer seen - first) room)
       × (IsTrue last ↔ (first + count ≡ offer seen)) × (r'.told ≡ false)
-      × ((lents : List (Lent T)) × (length lents ≡ count) × (r' ≡ received_all (looked_round k r seen) lents))
-  AnswersAsSeen k r room r' seen Drained =
+      × ((lents : List (Lent T)) × (length lents ≡ count) × (r' ≡ received_all (looked_round r seen) lents))
+  AnswersAsSeen r room r' seen Drained =
       (is_halted seen.claims ≡ true) × (claimed_in seen.claims ≡ length r.received) × (offer seen ≡ length r.received)
-      × (r' ≡ looked_round k r seen) × (r'.told ≡ true)
-  AnswersAsSeen k r room r' seen Gating =
-      (length r.received < claimed_in seen.claims) × (offer seen ≡ length r.received) × (r' ≡ looked_round k r seen)
-  AnswersAsSeen k r room r' seen Idle =
-      (is_halted seen.claims ≡ false) × (claimed_in seen.claims ≡ length r.received) × (offer seen ≡ length r.received) × (r' ≡ looked_round k r seen)
+      × (r' ≡ looked_round r seen) × (r'.told ≡ true)
+  AnswersAsSeen r room r' seen Gating =
+      (length r.received < claimed_in seen.claims) × (offer seen ≡ length r.received) × (r' ≡ looked_round r seen)
+  AnswersAsSeen r room r' seen Idle =
+      (is_halted seen.claims ≡ false) × (claimed_in seen.claims ≡ length r.received) × (offer seen ≡ length r.received) × (r' ≡ looked_round r seen)
 
   -- a poll that is not refused answers by what it saw
-  abbrev pub PollSees : Shape T → ReceiverRecord T → ℕ → ReceiverRecord T → Result Polled Refusal → Type 0
-  PollSees k r room r' (Ok polled) = (seen : PollLooks) × LooksInOrder k r room seen × AnswersAsSeen k r room r' seen polled
-  PollSees k r room r' (Err refusal) = r' ≡ r
+  abbrev pub PollSees : ReceiverRecord T → ℕ → ReceiverRecord T → Result Polled Refusal → Type 0
+  PollSees r room r' (Ok polled) = (seen : PollLooks) × LooksInOrder r room seen × AnswersAsSeen r room r' seen polled
+  PollSees r room r' (Err refusal) = r' ≡ r
 
-  abbrev pub Polls : Shape T → ReceiverRecord T → ℕ → ReceiverRecord T → Result Polled Refusal → Type 0
-  Polls k r room r' result = IsAnswerOf (poll_causes (tests_of_poll r room)) (as_end result) × PollSees k r room r' result
+  abbrev pub Polls : ReceiverRecord T → ℕ → ReceiverRecord T → Result Polled Refusal → Type 0
+  Polls r room r' result = IsAnswerOf (poll_causes (tests_of_poll r room)) (as_end result) × PollSees r room r' result
 
   abbrev pub TriesToComplete : ReceiverRecord T → ℕ → ReceiverRecord T → Result (Unit {0}) Refusal → Type 0
   TriesToComplete r n r' result =
@@ -107,7 +107,7 @@ module _ {T : Type 0} where
   -- a poll stores nothing
   abbrev pub PollCall : ReceiverEnd T → ℕ → ReceiverEnd T → Result Polled Refusal → Type 0
   PollCall e room e' result =
-      (receiver_place e' ≡ receiver_place e) × Polls e.plan e.knows room e'.knows result × (e'.stored ≡ e.stored) × IsBeginning e.past e'.past
+      (receiver_place e' ≡ receiver_place e) × Polls e.knows room e'.knows result × (e'.stored ≡ e.stored) × IsBeginning e.past e'.past
 
   -- the call whole: the end stays where it is, answers by what it knows,
   -- and stores its count where it is not refused and nothing else, and all that it saw before comes first

@@ -97,8 +97,8 @@ module _ {T : Type 0} where
   -- a handler's barrier offers nothing new: the mark of its next sequence is not there or, where it has upstreams, one of them completed no more than it took
   abbrev pub OffersNothing : Shape T → World T → ReceiverRecord T → Type 0
   OffersNothing k w r =
-      ((ups_of k r ≡ []) × (has_mark k w (length r.received) ≡ false))
-      ⊎ ((u : ℕ) × Contains (ups_of k r) u × (slice_index w.words (count_word u) ≡ length r.received))
+      ((ups_of r ≡ []) × (has_mark k w (length r.received) ≡ false))
+      ⊎ ((u : ℕ) × Contains (ups_of r) u × (slice_index w.words (count_word u) ≡ length r.received))
 
   -- what the look finds by which a poll takes nothing: at the claim word or, for `Gating`, at a mark or a count; of a batch each event is an entry of the run
   abbrev pub DecidesPoll : Shape T → World T → ReceiverRecord T → Result Polled Refusal → Type 0
@@ -133,7 +133,7 @@ module _ {T : Type 0} where
     pub write : (writes : List (ℕ × T)) (p s : ℕ) (event : T) (r : SenderRecord T) (t : Stage T) → get_elem? w.senders p ≡ some r → Owns r s t
         → RepliesIn k (picture_with k w writes) (Write p s event) (if is_published t then Refused AlreadyPublished else Written)
     -- of a whole stretch, by what it saw
-    pub publish : (writes : List (ℕ × T)) (p lo hi : ℕ) (e : SenderEnd T) (seen : PublishLooks T) (result : Result (Unit {0}) Refusal) → e.plan ≡ k
+    pub publish : (writes : List (ℕ × T)) (p lo hi : ℕ) (e : SenderEnd T) (seen : PublishLooks T) (result : Result (Unit {0}) Refusal)
         → get_elem? w.senders p ≡ some e.knows → TellsWrites k w writes e → PublishSees e lo hi seen
         → IsAnswerOf (publish_causes lo hi (tests_of_publication k lo hi seen)) (as_end result) → DecidesPublication k w lo hi seen result
         → RepliesIn k (picture_with k w writes) (Publish p lo hi) (unit_reply Published result)

@@ -20,7 +20,7 @@ use Rattle.dr_plain_senders.specs.declared.record.Step.TheVariants.{SenderClaims
 use Rattle.dr_meaning.specs.declared.claim_fault.ClaimFault.{ClaimFault}
 use Rattle.dr_meaning.specs.declared.claim_fault.ClaimFault.TheVariants.{Refused, Contended}
 use Rattle.dr_runs.specs.Runs.{IsBeginning}
-use Rattle.dr_plain_senders.specs.Calls.Ends.{SenderStand, SenderEnd, HasStoredAt, Stays, at_station, count_looks}
+use Rattle.dr_plain_senders.specs.Calls.Ends.{SenderStand, SenderEnd, HasStoredAt, at_station, count_looks}
 
 -- a claim looks at the finals' counts in rising order
 abbrev pub gate_looks : {T : Type 0} → Shape T → List ℕ → List Look
@@ -85,28 +85,28 @@ module _ {T : Type 0} where
   knows_after r n seen (Err fault) = record r { looks = r.looks ++ seen }
 
   pub record ClaimCall (e : SenderStand T) (n : ℕ) (e' : SenderStand T) (result : Result Claimed ClaimFault) : Type 0 where
-    pub stays : Stays e e'
-    pub counts : Counts e.plan n result
+    pub ring : e'.ring ≡ e.ring
+    pub counts : Counts e.knows.plan n result
     pub seen : List Look
     pub steps : List (Step T)
-    pub looks : LooksToClaim e.plan e.knows.number n seen steps result
+    pub looks : LooksToClaim e.knows.plan e.knows.number n seen steps result
     pub knows : e'.knows ≡ knows_after e.knows n seen result
     pub stored : e'.stored ≡ e.stored ++ steps
     pub past : IsBeginning e.past e'.past
     -- so no sequence reaches 2^62, and no claim is of more than 65,536
-    pub few : e.plan.limit ≤ 2 ^ 62
-    pub size : IsSize e.plan.size
+    pub few : e.knows.plan.limit ≤ 2 ^ 62
+    pub size : IsSize e.knows.plan.size
 
   -- This lay in the cell of a sequence before: in the first round what the ring began with,
   -- and what was published there last, where the sender published that itself. What another published it does not know.
-  abbrev pub LayThere : Shape T → SenderRecord T → ℕ → T → Type 0
-  LayThere k r q x = (q < k.size → get_elem? k.begun q ≡ some x)
-      × ((s : ℕ) (t : Stage T) (l : Lent T) → q ≡ k.size + s → Owns r s t → t.lent ≡ Some l → x ≡ l.event)
+  abbrev pub LayThere : SenderRecord T → ℕ → T → Type 0
+  LayThere r q x = (q < r.plan.size → get_elem? r.plan.begun q ≡ some x)
+      × ((s : ℕ) (t : Stage T) (l : Lent T) → q ≡ r.plan.size + s → Owns r s t → t.lent ≡ Some l → x ≡ l.event)
 
   -- in the cell of each sequence of a stretch lies what lay there, and what lies in all others is as before
-  pub record GainsCells (k : Shape T) (r : SenderRecord T) (lo n : ℕ) (cells cells' : List (Option T)) : Type 0 where
-    pub gained : (s : ℕ) → lo ≤ s → s < lo + n → (x : T) × (get_elem? cells' (cell_of k s) ≡ some (Some x)) × LayThere k r s x
-    pub others : (i : ℕ) → ((s : ℕ) → lo ≤ s → s < lo + n → cell_of k s ≢ i) → get_elem? cells' i ≡ get_elem? cells i
+  pub record GainsCells (r : SenderRecord T) (lo n : ℕ) (cells cells' : List (Option T)) : Type 0 where
+    pub gained : (s : ℕ) → lo ≤ s → s < lo + n → (x : T) × (get_elem? cells' (cell_of r.plan s) ≡ some (Some x)) × LayThere r s x
+    pub others : (i : ℕ) → ((s : ℕ) → lo ≤ s → s < lo + n → cell_of r.plan s ≢ i) → get_elem? cells' i ≡ get_elem? cells i
 
   -- all that a sender has is below a sequence
   abbrev pub IsBehind : SenderRecord T → ℕ → Type 0
@@ -114,7 +114,7 @@ module _ {T : Type 0} where
 
   -- nothing is written of what a claim adds, which is behind all that the sender had
   abbrev pub ClaimGains : SenderEnd T → ℕ → SenderEnd T → Result Claimed ClaimFault → Type 0
-  ClaimGains e n e' (Ok c) = (e'.writes ≡ e.writes ++ replicate n None) × GainsCells e.plan e.knows c.lo n e.cells e'.cells × IsBehind e.knows c.lo
+  ClaimGains e n e' (Ok c) = (e'.writes ≡ e.writes ++ replicate n None) × GainsCells e.knows c.lo n e.cells e'.cells × IsBehind e.knows c.lo
   ClaimGains e n e' (Err fault) = (e'.writes ≡ e.writes) × (e'.cells ≡ e.cells)
 
   -- the call of a sender's end

@@ -22,10 +22,10 @@ use Rattle.dr_plain_senders.specs.Calls.Ends.{SenderEnd, ReceiverEnd, HalterEnd,
 module _ {T : Type 0} where
   -- these are the senders of the halter's ring by their numbers, and its receivers in the graph's order
   pub record AreAllEnds (ss : List (SenderEnd T)) (rs : List (ReceiverEnd T)) (t : HalterEnd T) : Type 0 where
-    pub senders : length ss ≡ t.plan.senders
-    pub receivers : length rs ≡ handlers_of t.plan
-    pub each_sender : (p : ℕ) (e : SenderEnd T) → get_elem? ss p ≡ some e → sender_place e ≡ (t.ring, t.plan, p)
-    pub each_receiver : (h : ℕ) (e : ReceiverEnd T) → get_elem? rs h ≡ some e → receiver_place e ≡ (t.ring, t.plan, h)
+    pub senders : length ss ≡ t.knows.plan.senders
+    pub receivers : length rs ≡ handlers_of t.knows.plan
+    pub each_sender : (p : ℕ) (e : SenderEnd T) → get_elem? ss p ≡ some e → sender_place e ≡ (t.ring, t.knows.plan, p)
+    pub each_receiver : (h : ℕ) (e : ReceiverEnd T) → get_elem? rs h ≡ some e → receiver_place e ≡ (t.ring, t.knows.plan, h)
 
   -- The run of a ring, which came so far, and to what its ends know, and in which each of them stored exactly what it did.
   -- Its transcript leads the machine to the ring's picture, and has the five laws.
@@ -33,7 +33,7 @@ module _ {T : Type 0} where
     pub steps : List (Step T)
     pub entries : Transcript T
     pub world : World T
-    pub runs : Runs t.plan steps entries (new_world t.plan) world
+    pub runs : Runs t.knows.plan steps entries (new_world t.knows.plan) world
     pub came : CameTo world n on
     pub senders : world.senders ≡ map (λ (e : SenderEnd T). e.knows) ss
     pub receivers : world.receivers ≡ map (λ (e : ReceiverEnd T). e.knows) rs
@@ -41,9 +41,9 @@ module _ {T : Type 0} where
     pub sends : (p : ℕ) (e : SenderEnd T) → get_elem? ss p ≡ some e → HasPart e.past e.stored (stores_of_sender p steps) steps
     pub receives : (h : ℕ) (e : ReceiverEnd T) → get_elem? rs h ≡ some e → HasPart e.past e.stored (stores_of_receiver h steps) steps
     pub halts : HasPart t.past t.stored (stores_of_halter steps) steps
-    pub leads : LeadsTo (ring_setup t.plan) entries (picture_of t.plan world)
-    pub laws : Laws (ring_setup t.plan) entries
-    pub settles : Settles t.plan world
+    pub leads : LeadsTo (ring_setup t.knows.plan) entries (picture_of t.knows.plan world)
+    pub laws : Laws (ring_setup t.knows.plan) entries
+    pub settles : Settles t.knows.plan world
 
   -- how many events a receiver took and completed
   abbrev pub handler_counts : ReceiverRecord T → HandlerCounts

@@ -39,8 +39,8 @@ module _ {T : Type 0} where
   abbrev pub IsSight : SenderEnd T → ℕ → Sight T → Type 0
   IsSight e s (Has t w) = Holds e s t w
   IsSight e s (Found before m after) =
-      (s < e.plan.limit) × ((t : Stage T) → Owns e.knows s t → (is_published t ≡ true) × (is_out_by e.plan s before m after ≡ true))
-  IsSight e s Never = e.plan.limit ≤ s
+      (s < e.knows.plan.limit) × ((t : Stage T) → Owns e.knows s t → (is_published t ≡ true) × (is_out_by e.knows.plan s before m after ≡ true))
+  IsSight e s Never = e.knows.plan.limit ≤ s
   IsSight e s Unasked = Unit {0}
 
   abbrev pub IsAsked : Sight T → Type 0
@@ -102,7 +102,7 @@ module _ {T : Type 0} where
     pub sight : Sight T
     pub sees : IsSight e s sight
     pub asked : IsAsked sight
-    pub answer : IsAnswerOf (write_causes (tests_of_write e.plan s sight)) (as_end result)
+    pub answer : IsAnswerOf (write_causes (tests_of_write e.knows.plan s sight)) (as_end result)
     pub knows : e'.knows ≡ after_write e.knows s sight result
     pub writes : e'.writes ≡ writes_after e.knows.own e.writes s event result
     pub cells : e'.cells ≡ cells_after e.cells s event result
@@ -115,7 +115,7 @@ module _ {T : Type 0} where
     pub sight : Sight T
     pub sees : IsSight e s sight
     pub asked : IsAsked sight
-    pub answer : IsAnswerOf {A = Unit {0}} (write_causes (tests_of_write e.plan s sight)) (as_end (Err refusal))
+    pub answer : IsAnswerOf {A = Unit {0}} (write_causes (tests_of_write e.knows.plan s sight)) (as_end (Err refusal))
     pub knows : e'.knows ≡ after_write e.knows s sight (Err refusal)
     pub writes : e'.writes ≡ e.writes
     pub cells : e'.cells ≡ e.cells

@@ -57,12 +57,12 @@ module _ {T : Type 0} where
   pub record AreHandsOf (es : List (ReceiverEnd T)) (hands : List (List (Token T))) : Type 0 where
     pub count : length hands ≡ length es
     pub each : (h : ℕ) (e : ReceiverEnd T) (parts : List (Token T)) → get_elem? es h ≡ some e → get_elem? hands h ≡ some parts
-        → PartsFit e.plan e.knows parts
+        → PartsFit e.knows parts
 
   -- all ends of a ring are together: in one view, and with what they bring in its places
   pub record AreTogether (k : Shape T) (v : View (EndRecord T) (Step T)) (ss : List (SenderEnd T)) (rs : List (ReceiverEnd T)) (t : HalterEnd T)
       (counts : List HandlerCounts) (hands : List (List (Token T))) (tokens : List (Token T)) (brought : List Bool) : Type 0 where
-    pub plan : k ≡ t.plan
+    pub plan : k ≡ t.knows.plan
     pub ends : HasAllEnds v ss rs t
     pub cells : AreBrought k ss tokens brought
     pub counted : counts ≡ map (λ (e : ReceiverEnd T). handler_counts e.knows) rs

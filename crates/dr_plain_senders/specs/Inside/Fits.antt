@@ -28,30 +28,30 @@ open_count opened s (suc n) = (if opened s then 1 else 0) + open_count opened (s
 
 module _ {T : Type 0} where
   -- a receiver has the parts of what it took and did not complete
-  pub record PartsFit (k : Shape T) (r : ReceiverRecord T) (parts : List (Token T)) : Type 0 where
-    pub count : length parts ≡ k.size
-    pub held : (s : ℕ) (l : Lent T) → r.completed ≤ s → get_elem? r.received s ≡ some l → get_elem? parts (cell_of k s) ≡ some (part_of k s (lent l))
+  pub record PartsFit (r : ReceiverRecord T) (parts : List (Token T)) : Type 0 where
+    pub count : length parts ≡ r.plan.size
+    pub held : (s : ℕ) (l : Lent T) → r.completed ≤ s → get_elem? r.received s ≡ some l → get_elem? parts (cell_of r.plan s) ≡ some (part_of r.plan s (lent l))
 
   -- a receiver's numbers of taken and completed events, and its parts; it has their slots in hand, with nothing in them
   pub record ReceiverFits (e : ReceiverStand T) (count done : ℕ) (tokens : List (Token T)) : Type 0 where
     pub taken : count ≡ length e.knows.received
     pub completed : done ≡ e.knows.completed
     pub rises : done ≤ count
-    pub near : count ≤ done + e.plan.size
-    pub parts : PartsFit e.plan e.knows tokens
-    pub hand : e.hand ≡ blanks_between e.plan e.knows e.knows.completed (length e.knows.received)
+    pub near : count ≤ done + e.knows.plan.size
+    pub parts : PartsFit e.knows tokens
+    pub hand : e.hand ≡ blanks_between e.knows e.knows.completed (length e.knows.received)
 
   -- A sender's marks: what is marked as claimed is its own, and written and published as far as it is
   -- marked so. What it has else is of an older round, and published, and its cell is claimed again.
-  pub record MarksFit (k : Shape T) (r : SenderRecord T) (o : Owned) : Type 0 where
-    pub claims : length o.claimed ≡ k.size
-    pub writes : length o.written ≡ k.size
-    pub shows : length o.published ≡ k.size
+  pub record MarksFit (r : SenderRecord T) (o : Owned) : Type 0 where
+    pub claims : length o.claimed ≡ r.plan.size
+    pub writes : length o.written ≡ r.plan.size
+    pub shows : length o.published ≡ r.plan.size
     pub own : (s : ℕ) → is_marked o.claimed s ≡ true → (t : Stage T) × Owns r s t
     pub written : (s : ℕ) → is_marked o.written s ≡ true → (t : Stage T) × Owns r s t
     pub published : (s : ℕ) → is_marked o.published s ≡ true → (t : Stage T) × Owns r s t
     pub old : (s : ℕ) (t : Stage T) → Owns r s t → is_marked o.claimed s ≡ false
-        → (is_published t ≡ true) × ((z : ℕ) × (u : Stage T) × Owns r z u × (s + k.size ≤ z))
+        → (is_published t ≡ true) × ((z : ℕ) × (u : Stage T) × Owns r z u × (s + r.plan.size ≤ z))
     pub shown : (s : ℕ) (t : Stage T) → Owns r s t → is_marked o.claimed s ≡ true → is_published t ≡ is_marked o.published s
 
   -- the rows of the open ones of n sequences from s on, in rising order, with nothing in them
@@ -62,15 +62,15 @@ module _ {T : Type 0} where
   -- a sender's marks, one more than its last sequence, and its tokens: it has the cell of
   -- each open sequence, and their slots in hand in rising order, with nothing in them
   pub record SenderFits (e : SenderStand T) (o : Owned) (end : ℕ) (tokens : List (Token T)) : Type 0 where
-    pub marks : MarksFit e.plan e.knows o
+    pub marks : MarksFit e.knows o
     pub limit : end ≤ 2 ^ 62
     pub last : 0 < end → (t : Stage T) × Owns e.knows (end - 1) t
     pub below : (s : ℕ) (t : Stage T) → Owns e.knows s t → s < end
     -- all open sequences are within one round
-    pub near : (s : ℕ) → is_open o s ≡ true → end ≤ s + e.plan.size
-    pub count : length tokens ≡ e.plan.size
-    pub whole : (s : ℕ) (t : Token T) → is_open o s ≡ true → get_elem? tokens (cell_of e.plan s) ≡ some t → IsWholeOf e.plan s t
-    pub hand : e.hand ≡ open_rows e.plan (is_open o) 0 end
+    pub near : (s : ℕ) → is_open o s ≡ true → end ≤ s + e.knows.plan.size
+    pub count : length tokens ≡ e.knows.plan.size
+    pub whole : (s : ℕ) (t : Token T) → is_open o s ≡ true → get_elem? tokens (cell_of e.knows.plan s) ≡ some t → IsWholeOf e.knows.plan s t
+    pub hand : e.hand ≡ open_rows e.knows.plan (is_open o) 0 end
 
   -- what is written of a sequence that is not published
   abbrev pub written_in : Shape T → Owned → List (Token T) → ℕ → Option T

@@ -5,16 +5,12 @@ use Rattle.dr_cells.specs.Tokens.{no_token}
 use Rattle.dr_runs.specs.Stretches.{stretch}
 use Rattle.dr_plain_senders.specs.Meaning.Shape.{Shape}
 use Rattle.dr_plain_senders.specs.Meaning.Words.{slot_of}
-use Rattle.dr_plain_senders.specs.Calls.Ends.{EndOf}
 use Rattle.dr_plain_senders.specs.Inside.Seats.{Hand}
 
 abbrev pub nothings : ℕ → List (Unit {0})
 nothings n = replicate n tt
 
 module _ {T : Type 0} where
-  abbrev pub with_hand : {K : Type 0} → EndOf T K → Hand T → EndOf T K
-  with_hand e hand = record e { hand = hand }
-
   -- the slot of a lane for a sequence, with nothing in it
   abbrev pub blank_slot : Shape T → ℕ → ℕ → ℕ × Token T
   blank_slot k lane s = (slot_of k lane s, no_token)

@@ -15,7 +15,8 @@ use Rattle.dr_lent.specs.Events.{events_of}
 use Rattle.dr_plain_senders.specs.declared.record.SenderRecord.{SenderRecord}
 use Rattle.dr_plain_senders.specs.declared.record.Step.{Step}
 use Rattle.dr_plain_senders.specs.declared.record.Step.TheVariants.{SenderPublishes}
-use Rattle.dr_plain_senders.specs.Calls.Ends.{SenderStand, Stays, HasLoaded}
+use Rattle.dr_lent.specs.Ends.{HasLoaded}
+use Rattle.dr_plain_senders.specs.Calls.Ends.{SenderStand}
 use Rattle.dr_plain_senders.specs.Calls.Publishing.{is_between, LosesCells, ArePublished}
 use Rattle.dr_plain_senders.specs.Inside.Rows.{IsWholeOf}
 use Rattle.dr_plain_senders.specs.Inside.Fits.{written_in}
@@ -37,8 +38,8 @@ module _ {T : Type 0} where
   pub record HasPublishedRun (e : SenderStand T) (o : Owned) (tokens : List (Token T))
       (lo upto : ℕ) (e' : SenderStand T) (o' : Owned) (tokens' : List (Token T)) : Type 0 where
     pub lents : List (Lent T)
-    pub all : ArePublic e.plan e.knows o tokens lo upto lents e'.knows o' tokens'
-    pub stays : Stays e e'
+    pub all : ArePublic e.knows.plan e.knows o tokens lo upto lents e'.knows o' tokens'
+    pub ring : e'.ring ≡ e.ring
     pub past : IsBeginning e.past e'.past
     pub stored : e'.stored ≡ e.stored ++ SenderPublishes e.knows.number lo (events_of lents) ∷ []
 
@@ -46,11 +47,11 @@ module _ {T : Type 0} where
   pub record HasPublishedAll (e : SenderStand T) (o : Owned) (tokens : List (Token T))
       (lo upto : ℕ) (e' : SenderStand T) (o' : Owned) (tokens' : List (Token T)) : Type 0 where
     pub lents : List (Lent T)
-    pub all : ArePublic e.plan e.knows o tokens lo upto lents e'.knows o' tokens'
-    pub stays : Stays e e'
+    pub all : ArePublic e.knows.plan e.knows o tokens lo upto lents e'.knows o' tokens'
+    pub ring : e'.ring ≡ e.ring
     pub past : IsBeginning e.past e'.past
     pub steps : List (Step T)
-    pub published : ArePublished e.plan e.knows.number lo (events_of lents) steps
+    pub published : ArePublished e.knows.plan e.knows.number lo (events_of lents) steps
     pub stored : e'.stored ≡ e.stored ++ steps
 
   -- the tokens of n sequences from s on are gone

@@ -6,7 +6,8 @@ use Rattle.dr_runs.specs.Looks.{look}
 use Rattle.dr_plain_senders.specs.Meaning.Words.{claim_word, is_out_by}
 use Rattle.dr_plain_senders.specs.Meaning.Records.{mark_look}
 use Rattle.dr_plain_senders.specs.declared.record.SenderRecord.{SenderRecord}
-use Rattle.dr_plain_senders.specs.Calls.Ends.{SenderStand, HasLoaded}
+use Rattle.dr_lent.specs.Ends.{HasLoaded}
+use Rattle.dr_plain_senders.specs.Calls.Ends.{SenderStand}
 use Rattle.dr_plain_senders.specs.Calls.Finds.{FindsOwn}
 
 -- what a sender knows after these looks
@@ -23,4 +24,4 @@ pub record RefusesBy {T : Type 0} (e : SenderStand T) (s : ℕ) (e' : SenderStan
   pub loaded : HasLoaded e (refused_by e.knows s before mark after) e.hand e'
   pub first : FindsOwn e.knows before
   pub last : FindsOwn e.knows after
-  pub is : refusal ≡ (if is_out_by e.plan s before mark after then AlreadyPublished else NotClaimed)
+  pub is : refusal ≡ (if is_out_by e.knows.plan s before mark after then AlreadyPublished else NotClaimed)

@@ -4,7 +4,6 @@ use Rattle.dr_meaning.specs.declared.command.Claimed.{Claimed}
 use Rattle.dr_meaning.specs.declared.claim_fault.ClaimFault.{ClaimFault}
 use Rattle.dr_graph.specs.Meaning.Graph.{finals}
 use Rattle.dr_runs.specs.declared.look.Look.{Look}
-use Rattle.dr_plain_senders.specs.Meaning.Shape.{Shape}
 use Rattle.dr_plain_senders.specs.declared.record.Stage.{Stage}
 use Rattle.dr_plain_senders.specs.declared.record.SenderRecord.{SenderRecord}
 use Rattle.dr_plain_senders.specs.Meaning.Records.{Owns}
@@ -36,15 +35,15 @@ module _ {T : Type 0} where
   sender_saw r seen = record r { looks = r.looks ++ seen }
 
   -- a sender looked at the finals' counts
-  abbrev pub Scans : Shape T → SenderRecord T → ℕ → SenderRecord T → Bool → Type 0
-  Scans k r need r' found = (counts : List ℕ) × (r' ≡ sender_saw r (count_looks (finals k.upstreams) counts)) × Found (finals k.upstreams) counts need found
+  abbrev pub Scans : SenderRecord T → ℕ → SenderRecord T → Bool → Type 0
+  Scans r need r' found = (counts : List ℕ) × (r' ≡ sender_saw r (count_looks (finals r.plan.upstreams) counts)) × Found (finals r.plan.upstreams) counts need found
 
   -- what a claim that is given tells of the sequences that the sender had
   abbrev pub ClaimsApart : SenderStand T → ℕ → ℕ → Type 0
-  ClaimsApart e lo n = (s : ℕ) (t : Stage T) → Owns e.knows s t → IsEarlier e.plan lo (lo + n) s t
+  ClaimsApart e lo n = (s : ℕ) (t : Stage T) → Owns e.knows s t → IsEarlier e.knows.plan lo (lo + n) s t
 
   -- the slots that the stretch has are in hand, with what lay in them, and else the same
   abbrev pub ClaimTakes : SenderStand T → ℕ → SenderStand T → Result Claimed ClaimFault → Type 0
   ClaimTakes e n e' (Ok c) =
-      (laid : List (Laid T)) × LayIn e.plan c.lo n laid × (e'.hand ≡ taken_by_claim e.plan c.lo laid ++ e.hand) × LayAsLent e.plan e.knows c.lo laid
+      (laid : List (Laid T)) × LayIn e.knows.plan c.lo n laid × (e'.hand ≡ taken_by_claim e.knows.plan c.lo laid ++ e.hand) × LayAsLent e.knows c.lo laid
   ClaimTakes e n e' (Err fault) = e'.hand ≡ e.hand

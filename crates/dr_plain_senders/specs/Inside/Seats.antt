@@ -24,12 +24,12 @@ use Rattle.dr_plain_senders.specs.declared.record.EndRecord.{EndRecord}
 use Rattle.dr_plain_senders.specs.declared.record.EndRecord.TheVariants.{Sends, Receives, Halts}
 use Rattle.dr_plain_senders.specs.declared.record.Step.{Step}
 use Rattle.dr_plain_senders.specs.Meaning.Records.{Owns, has_published, sender_looked, mark_found, claims_looked, taken_at_mark, mark_looked}
-use Rattle.dr_plain_senders.specs.Meaning.Records.{taken_at_count, receiver_looked, completed_to, halter_halted, halter_looked}
+use Rattle.dr_plain_senders.specs.Meaning.Records.{taken_at, receiver_looked, completed_to, halter_halted, halter_looked}
 use Rattle.dr_plain_senders.specs.Meaning.Rule.{World}
 use Rattle.dr_plain_senders.specs.Meaning.Lying.{Laid, unlent, lent, placed, Lies}
 use Rattle.dr_plain_senders.specs.Meaning.Steps.{Happens}
 use Rattle.dr_plain_senders.specs.Meaning.Stores.{sender_number, receiver_number, is_store_of}
-use Rattle.dr_plain_senders.specs.Meaning.Moments.{fresh_sender, fresh_senders, fresh_receiver, fresh_receivers, new_world, entries_of}
+use Rattle.dr_plain_senders.specs.Meaning.Moments.{fresh_sender, fresh_senders, fresh_receiver, fresh_receivers, fresh_halter, new_world, entries_of}
 use Rattle.dr_plain_senders.specs.Calls.Finds.{FindsClaims, FindsEvents, FindsNext, FindsOwn, IsEarlier, exchanged, after_exchange}
 
 -- what is known of a seat's ends, with the slots that it has in hand, and a seat: with it, the run as it was at each end's last step
@@ -92,16 +92,16 @@ module _ {T : Type 0} where
   Ruled k s = over.RuledOrOver (exchange k) s
 
   -- n senders of a new ring, from the number p on
-  abbrev pub known_senders : ℕ → ℕ → List (EndRecord T)
-  known_senders p n = map (λ r. Sends r) (fresh_senders p n)
+  abbrev pub known_senders : Shape T → ℕ → ℕ → List (EndRecord T)
+  known_senders k p n = map (λ r. Sends r) (fresh_senders k p n)
 
   -- n receivers, from the number h on
-  abbrev pub known_receivers : ℕ → ℕ → List (EndRecord T)
-  known_receivers h n = map (λ r. Receives r) (fresh_receivers h n)
+  abbrev pub known_receivers : Shape T → ℕ → ℕ → List (EndRecord T)
+  known_receivers k h n = map (λ r. Receives r) (fresh_receivers k h n)
 
   -- the ends of a new ring: the halter, the senders, and the receivers
   abbrev pub fresh_ends : Shape T → List (EndRecord T)
-  fresh_ends k = Halts record { looks = [] } ∷ known_senders 0 k.senders ++ known_receivers 0 (handlers_of k)
+  fresh_ends k = Halts (fresh_halter k) ∷ known_senders k 0 k.senders ++ known_receivers k 0 (handlers_of k)
 
   -- the view that has them all
   abbrev pub all_ends : Shape T → View (EndRecord T) (Step T)
@@ -114,21 +114,21 @@ module _ {T : Type 0} where
   abbrev pub as_receiver : ReceiverRecord T → Hand T → End T
   as_receiver r hand = holding (Receives r) hand
 
-  abbrev pub as_halter : HalterRecord → End T
+  abbrev pub as_halter : HalterRecord T → End T
   as_halter r = holding (Halts r) []
 
   -- the first record of a view
   abbrev pub sender_of : List (EndRecord T) → SenderRecord T
   sender_of (Sends r ∷ es) = r
-  sender_of _ = fresh_sender 0
+  sender_of _ = fresh_sender no_shape 0
 
   abbrev pub receiver_of : List (EndRecord T) → ReceiverRecord T
   receiver_of (Receives r ∷ es) = r
-  receiver_of _ = fresh_receiver 0
+  receiver_of _ = fresh_receiver no_shape 0
 
-  abbrev pub halter_of : List (EndRecord T) → HalterRecord
+  abbrev pub halter_of : List (EndRecord T) → HalterRecord T
   halter_of (Halts r ∷ es) = r
-  halter_of _ = record { looks = [] }
+  halter_of _ = fresh_halter no_shape
 
   abbrev pub IsSender : End T → Type 0
   IsSender me = me ≡ as_sender (sender_of me.0) me.1
@@ -157,9 +157,9 @@ module _ {T : Type 0} where
     pub rounds : (i : ℕ) (a : Laid T) → get_elem? laid i ≡ some a → IsOfRound k (c + i) a
 
   -- of a cell whose last sequence a sender published itself, there lay what it lent
-  abbrev pub LayAsLent : Shape T → SenderRecord T → ℕ → List (Laid T) → Type 0
-  LayAsLent k r c laid =
-      (i s : ℕ) (a : Laid T) (t : Stage T) (l : Lent T) → get_elem? laid i ≡ some a → c + i ≡ k.size + s → Owns r s t → t.lent ≡ Some l → a ≡ lent l
+  abbrev pub LayAsLent : SenderRecord T → ℕ → List (Laid T) → Type 0
+  LayAsLent r c laid =
+      (i s : ℕ) (a : Laid T) (t : Stage T) (l : Lent T) → get_elem? laid i ≡ some a → c + i ≡ r.plan.size + s → Owns r s t → t.lent ≡ Some l → a ≡ lent l
 
   -- something is lent for each
   abbrev pub lent_all : List (Lent T) → List (Laid T)
@@ -174,11 +174,11 @@ module _ {T : Type 0} where
   given_by_publication k s lents = rows (placed k) (lanes_of k) s (lent_all lents)
 
   -- the parts that a receiver takes with these events, and those that it gives once it completes all below n
-  abbrev pub taken_by_poll : Shape T → ReceiverRecord T → List (Lent T) → Hand T
-  taken_by_poll k r lents = stretch (placed k (lane_of r.number)) (length r.received) (lent_all lents)
+  abbrev pub taken_by_poll : ReceiverRecord T → List (Lent T) → Hand T
+  taken_by_poll r lents = stretch (placed r.plan (lane_of r.number)) (length r.received) (lent_all lents)
 
-  abbrev pub given_by_completion : Shape T → ReceiverRecord T → ℕ → Hand T
-  given_by_completion k r n = stretch (placed k (lane_of r.number)) r.completed (lent_all (take (n - r.completed) (drop r.completed r.received)))
+  abbrev pub given_by_completion : ReceiverRecord T → ℕ → Hand T
+  given_by_completion r n = stretch (placed r.plan (lane_of r.number)) r.completed (lent_all (take (n - r.completed) (drop r.completed r.received)))
 
   -- What each kind of step tells: of the seat before and the word found or stored, the seat after.
   abbrev pub SenderLookedAtCount : Tells T
@@ -190,16 +190,16 @@ module _ {T : Type 0} where
       let r : SenderRecord T = sender_of me.0 in
       (me' ≡ as_sender (sender_looked r s.word n) me.1) × FindsMore r.looks s.word n × FindsOwn r n
 
-  abbrev pub SenderClaimed : Shape T → Tells T
-  SenderClaimed k s me n me' = let r : SenderRecord T = sender_of me.0 in let more : ℕ = s.second - s.first in
-      (laid : List (Laid T)) × LayIn k s.first (exchanged s.first more n) laid
-      × (me' ≡ as_sender (after_exchange r s.first more n) (taken_by_claim k s.first laid ++ me.1))
-      × FindsMore r.looks claim_word n × (n ≡ s.first → (z : ℕ) (t : Stage T) → Owns r z t → IsEarlier k s.first s.second z t)
-      × LayAsLent k r s.first laid
+  abbrev pub SenderClaimed : Tells T
+  SenderClaimed s me n me' = let r : SenderRecord T = sender_of me.0 in let more : ℕ = s.second - s.first in
+      (laid : List (Laid T)) × LayIn r.plan s.first (exchanged s.first more n) laid
+      × (me' ≡ as_sender (after_exchange r s.first more n) (taken_by_claim r.plan s.first laid ++ me.1))
+      × FindsMore r.looks claim_word n × (n ≡ s.first → (z : ℕ) (t : Stage T) → Owns r z t → IsEarlier r.plan s.first s.second z t)
+      × LayAsLent r s.first laid
 
-  abbrev pub SenderPublished : Shape T → ℕ → List (Lent T) → Tells T
-  SenderPublished k sequence lents s me n me' =
-      me' ≡ as_sender (has_published (sender_of me.0) sequence lents) (drop (length (given_by_publication k sequence lents)) me.1)
+  abbrev pub SenderPublished : ℕ → List (Lent T) → Tells T
+  SenderPublished sequence lents s me n me' = let r : SenderRecord T = sender_of me.0 in
+      me' ≡ as_sender (has_published r sequence lents) (drop (length (given_by_publication r.plan sequence lents)) me.1)
 
   abbrev pub SenderLookedAtMark : ℕ → Tells T
   SenderLookedAtMark sequence s me n me' = me' ≡ as_sender (mark_found (sender_of me.0) sequence n) me.1
@@ -211,19 +211,19 @@ module _ {T : Type 0} where
   abbrev pub ReceiverLookedAtClaims : Tells T
   ReceiverLookedAtClaims s me n me' = let r : ReceiverRecord T = receiver_of me.0 in (me' ≡ as_receiver (claims_looked r n) me.1) × FindsClaims r n
 
-  abbrev pub ReceiverLookedAtMark : Shape T → ℕ → Tells T
-  ReceiverLookedAtMark k room s me n me' = let r : ReceiverRecord T = receiver_of me.0 in
-      (lents : List (Lent T)) × (length lents ≡ taken_at_mark k r n room)
-      × (me' ≡ as_receiver (mark_looked r n lents) (taken_by_poll k r lents ++ me.1)) × FindsNext k r n
+  abbrev pub ReceiverLookedAtMark : ℕ → Tells T
+  ReceiverLookedAtMark room s me n me' = let r : ReceiverRecord T = receiver_of me.0 in
+      (lents : List (Lent T)) × (length lents ≡ taken_at_mark r n room)
+      × (me' ≡ as_receiver (mark_looked r n lents) (taken_by_poll r lents ++ me.1)) × FindsNext r n
 
-  abbrev pub ReceiverLookedAtCount : Shape T → ℕ → Tells T
-  ReceiverLookedAtCount k room s me n me' = let r : ReceiverRecord T = receiver_of me.0 in
-      (lents : List (Lent T)) × (length lents ≡ taken_at_count k r s.word n room)
-      × (me' ≡ as_receiver (receiver_looked r s.word n lents) (taken_by_poll k r lents ++ me.1)) × FindsEvents k r s.word n
+  abbrev pub ReceiverLookedAtCount : ℕ → Tells T
+  ReceiverLookedAtCount room s me n me' = let r : ReceiverRecord T = receiver_of me.0 in
+      (lents : List (Lent T)) × (length lents ≡ taken_at r s.word n room)
+      × (me' ≡ as_receiver (receiver_looked r s.word n lents) (taken_by_poll r lents ++ me.1)) × FindsEvents r s.word n
 
-  abbrev pub ReceiverCompleted : Shape T → Tells T
-  ReceiverCompleted k s me n me' = let r : ReceiverRecord T = receiver_of me.0 in
-      me' ≡ as_receiver (completed_to r n) (drop (length (given_by_completion k r n)) me.1)
+  abbrev pub ReceiverCompleted : Tells T
+  ReceiverCompleted s me n me' = let r : ReceiverRecord T = receiver_of me.0 in
+      me' ≡ as_receiver (completed_to r n) (drop (length (given_by_completion r n)) me.1)
 
   abbrev pub HalterHalted : Tells T
   HalterHalted s me n me' = me' ≡ as_halter (halter_halted (halter_of me.0) n)
@@ -231,6 +231,6 @@ module _ {T : Type 0} where
   -- where it looks at the claim word, no claim is taken back
   abbrev pub HalterLooked : Tells T
   HalterLooked s me n me' =
-      let r : HalterRecord = halter_of me.0 in
+      let r : HalterRecord T = halter_of me.0 in
       (me' ≡ as_halter (halter_looked r s.word n)) × FindsMore r.looks s.word n
       × (s.word ≡ claim_word → claimed_in (last_look 0 r.looks claim_word) ≤ claimed_in n)

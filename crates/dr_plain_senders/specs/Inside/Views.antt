@@ -10,13 +10,12 @@ module _ {T : Type 0} where
   abbrev pub sender_end : SenderStand T → Owned → List (Token T) → SenderEnd T
   sender_end e o tokens = record {
     ring = e.ring;
-    plan = e.plan;
     knows = e.knows;
-    writes = writes_of e.plan o tokens e.knows.own;
+    writes = writes_of e.knows.plan o tokens e.knows.own;
     cells = cells_of tokens;
     past = e.past;
     stored = e.stored;
   }
 
   abbrev pub receiver_end : ReceiverStand T → ReceiverEnd T
-  receiver_end e = record { ring = e.ring; plan = e.plan; knows = e.knows; past = e.past; stored = e.stored }
+  receiver_end e = record { ring = e.ring; knows = e.knows; past = e.past; stored = e.stored }

@@ -14,44 +14,49 @@ use Rattle.dr_runs.specs.Runs as runs
 use Rattle.dr_runs.specs.Entries.{entry, told_drained, poll_of}
 use Rattle.dr_lent.specs.declared.lent.Lent.{Lent}
 use Rattle.dr_plain_senders.specs.Meaning.Shape.{Shape, handlers_of, ring_setup}
-use Rattle.dr_plain_senders.specs.Meaning.Words.{claim_word, is_halted, count_word, mark_word, is_out_by, words_of}
+use Rattle.dr_plain_senders.specs.Meaning.Words.{claim_word, is_halted, count_word, mark_start, mark_word, is_out_by, words_of}
 use Rattle.dr_plain_senders.specs.declared.record.Stage.{Stage}
 use Rattle.dr_plain_senders.specs.declared.record.SenderRecord.{SenderRecord}
 use Rattle.dr_plain_senders.specs.declared.record.ReceiverRecord.{ReceiverRecord}
+use Rattle.dr_plain_senders.specs.declared.record.HalterRecord.{HalterRecord}
 use Rattle.dr_plain_senders.specs.declared.record.Step.{Step}
 use Rattle.dr_plain_senders.specs.declared.record.Step.TheVariants.{SenderLooksAtClaims, SenderLooksAtCount, SenderClaims, SenderPublishes}
 use Rattle.dr_plain_senders.specs.declared.record.Step.TheVariants.{SenderLooksAtMark, SenderHalts}
 use Rattle.dr_plain_senders.specs.declared.record.Step.TheVariants.{ReceiverLooksAtClaims, ReceiverLooksAtMark, ReceiverLooksAtCount}
 use Rattle.dr_plain_senders.specs.declared.record.Step.TheVariants.{ReceiverCompletes, HalterHalts, HalterLooks}
-use Rattle.dr_plain_senders.specs.Meaning.Records.{fresh_stage, is_published, tells_drained, taken_at_mark, taken_at_count}
+use Rattle.dr_plain_senders.specs.Meaning.Records.{fresh_stage, is_published, tells_drained, taken_at_mark, taken_at}
 use Rattle.dr_plain_senders.specs.Meaning.Rule.{World, is_out_now}
 use Rattle.dr_plain_senders.specs.Meaning.Steps.{Happens}
 
 module _ {T : Type 0} where
-  abbrev pub fresh_sender : ℕ → SenderRecord T
-  fresh_sender p = record { number = p; own = []; marks = []; looks = [] }
+  -- the ends of a new ring
+  abbrev pub fresh_sender : Shape T → ℕ → SenderRecord T
+  fresh_sender k p = record { plan = k; number = p; own = []; marks = []; looks = [] }
 
   -- n senders, from the number p on
-  abbrev pub fresh_senders : ℕ → ℕ → List (SenderRecord T)
-  fresh_senders p zero = []
-  fresh_senders p (suc n) = fresh_sender p ∷ fresh_senders (suc p) n
+  abbrev pub fresh_senders : Shape T → ℕ → ℕ → List (SenderRecord T)
+  fresh_senders k p zero = []
+  fresh_senders k p (suc n) = fresh_sender k p ∷ fresh_senders k (suc p) n
 
-  abbrev pub fresh_receiver : ℕ → ReceiverRecord T
-  fresh_receiver h = record { number = h; received = []; marks = []; completed = 0; told = false; looks = [] }
+  abbrev pub fresh_receiver : Shape T → ℕ → ReceiverRecord T
+  fresh_receiver k h = record { plan = k; number = h; received = []; marks = []; completed = 0; told = false; looks = [] }
 
   -- n receivers, from the number h on
-  abbrev pub fresh_receivers : ℕ → ℕ → List (ReceiverRecord T)
-  fresh_receivers h zero = []
-  fresh_receivers h (suc n) = fresh_receiver h ∷ fresh_receivers (suc h) n
+  abbrev pub fresh_receivers : Shape T → ℕ → ℕ → List (ReceiverRecord T)
+  fresh_receivers k h zero = []
+  fresh_receivers k h (suc n) = fresh_receiver k h ∷ fresh_receivers k (suc h) n
+
+  abbrev pub fresh_halter : Shape T → HalterRecord T
+  fresh_halter k = record { plan = k; looks = [] }
 
   -- a new ring: each word is 0
   abbrev pub new_world : Shape T → World T
   new_world k = record {
     words = replicate (words_of k) 0;
     stages = [];
-    senders = fresh_senders 0 k.senders;
-    receivers = fresh_receivers 0 (handlers_of k);
-    halter = record { looks = [] };
+    senders = fresh_senders k 0 k.senders;
+    receivers = fresh_receivers k 0 (handlers_of k);
+    halter = fresh_halter k;
   }
 
   abbrev pub taken_of : ReceiverRecord T → ℕ
@@ -79,8 +84,8 @@ module _ {T : Type 0} where
     halted = is_halted (slice_index w.words claim_word);
   }
 
-  abbrev pub receiver_at : World T → ℕ → ReceiverRecord T
-  receiver_at w h = slice_index_or w.receivers h (fresh_receiver 0)
+  abbrev pub receiver_at : Shape T → World T → ℕ → ReceiverRecord T
+  receiver_at k w h = slice_index_or w.receivers h (fresh_receiver k h)
 
   -- the events of n sequences from s on, as far as they are published
   abbrev pub events_from : List (Stage T) → ℕ → ℕ → List T
@@ -104,11 +109,11 @@ module _ {T : Type 0} where
   entries_of k (SenderPublishes p s events) w = published_by p s events
   entries_of k (SenderLooksAtMark p s) w = []
   entries_of k (SenderHalts p) w = entry Halt Halting []
-  entries_of k (ReceiverLooksAtClaims h) w = if tells_drained (receiver_at w h) (slice_index w.words claim_word) then told_drained h ∷ [] else []
+  entries_of k (ReceiverLooksAtClaims h) w = if tells_drained (receiver_at k w h) (slice_index w.words claim_word) then told_drained h ∷ [] else []
   entries_of k (ReceiverLooksAtMark h room) w =
-      let r : ReceiverRecord T = receiver_at w h in batch_of k w h r (taken_at_mark k r (slice_index w.words (mark_word k (length r.received))) room)
+      let r : ReceiverRecord T = receiver_at k w h in batch_of k w h r (taken_at_mark r (slice_index w.words (mark_word k (length r.received))) room)
   entries_of k (ReceiverLooksAtCount h u room) w =
-      let r : ReceiverRecord T = receiver_at w h in batch_of k w h r (taken_at_count k r (count_word u) (slice_index w.words (count_word u)) room)
+      let r : ReceiverRecord T = receiver_at k w h in batch_of k w h r (taken_at r (count_word u) (slice_index w.words (count_word u)) room)
   entries_of k (ReceiverCompletes h n) w = entry (Complete h n) Completed []
   entries_of k HalterHalts w = entry Halt Halting []
   entries_of k (HalterLooks word) w = []
@@ -137,8 +142,8 @@ module _ {T : Type 0} where
       let said : Bool = is_out_by k s (slice_index w.words claim_word) (slice_index u.words (mark_word k s)) (slice_index v.words claim_word) in
       ((picture_of k w).published s ≡ said) ⊎ ((picture_of k u).published s ≡ said) ⊎ ((picture_of k v).published s ≡ said)
 
-  -- No handler's count falls, and no claim is taken back: so what the last look of a
+  -- No word falls but those with marks, and no claim is taken back: so what the last look of a
   -- claim without room finds was so already at its first, and what is claimed stays so.
   abbrev pub NothingFalls : Shape T → World T → World T → Type 0
   NothingFalls k w u =
-      ((f : ℕ) → f < handlers_of k → slice_index w.words (count_word f) ≤ slice_index u.words (count_word f)) × (length w.stages ≤ length u.stages)
+      ((word : ℕ) → word < mark_start k → slice_index w.words word ≤ slice_index u.words word) × (length w.stages ≤ length u.stages)

@@ -20,13 +20,6 @@ use Rattle.dr_plain_senders.specs.declared.record.HalterRecord.{HalterRecord}
 abbrev pub barrier_seen : {T : Type 0} → Shape T → ℕ → List Look → ℕ
 barrier_seen k h looks = offered_by 0 (map (λ u. last_look 0 looks (count_word u)) (upstreams_of k.upstreams h))
 
-abbrev pub halter_halted : HalterRecord → ℕ → HalterRecord
-halter_halted r found = record r { looks = r.looks ++ look claim_word (halted_from found) ∷ [] }
-
--- the halter has looked at a word
-abbrev pub halter_looked : HalterRecord → ℕ → ℕ → HalterRecord
-halter_looked r word found = record r { looks = r.looks ++ look word found ∷ [] }
-
 -- a look at the mark of a sequence, which found this in its word, after these looks at other words
 abbrev pub mark_look : List Look → ℕ → ℕ → MarkLook
 mark_look looks s found = record { sequence = s; found = found; after = length looks }
@@ -87,20 +80,20 @@ module _ {T : Type 0} where
   claims_looked r found = record r { told = r.told || tells_drained r found; looks = r.looks ++ look claim_word found ∷ [] }
 
   -- how many of its next events have their marks there, one after the other, where it finds this in the word of the next one's
-  abbrev pub marked_next : Shape T → ReceiverRecord T → ℕ → ℕ
-  marked_next k r found = marked_from k (length r.received) found
+  abbrev pub marked_next : ReceiverRecord T → ℕ → ℕ
+  marked_next r found = marked_from r.plan (length r.received) found
 
   -- how many events a receiver without upstreams takes there, where it has room for so many
-  abbrev pub taken_at_mark : Shape T → ReceiverRecord T → ℕ → ℕ → ℕ
-  taken_at_mark k r found room = min room (marked_next k r found)
+  abbrev pub taken_at_mark : ReceiverRecord T → ℕ → ℕ → ℕ
+  taken_at_mark r found room = min room (marked_next r found)
 
   -- it has looked at that mark, and taken these
   abbrev pub mark_looked : ReceiverRecord T → ℕ → List (Lent T) → ReceiverRecord T
   mark_looked r found lents = record r { received = r.received ++ lents; marks = r.marks ++ mark_look r.looks (length r.received) found ∷ [] }
 
-  -- how many events it takes at a look at an upstream's count, where it has room for so many: what its upstreams then let through, as far as it saw
-  abbrev pub taken_at_count : Shape T → ReceiverRecord T → ℕ → ℕ → ℕ → ℕ
-  taken_at_count k r word found room = min room (barrier_seen k r.number (r.looks ++ look word found ∷ []) - length r.received)
+  -- how many it takes at a look at an upstream's count, of which it has room for so many: what its upstreams then let through, as far as it saw
+  abbrev pub taken_at : ReceiverRecord T → ℕ → ℕ → ℕ → ℕ
+  taken_at r word found room = min room (barrier_seen r.plan r.number (r.looks ++ look word found ∷ []) - length r.received)
 
   -- a receiver has looked at a word, and taken these
   abbrev pub receiver_looked : ReceiverRecord T → ℕ → ℕ → List (Lent T) → ReceiverRecord T
@@ -109,6 +102,13 @@ module _ {T : Type 0} where
   -- it has completed all below n
   abbrev pub completed_to : ReceiverRecord T → ℕ → ReceiverRecord T
   completed_to r n = record r { completed = n }
+
+  abbrev pub halter_halted : HalterRecord T → ℕ → HalterRecord T
+  halter_halted r found = record r { looks = r.looks ++ look claim_word (halted_from found) ∷ [] }
+
+  -- the halter has looked at a word
+  abbrev pub halter_looked : HalterRecord T → ℕ → ℕ → HalterRecord T
+  halter_looked r word found = record r { looks = r.looks ++ look word found ∷ [] }
 
   -- a sender has room for n from c on, as far as it saw: within the limit, and no slot is used again that some final handler has not completed
   pub record SeesRoom (k : Shape T) (r : SenderRecord T) (c n : ℕ) : Type 0 where

@@ -22,7 +22,7 @@ pub record World (T : Type 0) : Type 0 where
   pub stages : List (Stage T)
   pub senders : List (SenderRecord T)
   pub receivers : List (ReceiverRecord T)
-  pub halter : HalterRecord
+  pub halter : HalterRecord T
 
 -- room: what is claimed is at most a round beyond what each final handler completed
 abbrev pub Room : {T : Type 0} → Shape T → List ℕ → ℕ → Type 0
@@ -46,6 +46,7 @@ module _ {T : Type 0} where
 
   -- a sender: the sequences that it has are those that it claimed, each as far as it knows
   pub record SenderKept (k : Shape T) (words : List ℕ) (stages : List (Stage T)) (p : ℕ) (r : SenderRecord T) : Type 0 where
+    pub plan : r.plan ≡ k
     pub number : r.number ≡ p
     pub own : (i : ℕ) (o : Own T) → get_elem? r.own i ≡ some o → (o.stage.owner ≡ p) × (get_elem? stages o.sequence ≡ some o.stage)
     pub all : (s : ℕ) (t : Stage T) → get_elem? stages s ≡ some t → t.owner ≡ p → Owns r s t
@@ -53,6 +54,7 @@ module _ {T : Type 0} where
 
   -- a receiver: what it received are the first events, each published; it took no more than each upstream completed, and completed no more than it took
   pub record ReceiverKept (k : Shape T) (words : List ℕ) (stages : List (Stage T)) (h : ℕ) (r : ReceiverRecord T) : Type 0 where
+    pub plan : r.plan ≡ k
     pub number : r.number ≡ h
     pub count : slice_index words (count_word h) ≡ r.completed
     pub completed : r.completed ≤ length r.received
@@ -85,6 +87,7 @@ module _ {T : Type 0} where
     pub marked : (s : ℕ) → IsOut w.stages s → length w.stages ≤ s + k.size → has_mark k w s ≡ true
     pub sent : (p : ℕ) (r : SenderRecord T) → get_elem? w.senders p ≡ some r → SenderKept k w.words w.stages p r
     pub received : (h : ℕ) (r : ReceiverRecord T) → get_elem? w.receivers h ≡ some r → ReceiverKept k w.words w.stages h r
+    pub halter_plan : w.halter.plan ≡ k
     pub halter : ArePast k w.words w.halter.looks
     -- so many sequences are claimed at least
     pub halter_claims : claimed_in (last_look 0 w.halter.looks claim_word) ≤ length w.stages

@@ -42,8 +42,8 @@ module _ {T : Type 0} where
     pub room : Contains (finals k.upstreams) r.number → length w.stages ≤ k.size + r.completed
 
   -- what a receiver took, each of its upstreams completed
-  abbrev pub FollowsUpstream : Shape T → ReceiverRecord T → ReceiverRecord T → Type 0
-  FollowsUpstream k r u = Contains (upstreams_of k.upstreams r.number) u.number → length r.received ≤ u.completed
+  abbrev pub FollowsUpstream : ReceiverRecord T → ReceiverRecord T → Type 0
+  FollowsUpstream r u = Contains (upstreams_of r.plan.upstreams r.number) u.number → length r.received ≤ u.completed
 
   -- a sequence that a sender has is claimed by it, and has come as far as it knows
   abbrev pub IsOwnOf : World T → SenderRecord T → Own T → Type 0
@@ -59,7 +59,7 @@ module _ {T : Type 0} where
     pub owned : (p i : ℕ) (r : SenderRecord T) (o : Own T) → get_elem? w.senders p ≡ some r → get_elem? r.own i ≡ some o → IsOwnOf w r o
     pub each : (h : ℕ) (r : ReceiverRecord T) → get_elem? w.receivers h ≡ some r → HasBeginning k w r
     pub sent : (h s : ℕ) (r : ReceiverRecord T) (l : Lent T) → get_elem? w.receivers h ≡ some r → get_elem? r.received s ≡ some l → IsSent w s l
-    pub follow : (h j : ℕ) (r u : ReceiverRecord T) → get_elem? w.receivers h ≡ some r → get_elem? w.receivers j ≡ some u → FollowsUpstream k r u
+    pub follow : (h j : ℕ) (r u : ReceiverRecord T) → get_elem? w.receivers h ≡ some r → get_elem? w.receivers j ≡ some u → FollowsUpstream r u
 
   -- how many sequences are claimed, and whether the ring is halted
   pub record CameTo (w : World T) (n : ℕ) (halted : Bool) : Type 0 where

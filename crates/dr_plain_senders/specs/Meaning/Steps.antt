@@ -16,7 +16,7 @@ use Rattle.dr_plain_senders.specs.declared.record.SenderRecord.{SenderRecord}
 use Rattle.dr_plain_senders.specs.declared.record.ReceiverRecord.{ReceiverRecord}
 use Rattle.dr_plain_senders.specs.Meaning.Records.{fresh_stage, published, Owns, brought, sender_looked, mark_found, claimed_from, receiver_looked}
 use Rattle.dr_plain_senders.specs.Meaning.Records.{claims_looked}
-use Rattle.dr_plain_senders.specs.Meaning.Records.{taken_at_mark, mark_looked, taken_at_count, completed_to, halter_halted, halter_looked, SeesRoom}
+use Rattle.dr_plain_senders.specs.Meaning.Records.{taken_at_mark, mark_looked, taken_at, completed_to, halter_halted, halter_looked, SeesRoom}
 use Rattle.dr_plain_senders.specs.Meaning.Rule.{World, IsOutWith}
 
 module _ {T : Type 0} where
@@ -97,12 +97,12 @@ module _ {T : Type 0} where
   -- a receiver without upstreams takes what the marks in the word let through, as far as it has room
   Happens k (ReceiverLooksAtMark h room) w w' =
       ByReceiver w h (λ r. let found : ℕ = slice_index w.words (mark_word k (length r.received)) in
-      (upstreams_of k.upstreams h ≡ []) × (lents : List (Lent T)) × AreNext w r (taken_at_mark k r found room) lents
+      (upstreams_of k.upstreams h ≡ []) × (lents : List (Lent T)) × AreNext w r (taken_at_mark r found room) lents
       × (w' ≡ receiver_knows w h (mark_looked r found lents)))
   -- and another what its upstreams let through
   Happens k (ReceiverLooksAtCount h u room) w w' =
       ByReceiver w h (λ r. let found : ℕ = slice_index w.words (count_word u) in
-      Contains (upstreams_of k.upstreams h) u × (lents : List (Lent T)) × AreNext w r (taken_at_count k r (count_word u) found room) lents
+      Contains (upstreams_of k.upstreams h) u × (lents : List (Lent T)) × AreNext w r (taken_at r (count_word u) found room) lents
       × (w' ≡ receiver_knows w h (receiver_looked r (count_word u) found lents)))
   Happens k (ReceiverCompletes h n) w w' =
       ByReceiver w h (λ r. (r.completed ≤ n) × (n ≤ length r.received)

@@ -9,7 +9,7 @@ ghost use Rattle.dr_plain_senders.specs.Meaning.Shape.{handlers_of};
 ghost use Rattle.dr_plain_senders.specs.Meaning.Words.{claim_word, claimed_in as claimed_in_word, count_word as count_word_of, mark_start};
 ghost use Rattle.dr_plain_senders.specs.Meaning.Records.{halter_halted, halter_looked};
 ghost use Rattle.dr_plain_senders.specs.declared.record.Step.TheVariants.{HalterHalts};
-ghost use Rattle.dr_plain_senders.specs.Calls.Ends.{HasLoaded, HasStored};
+ghost use Rattle.dr_lent.specs.Ends.{HasLoaded, HasStored};
 ghost use Rattle.dr_plain_senders.specs.Inside.Leaving.{BelongsHalter};
 ghost use Rattle.dr_plain_senders.specs.Inside.Stations.{halter_end, HalterSits};
 
@@ -23,7 +23,6 @@ use crate::plan::{CLAIM_WORD, HALT_BIT, count_word};
 use dr_cells::Strip;
 use std::alloc::Global;
 use std::marker::Model;
-use std::snapshot::Snapshot;
 use std::sync::Arc;
 
 /// An end that halts the ring: no sender claims more from then on. It also tells at any time how far
@@ -45,9 +44,9 @@ impl<T> Model for Halter<T> {
 
     ghost Value = { HalterEnd T };
 
-    ghost view = { λ s. halter_end s.seat.table_id (arc_value s.ring).plan s.seat.me };
+    ghost view = { λ s. halter_end s.seat.table_id s.seat.me };
 
-    ghost invariant = { λ s. HalterSits (arc_value s.ring).table.shared.table_id s.seat.table_id (arc_value s.ring).table.shared.key (arc_value s.ring).plan (end_of s.seat.me) s.strip.cells.ptr s.strip.len s.gathered };
+    ghost invariant = { λ s. HalterSits (arc_value s.ring).table.shared.table_id s.seat.table_id (arc_value s.ring).plan (end_of s.seat.me) s.strip.cells.ptr s.strip.len s.gathered };
 
     ghost also_owns = { λ _. ftrue };
 
@@ -65,8 +64,8 @@ impl<T> Halter<T> {
         strip: Strip<T>,
         gathered: BroughtTogether<T>,
     ) -> Halter<T>
-        requires { HalterSits (arc_value ring).table.shared.table_id seat.table_id (arc_value ring).table.shared.key (arc_value ring).plan (end_of seat.me) strip.cells.ptr strip.len gathered }
-        ensures { result ≡ halter_end seat.table_id (arc_value ring).plan seat.me }
+        requires { HalterSits (arc_value ring).table.shared.table_id seat.table_id (arc_value ring).plan (end_of seat.me) strip.cells.ptr strip.len gathered }
+        ensures { result ≡ halter_end seat.table_id seat.me }
     {
         Halter {
             ring,
@@ -87,7 +86,7 @@ impl<T> Halter<T> {
 
     // The halter looks at a word that only rises.
     fn look(&mut self, word: usize) -> u64
-        requires { word < mark_start self.old.plan }
+        requires { word < mark_start self.old.knows.plan }
         ensures step { HasLoaded self.old (halter_looked self.old.knows word result) self.old.hand self.new }
         ensures finds { FindsMore self.old.knows.looks word result }
         ensures claims { word ≡ claim_word → claimed_in_word (last_look 0 self.old.knows.looks claim_word) ≤ claimed_in_word result }
@@ -99,7 +98,7 @@ impl<T> Halter<T> {
     /// How many handlers the ring has.
     pub fn handlers(&self) -> usize
         // It is the number of handlers, of which there are at most 16.
-        ensures count { result ≡ handlers_of self.now.plan }
+        ensures count { result ≡ handlers_of self.now.knows.plan }
         ensures few { result ≤ 16 }
     {
         self.ring.plan.handlers()
@@ -118,7 +117,7 @@ impl<T> Halter<T> {
 
     /// How many events a handler has completed, by one look at its count.
     pub fn completed(&mut self, handler: usize) -> u64
-        requires { handler < handlers_of self.old.plan }
+        requires { handler < handlers_of self.old.knows.plan }
         // It is what the handler's count held at a moment of the call, and nothing else changes.
         ensures step { HasLoaded self.old (halter_looked self.old.knows (count_word_of handler) result) self.old.hand self.new }
         // It never falls.
@@ -139,10 +138,8 @@ impl<T> Halter<T> {
             strip,
             gathered,
         } = self;
-        let plan = Snapshot::of(&ring.plan);
         let left = HalterLeft {
             seat,
-            plan,
             strip,
             gathered,
         };

@@ -5,11 +5,11 @@ ghost use Rattle.dr_plain_senders.specs.Inside.Seats.{Loads, Stores, SenderLooke
 ghost use Rattle.dr_lent.specs.Events.{events_of};
 ghost use Rattle.dr_plain_senders.specs.declared.record.Step.TheVariants.{SenderClaims, SenderPublishes, SenderHalts, ReceiverCompletes, HalterHalts};
 
-use super::Names;
 use crate::record::View;
 use atomic_table::Play;
 use dr_cells::Token;
 use dr_lent::Lends;
+use dr_runs::Names;
 use std::marker::PhantomData;
 
 pub struct LookAtFinal;
@@ -24,12 +24,10 @@ impl<T> Play<Token<T>, View<T>> for SeeClaims {
     ghost then = { Loads SenderLookedAtClaims };
 }
 
-pub struct Claim<J> {
-    named: PhantomData<J>,
-}
+pub struct Claim;
 
-impl<T, J: Names<T>> Play<Token<T>, View<T>> for Claim<J> {
-    ghost then = { Stores (λ s me n. SenderClaims (sender_of me.0).number s.first (s.second - s.first)) (SenderClaimed J.plan) };
+impl<T> Play<Token<T>, View<T>> for Claim {
+    ghost then = { Stores (λ s me n. SenderClaims (sender_of me.0).number s.first (s.second - s.first)) SenderClaimed };
 }
 
 pub struct Publish<J, L> {
@@ -37,15 +35,15 @@ pub struct Publish<J, L> {
     lent: PhantomData<L>,
 }
 
-impl<T, J: Names<T>, L: Lends<T>> Play<Token<T>, View<T>> for Publish<J, L> {
-    ghost then = { Stores (λ s me n. SenderPublishes (sender_of me.0).number J.number (events_of L.lents)) (SenderPublished J.plan J.number L.lents) };
+impl<T, J: Names, L: Lends<T>> Play<Token<T>, View<T>> for Publish<J, L> {
+    ghost then = { Stores (λ s me n. SenderPublishes (sender_of me.0).number J.number (events_of L.lents)) (SenderPublished J.number L.lents) };
 }
 
 pub struct LookAtMark<J> {
     named: PhantomData<J>,
 }
 
-impl<T, J: Names<T>> Play<Token<T>, View<T>> for LookAtMark<J> {
+impl<T, J: Names> Play<Token<T>, View<T>> for LookAtMark<J> {
     ghost then = { Loads (SenderLookedAtMark J.number) };
 }
 
@@ -65,24 +63,22 @@ pub struct LookAtNext<J> {
     named: PhantomData<J>,
 }
 
-impl<T, J: Names<T>> Play<Token<T>, View<T>> for LookAtNext<J> {
-    ghost then = { Loads (ReceiverLookedAtMark J.plan J.number) };
+impl<T, J: Names> Play<Token<T>, View<T>> for LookAtNext<J> {
+    ghost then = { Loads (ReceiverLookedAtMark J.number) };
 }
 
 pub struct LookAtUpstream<J> {
     named: PhantomData<J>,
 }
 
-impl<T, J: Names<T>> Play<Token<T>, View<T>> for LookAtUpstream<J> {
-    ghost then = { Loads (ReceiverLookedAtCount J.plan J.number) };
+impl<T, J: Names> Play<Token<T>, View<T>> for LookAtUpstream<J> {
+    ghost then = { Loads (ReceiverLookedAtCount J.number) };
 }
 
-pub struct Complete<J> {
-    named: PhantomData<J>,
-}
+pub struct Complete;
 
-impl<T, J: Names<T>> Play<Token<T>, View<T>> for Complete<J> {
-    ghost then = { Stores (λ s me n. ReceiverCompletes (receiver_of me.0).number n) (ReceiverCompleted J.plan) };
+impl<T> Play<Token<T>, View<T>> for Complete {
+    ghost then = { Stores (λ s me n. ReceiverCompletes (receiver_of me.0).number n) ReceiverCompleted };
 }
 
 pub struct Halt;

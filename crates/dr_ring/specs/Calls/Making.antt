@@ -1,6 +1,9 @@
 -- How the ends of a new ring begin.
-use Rattle.std.specs.Prelude.{◌≡◌, List, [], map}
+use Rattle.std.specs.Prelude.{◌≡◌, ℕ, if◌then◌else◌, List, [], map}
 use Rattle.atomic_table.specs.Seated.{TableId}
+use Rattle.dr_meaning.specs.declared.open_fault.OpenFault.{OpenFault}
+use Rattle.dr_meaning.specs.declared.open_fault.OpenFault.TheVariants.{BadLimit, NoMemory}
+use Rattle.dr_meaning.specs.Calls.OpenFault.{is_bad_limit}
 use Rattle.dr_ring.specs.declared.record.ReceiverRecord.{ReceiverRecord}
 use Rattle.dr_ring.specs.Meaning.Shape.{Shape, handlers_of}
 use Rattle.dr_ring.specs.Meaning.Moments.{fresh_sender, fresh_receivers, fresh_halter}
@@ -17,3 +20,7 @@ pub record AreFreshEnds (k : Shape) (s : SenderEnd) (rs : List ReceiverEnd) (t :
   pub stored : s.stored ≡ []
   pub receivers : rs ≡ map (receiver_at_ring s.ring) (fresh_receivers k 0 (handlers_of k))
   pub halter : t ≡ record { ring = s.ring; knows = fresh_halter k; past = []; stored = [] }
+
+-- why a ring is refused: its limit, or that memory ran out
+abbrev pub fault_of : ℕ → OpenFault
+fault_of limit = if is_bad_limit limit then BadLimit else NoMemory

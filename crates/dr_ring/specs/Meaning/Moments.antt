@@ -12,7 +12,7 @@ use Rattle.dr_meaning.specs.Meaning.Machine.{State, available}
 use Rattle.dr_meaning.specs.Meaning.Transcript.{Transcript}
 use Rattle.dr_runs.specs.Runs as runs
 use Rattle.dr_ring.specs.Meaning.Shape.{Shape, handlers_of, ring_setup}
-use Rattle.dr_ring.specs.Meaning.Words.{payload_word, words_of}
+use Rattle.dr_ring.specs.Meaning.Words.{payload_start, payload_word, words_of}
 use Rattle.dr_runs.specs.OneSender.Words.{cursor_word, halt_word, count_word}
 use Rattle.dr_ring.specs.declared.record.HalfWrite.{HalfWrite}
 use Rattle.dr_ring.specs.declared.record.SenderRecord.{SenderRecord}
@@ -104,6 +104,6 @@ Runs k steps entries w w' = runs.Runs (Happens k) (entries_of k) steps entries w
 abbrev pub WereTold : World → Transcript Event → Type 0
 WereTold w entries = (h : ℕ) (r : ReceiverRecord) → get_elem? w.receivers h ≡ some r → r.told ≡ true → Contains entries (told_drained h)
 
--- No handler's count falls: so what the last look of a claim without room finds was so already at its first.
+-- No word falls but those of events: so what the last look of a claim without room finds was so already at its first.
 abbrev pub NothingFalls : Shape → World → World → Type 0
-NothingFalls k w u = (f : ℕ) → f < handlers_of k → slice_index w.words (count_word f) ≤ slice_index u.words (count_word f)
+NothingFalls k w u = (word : ℕ) → word < payload_start k → slice_index w.words word ≤ slice_index u.words word

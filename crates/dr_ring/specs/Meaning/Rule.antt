@@ -4,8 +4,8 @@ use mathlib.Core.Option.{some}
 use lib.ListN.{get_elem?}
 use Rattle.dr_seq.specs.declared.event.Event.{Event}
 use Rattle.dr_seq.specs.Event.{no_event}
-use Rattle.dr_graph.specs.Meaning.Graph.{upstreams_of, finals, IsGraph}
-use Rattle.dr_ring.specs.Meaning.Shape.{Shape, handlers_of}
+use Rattle.dr_graph.specs.Meaning.Graph.{upstreams_of, finals}
+use Rattle.dr_ring.specs.Meaning.Shape.{IsShape, Shape, handlers_of}
 use Rattle.dr_ring.specs.Meaning.Words.{payload_start, payload_word, words_of}
 use Rattle.dr_runs.specs.OneSender.Words.{cursor_word, closed_word, count_word, HaltAndClose}
 use Rattle.dr_ring.specs.Meaning.Records.{claimed}
@@ -67,10 +67,9 @@ pub record ReceiverKept (k : Shape) (words : List ℕ) (published : List Event) 
   pub looks : ArePast k words r.looks
 
 pub record KeepsRule (k : Shape) (w : World) : Type 0 where
-  pub graph : IsGraph k.upstreams
-  pub some_slot : 0 < k.size
+  pub shape : IsShape k
   pub wide : length w.words ≡ words_of k
-  pub ends : length w.receivers ≡ handlers_of k
+  pub outlets : length w.receivers ≡ handlers_of k
   pub sender_plan : w.sender.plan ≡ k
   pub halter_plan : w.halter.plan ≡ k
   pub counts : CountsFit k w.words (length w.sender.sent.published) (claimed w.sender)

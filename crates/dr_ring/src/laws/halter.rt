@@ -2,7 +2,7 @@
 
 ghost use Rattle.dr_ring.specs.Meaning.Records.{halter_halted};
 ghost use Rattle.dr_ring.specs.declared.record.Step.TheVariants.{HalterHalts};
-ghost use Rattle.dr_ring.specs.Calls.Ends.{HasStored};
+ghost use Rattle.dr_runs.specs.Ends.{HasStored};
 
 use super::{RingBody, RingSeat};
 use dr_runs::HALT_WORD;

@@ -8,7 +8,7 @@ ghost use Rattle.dr_runs.specs.OneSender.Words.{cursor_word, closed_word, count_
 ghost use Rattle.dr_ring.specs.Meaning.Records.{receiver_looked, cursor_looked, half_taken, took, completed_to, IsBelowBarrier};
 ghost use Rattle.dr_ring.specs.declared.record.Step.TheVariants.{ReceiverCompletes};
 ghost use Rattle.dr_ring.specs.Calls.Finds.{FindsClosed, FindsEvents};
-ghost use Rattle.dr_ring.specs.Calls.Ends.{HasLoaded, HasStored};
+ghost use Rattle.dr_runs.specs.Ends.{HasLoaded, HasStored};
 
 use super::{RingBody, RingSeat};
 use crate::plan::Plan;

@@ -8,7 +8,7 @@ ghost use Rattle.dr_runs.specs.OneSender.Words.{count_word as count_word_of};
 ghost use Rattle.dr_ring.specs.Meaning.Records.{claimed, sender_looked, halt_looked, half_written, written, published_to, sender_halted, sender_closed, SeesRoom, IsOpen, AreWritten};
 ghost use Rattle.dr_ring.specs.declared.record.Step.TheVariants.{SenderStoresFirst, SenderStoresSecond, SenderPublishes, SenderHalts, SenderCloses};
 ghost use Rattle.dr_ring.specs.Calls.Finds.{FindsCompleted, FindsHalt};
-ghost use Rattle.dr_ring.specs.Calls.Ends.{HasLoaded, HasStored};
+ghost use Rattle.dr_runs.specs.Ends.{HasLoaded, HasStored};
 
 use super::{RingBody, RingSeat};
 use crate::plan::Plan;

@@ -53,7 +53,7 @@ returns g c =
             has_all ss back after settled.claimed settled.is_halted run h e at one.3 one.4;
         counts = done.handlers ∙ ap (map (λ (e : ReceiverEnd g.row.E.Denot). handler_counts e.knows)) outlets;
       };
-      back = subst (λ (l : List (SenderEnd g.row.E.Denot)). GivesBack after.plan settled.claimed l c.settle_all-settled.result.1) senders done.events;
+      back = subst (λ (l : List (SenderEnd g.row.E.Denot)). GivesBack after.knows.plan settled.claimed l c.settle_all-settled.result.1) senders done.events;
       handled = c.in_ok-outlets.ensures.handlers;
       answered = c.in_ok-senders.ensures.answers;
     }

@@ -11,7 +11,7 @@ pub returns-clause-view : goal.returns-clause-view
 returns-clause-view g c =
     let own = c.receiver.inside.seat in (
       own.me.0,
-      receiver_in own.table_id _ own.me c.args.receiver c.receiver.invariant.0 c.receiver.view_is,
+      receiver_in own.table_id own.me c.args.receiver c.receiver.invariant.0 c.receiver.view_is,
       ap (λ (m : Sitting g.row.T.Denot). m.0) c.unite.ensures.view,
     )
 
@@ -20,6 +20,6 @@ returns-clause-hands g c =
     let parts = c.receiver.inside.parts in
     let items : Vec (Token g.row.T.Denot) Global → List (Token g.row.T.Denot) = λ hand. hand.items in (
       parts.items,
-      subst (λ (e : ReceiverEnd g.row.T.Denot). PartsFit e.plan e.knows parts.items) c.receiver.view_is c.receiver.invariant.1.parts,
+      subst (λ (e : ReceiverEnd g.row.T.Denot). PartsFit e.knows parts.items) c.receiver.view_is c.receiver.invariant.1.parts,
       ap (map items) c.put_at.ensures.row ∙ map-set items c.args.hands.now.items c.args.place parts,
     )

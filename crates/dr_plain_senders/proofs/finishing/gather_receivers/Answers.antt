@@ -56,7 +56,7 @@ loop-receiver-preserved g c =
         filled_more inv.2.2 inv.2.1.split c.in-Some.ensures.items
             (c.bring_receiver.ensures.counts ∙ (λ i. set c.loop-receiver.counts.items (place i) (handler_counts (same i).knows))),
         handed_more _ _ _ _ _ _ c.in-Some.receiver hands.0 inv.2.3 next
-            (subst (λ (e : ReceiverEnd g.row.T.Denot). PartsFit e.plan e.knows hands.0) same hands.1)
+            (subst (λ (e : ReceiverEnd g.row.T.Denot). PartsFit e.knows hands.0) same hands.1)
             (hands.2 ∙ ap (λ (n : ℕ). set (map items c.loop-receiver.hands.items) n hands.0) place),
       ),
     )

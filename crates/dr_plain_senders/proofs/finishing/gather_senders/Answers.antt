@@ -29,7 +29,7 @@ bring_sender-requires-clause-table g c =
 pub bring_sender-requires-clause-plan : goal.bring_sender-requires-clause-plan
 bring_sender-requires-clause-plan g c =
     let at = last_at _ _ _ _ _ c.loop-sender.invariant.2.1.split c.in-Some.ensures.items in
-    (ap (λ (e : SenderEnd g.row.T.Denot). e.plan) c.into_left-left.ensures.left ∙ c.requires.plans _ _ at, c.requires.size)
+    (ap (λ (e : SenderEnd g.row.T.Denot). e.knows.plan) c.into_left-left.ensures.left ∙ c.requires.plans _ _ at, c.requires.size)
 
 pub bring_sender-requires-clause-places : goal.bring_sender-requires-clause-places
 bring_sender-requires-clause-places g c = let B = c.loop-sender.invariant.2.2 in (B.count, B.many)

@@ -13,8 +13,8 @@ use Rattle.dr_plain_senders.proofs.finishing.settle_all.Given.{Over}
 use Rattle.dr_plain_senders.proofs.finishing.settle_all.Goals.{After-gather_receivers}
 
 -- the plan that the halter left is the ring's
-plan_is : {T : Type 0} (left given : HalterEnd T) (k plan : Shape T) → left ≡ given → given.plan ≡ k → plan ≡ k → left.plan ≡ plan
-plan_is left given k plan same made is = ap (λ (x : HalterEnd _). x.plan) same ∙ made ∙ sym is
+plan_is : {T : Type 0} (left given : HalterEnd T) (k plan : Shape T) → left ≡ given → given.knows.plan ≡ k → plan ≡ k → left.knows.plan ≡ plan
+plan_is left given k plan same made is = ap (λ (x : HalterEnd _). x.knows.plan) same ∙ made ∙ sym is
 
 -- all ends come together in the halter's seat, and what they bring in its places
 come : (g : Over) (c : After-gather_receivers g)
@@ -24,7 +24,7 @@ come : (g : Over) (c : After-gather_receivers g)
 come g c =
     let ss = c.args.senders.items in let rs = c.args.receivers.items in let t = c.args.halter in let own = c.halts.inside in
     let A : Together own.seat.me.0 c.gather_senders.new.seat.me.0 c.gather_receivers.new.seat.me.0 ss rs t = record {
-      first = halter_in own.seat.table_id own.plan.value own.seat.me t c.halts.invariant.end (c.halts.view_is ∙ c.into_left-ring.ensures.left);
+      first = halter_in own.seat.table_id own.seat.me t c.halts.invariant.end (c.halts.view_is ∙ c.into_left-ring.ensures.left);
       senders = c.gather_senders.ensures.view;
       receivers = c.gather_receivers.ensures.view;
       all = c.requires;
@@ -77,12 +77,12 @@ gather_receivers-requires-clause-receivers g c h e at =
 
 pub gather_receivers-requires-clause-places : goal.gather_receivers-requires-clause-places
 gather_receivers-requires-clause-places g c =
-    c.halts.invariant.places.counts ∙ ap (λ (x : HalterEnd g.row.T.Denot). handlers_of x.plan) (c.halts.view_is ∙ c.into_left-ring.ensures.left)
+    c.halts.invariant.places.counts ∙ ap (λ (x : HalterEnd g.row.T.Denot). handlers_of x.knows.plan) (c.halts.view_is ∙ c.into_left-ring.ensures.left)
     ∙ sym c.requires.receivers
 
 pub gather_receivers-requires-clause-rooms : goal.gather_receivers-requires-clause-rooms
 gather_receivers-requires-clause-rooms g c =
-    c.halts.invariant.places.hands ∙ ap (λ (x : HalterEnd g.row.T.Denot). handlers_of x.plan) (c.halts.view_is ∙ c.into_left-ring.ensures.left)
+    c.halts.invariant.places.hands ∙ ap (λ (x : HalterEnd g.row.T.Denot). handlers_of x.knows.plan) (c.halts.view_is ∙ c.into_left-ring.ensures.left)
     ∙ sym c.requires.receivers
 
 pub reclaim_all-found-requires-clause-table : goal.reclaim_all-found-requires-clause-table

@@ -1,4 +1,4 @@
-use Rattle.std.proofs.Common.{List, length, inl, inr, refl, sym, ◌∙◌, subst, arith}
+use Rattle.std.proofs.Common.{List, length, inl, inr, refl, sym, ◌∙◌, subst}
 use Rattle.std.proofs.lemmas.Bool.{cases_Bool, both_ways}
 use Rattle.dr_meaning.specs.Meaning.Machine.{State}
 use Rattle.dr_meaning.specs.Meaning.Transcript.{Transcript, LeadsFrom, LeadsTo}
@@ -20,7 +20,6 @@ use Rattle.dr_plain_senders.proofs.Later.{hands_what_was_there}
 use Rattle.dr_plain_senders.proofs.Marks.{out_now, now_out}
 use Rattle.dr_plain_senders.proofs.Told.{look_tells, were_told}
 use Rattle.dr_plain_senders.proofs.Shutting.{refused_by_words, shown_out, hidden_out, told_by_looks}
-use Rattle.dr_plain_senders.specs.Meaning.Words.{count_word}
 use Rattle.dr_plain_senders.proofs.laws.moments.Goals as goal
 
 leads : {T : Type 0} (k : Shape T) (steps : List (Step T)) (entries : Transcript T) (w : World T) → IsShape k → Runs k steps entries (new_world k) w
@@ -86,10 +85,10 @@ returns-clause-hands g c k steps more entries rest w u shape runs on =
 pub returns-clause-rises : goal.returns-clause-rises
 returns-clause-rises g c k steps more entries rest w u shape runs on =
     let rose = rose_runs k more rest w u on (keeps_runs k steps entries (new_world k) w runs (kept_new_world _ k shape)) in
-    ((λ f inside. rose.words (count_word f) (omega arith)), rose.claimed)
+    ((λ word inside. rose.words word inside), rose.claimed)
 
 pub returns-clause-told : goal.returns-clause-told
-returns-clause-told g c k steps entries w shape runs = were_told k look_tells steps entries w runs
+returns-clause-told g c k steps entries w shape runs = were_told k (look_tells k) steps entries w runs
 
 pub returns-clause-halted : goal.returns-clause-halted
 returns-clause-halted g c k steps more entries rest w u shape runs on halted =

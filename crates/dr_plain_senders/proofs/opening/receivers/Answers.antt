@@ -25,20 +25,20 @@ pub invariant_of-station : goal.invariant_of-station
 invariant_of-station g c =
     let t = c.requires.table in let count = c.handlers-handlers.ensures.count ∙ ap (λ r. handlers_of r.plan) c.deref.ensures in
     let test = c.loop-number-test.true in
-    subst (λ r. ReceiverSits r.table.shared.table_id c.split_seat-next.new.seat.table_id r.table.shared.key r.plan
+    subst (λ r. ReceiverSits r.table.shared.table_id c.split_seat-next.new.seat.table_id r.plan
     (end_of c.split_seat-next.new.seat.me) c.loop-number.number 0) (sym c.in_ok-own.ensures)
-    (receiver_sits _ _ _ _ _ c.loop-number.number (c.split_seat-next.ensures.0 ∙ c.loop-number.invariant.0 ∙ t.0, t.1, t.2) c.requires.keyed (omega arith)
-    (cut_own _ _ _ _ _ c.loop-number.invariant.1 (receivers_next c.loop-number.number _ (omega arith)) c.split_seat-next.ensures.2))
+    (receiver_sits _ _ _ _ c.loop-number.number (c.split_seat-next.ensures.0 ∙ c.loop-number.invariant.0 ∙ t.0, t.1, t.2) c.requires.made (omega arith)
+    (cut_own _ _ _ _ _ c.loop-number.invariant.1 (receivers_next _ c.loop-number.number _ (omega arith)) c.split_seat-next.ensures.2))
 
 pub loop-number-preserved : goal.loop-number-preserved
 loop-number-preserved g c =
     let own = c.split_seat-next.ensures in let inv = c.loop-number.invariant in
     let count = c.handlers-handlers.ensures.count ∙ ap (λ r. handlers_of r.plan) c.deref.ensures in let test = c.loop-number-test.true in (
       own.3 ∙ inv.0,
-      cut_rest _ _ _ _ _ inv.1 (receivers_next c.loop-number.number _ (omega arith)) own.4,
+      cut_rest _ _ _ _ _ inv.1 (receivers_next _ c.loop-number.number _ (omega arith)) own.4,
       receiver_listed c.args.rest.table_id _ c.loop-number.number _ c.loop-number.receivers.items _ _ _ (omega arith) inv.2 c.in_ok-push.ensures.items
-          (c.of-receiver.ensures ∙ receiver_view c.args.rest.table_id _ _ _ _ c.loop-number.number (own.0 ∙ inv.0) (ap (λ r. r.plan) c.in_ok-own.ensures)
-          (cut_own _ _ _ _ _ inv.1 (receivers_next c.loop-number.number _ (omega arith)) own.2)),
+          (c.of-receiver.ensures ∙ receiver_view c.args.rest.table_id _ _ _ c.loop-number.number (own.0 ∙ inv.0)
+          (cut_own _ _ _ _ _ inv.1 (receivers_next _ c.loop-number.number _ (omega arith)) own.2)),
       blank_rows_left _ _ c.loop-number.number _ _ _ (omega arith) inv.3 c.take_last-parts.ensures,
     )
 
@@ -46,6 +46,5 @@ pub of-receiver-requires : goal.of-receiver-requires
 of-receiver-requires g c =
     let count = c.handlers-handlers.ensures.count ∙ ap (λ r. handlers_of r.plan) c.deref.ensures in let test = c.loop-number-test.true in
     receiver_fits _ _ c.loop-number.number _ _ (cut_own _ _ _ _ _ c.loop-number.invariant.1
-    (receivers_next c.loop-number.number _ (omega arith)) c.split_seat-next.ensures.2)
-    (ap length (blank_row_last _ _ _ _ _ c.loop-number.invariant.3 c.take_last-parts.ensures) ∙ length-replicate _ no_token
-    ∙ sym (ap (λ r. r.plan.size) c.in_ok-own.ensures))
+    (receivers_next _ c.loop-number.number _ (omega arith)) c.split_seat-next.ensures.2)
+    (ap length (blank_row_last _ _ _ _ _ c.loop-number.invariant.3 c.take_last-parts.ensures) ∙ length-replicate _ no_token)

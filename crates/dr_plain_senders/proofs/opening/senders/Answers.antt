@@ -23,20 +23,20 @@ split_seat-next-requires g c = let t = c.requires.table in (
 pub invariant_of-station : goal.invariant_of-station
 invariant_of-station g c =
     let t = c.requires.table in let count = c.senders-count.ensures.count ∙ ap (λ r. r.plan.senders) c.deref.ensures in let test = c.loop-number-test.true in
-    subst (λ r. SenderSits r.table.shared.table_id c.split_seat-next.new.seat.table_id r.table.shared.key r.plan
+    subst (λ r. SenderSits r.table.shared.table_id c.split_seat-next.new.seat.table_id r.plan
     (end_of c.split_seat-next.new.seat.me) c.loop-number.number 0) (sym c.in_ok-own.ensures)
-    (sender_sits _ _ _ _ _ c.loop-number.number (c.split_seat-next.ensures.0 ∙ c.loop-number.invariant.0 ∙ t.0, t.1, t.2) c.requires.keyed (omega arith)
-    (cut_own _ _ _ _ _ c.loop-number.invariant.1 (senders_next c.loop-number.number _ _ (omega arith)) c.split_seat-next.ensures.2))
+    (sender_sits _ _ _ _ c.loop-number.number (c.split_seat-next.ensures.0 ∙ c.loop-number.invariant.0 ∙ t.0, t.1, t.2) c.requires.made (omega arith)
+    (cut_own _ _ _ _ _ c.loop-number.invariant.1 (senders_next _ c.loop-number.number _ _ (omega arith)) c.split_seat-next.ensures.2))
 
 pub loop-number-preserved : goal.loop-number-preserved
 loop-number-preserved g c =
     let own = c.split_seat-next.ensures in let inv = c.loop-number.invariant in
     let count = c.senders-count.ensures.count ∙ ap (λ r. r.plan.senders) c.deref.ensures in let test = c.loop-number-test.true in (
       own.3 ∙ inv.0,
-      cut_rest _ _ _ _ _ inv.1 (senders_next c.loop-number.number _ _ (omega arith)) own.4,
+      cut_rest _ _ _ _ _ inv.1 (senders_next _ c.loop-number.number _ _ (omega arith)) own.4,
       sender_listed c.args.rest.table_id _ c.loop-number.number _ c.loop-number.senders.items _ _ _ (omega arith) inv.2 c.in_ok-push.ensures.items
-          (c.of-sender.ensures ∙ sender_view c.args.rest.table_id _ _ _ _ c.loop-number.number _ _ _ (own.0 ∙ inv.0) (ap (λ r. r.plan) c.in_ok-own.ensures)
-          (cut_own _ _ _ _ _ inv.1 (senders_next c.loop-number.number _ _ (omega arith)) own.2)
+          (c.of-sender.ensures ∙ sender_view c.args.rest.table_id _ _ _ c.loop-number.number _ _ _ (own.0 ∙ inv.0)
+          (cut_own _ _ _ _ _ inv.1 (senders_next _ c.loop-number.number _ _ (omega arith)) own.2)
           (blank_row_last _ _ _ _ _ inv.4 c.take_last-tokens.ensures) refl),
       alike_left _ _ _ _ _ c.loop-number.number (omega arith) inv.3 c.take_last-owned.ensures,
       blank_rows_left _ _ c.loop-number.number _ _ _ (omega arith) inv.4 c.take_last-tokens.ensures,
@@ -45,7 +45,6 @@ loop-number-preserved g c =
 pub of-sender-requires : goal.of-sender-requires
 of-sender-requires g c =
     let count = c.senders-count.ensures.count ∙ ap (λ r. r.plan.senders) c.deref.ensures in let test = c.loop-number-test.true in
-    let me = cut_own _ _ _ _ _ c.loop-number.invariant.1 (senders_next c.loop-number.number _ _ (omega arith)) c.split_seat-next.ensures.2 in
-    let ring = sym (ap (λ r. r.plan.size) c.in_ok-own.ensures) in
-    sender_fits _ _ c.loop-number.number _ _ _ _ me ring (alike_last _ _ _ _ _ c.loop-number.invariant.3 c.take_last-owned.ensures)
-    (ap length (blank_row_last _ _ _ _ _ c.loop-number.invariant.4 c.take_last-tokens.ensures) ∙ length-replicate _ no_token ∙ ring)
+    let me = cut_own _ _ _ _ _ c.loop-number.invariant.1 (senders_next _ c.loop-number.number _ _ (omega arith)) c.split_seat-next.ensures.2 in
+    sender_fits _ _ c.loop-number.number _ _ _ _ me refl (alike_last _ _ _ _ _ c.loop-number.invariant.3 c.take_last-owned.ensures)
+    (ap length (blank_row_last _ _ _ _ _ c.loop-number.invariant.4 c.take_last-tokens.ensures) ∙ length-replicate _ no_token)

@@ -20,7 +20,7 @@ come : (g : Over) (c : After-gather_receivers_left g)
 come g c =
     let ss = c.args.senders in let rs = c.args.receivers in let t = c.args.halter in let own = c.halter.inside in
     let A : Together own.seat.me.0 c.gather_senders_left.new.seat.me.0 c.gather_receivers_left.new.seat.me.0 ss rs t = record {
-      first = halter_in own.seat.table_id own.plan.value own.seat.me t c.halter.invariant.end c.halter.view_is;
+      first = halter_in own.seat.table_id own.seat.me t c.halter.invariant.end c.halter.view_is;
       senders = c.gather_senders_left.ensures.view;
       receivers = c.gather_receivers_left.ensures.view;
       all = c.requires.ends;
@@ -45,12 +45,12 @@ gather_senders_left-requires-clause-plans g c p e at = ap (λ (x : EndPlace g.ro
 
 pub gather_senders_left-requires-clause-size : goal.gather_senders_left-requires-clause-size
 gather_senders_left-requires-clause-size g c =
-    subst (λ (k : Shape g.row.T.Denot). 0 < k.size) (ap (λ (x : HalterEnd g.row.T.Denot). x.plan) c.halter.view_is ∙ c.requires.halter.1)
+    subst (λ (k : Shape g.row.T.Denot). 0 < k.size) (ap (λ (x : HalterEnd g.row.T.Denot). x.knows.plan) c.halter.view_is ∙ c.requires.halter.1)
     (is_shape _ c.halter.invariant.made).some_slot
 
 pub gather_senders_left-requires-clause-places : goal.gather_senders_left-requires-clause-places
 gather_senders_left-requires-clause-places g c =
-    let plan = ap (λ (x : HalterEnd g.row.T.Denot). x.plan) c.halter.view_is ∙ c.requires.halter.1 in let P = c.halter.invariant.places in
+    let plan = ap (λ (x : HalterEnd g.row.T.Denot). x.knows.plan) c.halter.view_is ∙ c.requires.halter.1 in let P = c.halter.invariant.places in
     (P.tokens ∙ ap (λ (k : Shape g.row.T.Denot). k.size) plan, P.brought ∙ ap (λ (k : Shape g.row.T.Denot). replicate k.size false) plan)
 
 pub gather_receivers_left-requires-clause-table : goal.gather_receivers_left-requires-clause-table
@@ -65,11 +65,11 @@ gather_receivers_left-requires-clause-receivers g c h e at =
 
 pub gather_receivers_left-requires-clause-places : goal.gather_receivers_left-requires-clause-places
 gather_receivers_left-requires-clause-places g c =
-    c.halter.invariant.places.counts ∙ ap (λ (x : HalterEnd g.row.T.Denot). handlers_of x.plan) c.halter.view_is ∙ sym c.requires.ends.receivers
+    c.halter.invariant.places.counts ∙ ap (λ (x : HalterEnd g.row.T.Denot). handlers_of x.knows.plan) c.halter.view_is ∙ sym c.requires.ends.receivers
 
 pub gather_receivers_left-requires-clause-rooms : goal.gather_receivers_left-requires-clause-rooms
 gather_receivers_left-requires-clause-rooms g c =
-    c.halter.invariant.places.hands ∙ ap (λ (x : HalterEnd g.row.T.Denot). handlers_of x.plan) c.halter.view_is ∙ sym c.requires.ends.receivers
+    c.halter.invariant.places.hands ∙ ap (λ (x : HalterEnd g.row.T.Denot). handlers_of x.knows.plan) c.halter.view_is ∙ sym c.requires.ends.receivers
 
 pub reclaim_all-row-requires-clause-table : goal.reclaim_all-row-requires-clause-table
 reclaim_all-row-requires-clause-table g c =
@@ -80,12 +80,12 @@ reclaim_all-row-requires-clause-table g c =
 
 pub reclaim_all-row-requires-clause-made : goal.reclaim_all-row-requires-clause-made
 reclaim_all-row-requires-clause-made g c =
-    let plan = ap (λ (x : HalterEnd g.row.T.Denot). x.plan) c.halter.view_is ∙ c.requires.halter.1 in
+    let plan = ap (λ (x : HalterEnd g.row.T.Denot). x.knows.plan) c.halter.view_is ∙ c.requires.halter.1 in
     (c.requires.keyed, subst (λ (k : Shape g.row.T.Denot). IsPlan k) plan c.halter.invariant.made)
 
 pub reclaim_all-row-requires-clause-cells : goal.reclaim_all-row-requires-clause-cells
 reclaim_all-row-requires-clause-cells g c =
-    let plan = ap (λ (x : HalterEnd g.row.T.Denot). x.plan) c.halter.view_is ∙ c.requires.halter.1 in
+    let plan = ap (λ (x : HalterEnd g.row.T.Denot). x.knows.plan) c.halter.view_is ∙ c.requires.halter.1 in
     ap (λ (k : Shape g.row.T.Denot). k.strip) (sym plan) ∙ c.halter.invariant.strip
 
 pub reclaim_all-row-requires-clause-together : goal.reclaim_all-row-requires-clause-together
@@ -94,7 +94,7 @@ reclaim_all-row-requires-clause-together g c =
 
 pub close-requires : goal.close-requires
 close-requires g c =
-    let plan = ap (λ (x : HalterEnd g.row.T.Denot). x.plan) c.halter.view_is ∙ c.requires.halter.1 in let all = c.reclaim_all-row.ensures.all in
+    let plan = ap (λ (x : HalterEnd g.row.T.Denot). x.knows.plan) c.halter.view_is ∙ c.requires.halter.1 in let all = c.reclaim_all-row.ensures.all in
     (all.0, all.1, all.2 ∙ ap (λ (k : Shape g.row.T.Denot). k.size) (sym plan) ∙ c.halter.invariant.cells)
 
 pub returns : goal.returns

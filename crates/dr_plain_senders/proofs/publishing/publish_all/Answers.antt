@@ -1,6 +1,7 @@
 use Rattle.std.proofs.Common.{◌≡◌, ℕ, ◌+◌, ◌-◌, ◌<◌, min, arith, ap, ◌∙◌, subst}
 use Rattle.dr_seq.proofs.Sizes.{size_positive}
 use Rattle.dr_plain_senders.specs.Meaning.Shape.{Shape}
+use Rattle.dr_plain_senders.specs.declared.record.SenderRecord.{SenderRecord}
 use Rattle.dr_plain_senders.specs.Meaning.Words.{in_word}
 use Rattle.dr_plain_senders.specs.Inside.Publishing.{HasPublishedAll}
 use Rattle.dr_plain_senders.proofs.RunShown.{Run, round}
@@ -29,7 +30,8 @@ loop-next-preserved g c =
     let n = c.args.upto - lo in
     let e = c.args.station.now in let o = c.args.owned.now in let ts = c.args.tokens.now.items in let a = c.loop-next.station in let next = c.loop-next.next in
     let word = c.in_word.ensures.count ∙ ap (λ (p : Shape g.row.T.Denot). in_word p next) c.plan.ensures.plan in let some_one = c.in_word.ensures.some in
-    let pos = subst (λ (p : Shape g.row.T.Denot). 0 < p.size) (c.plan.ensures.plan ∙ inv.3.done.stays.1) (size_positive _ c.plan.ensures.made.size) in
+    let pos = subst (λ (p : Shape g.row.T.Denot). 0 < p.size) (c.plan.ensures.plan ∙ ap (λ (r : SenderRecord g.row.T.Denot). r.plan) inv.3.done.all.knows)
+    (size_positive _ c.plan.ensures.made.size) in
     let all : Run e o c.args.end lo n ts = record {
       some_slot = pos;
       fits = c.requires.fits;

@@ -4,7 +4,7 @@ use Rattle.dr_seq.proofs.Sizes.{size_positive, size_at_most}
 use Rattle.dr_plain_senders.specs.Meaning.Shape.{Shape}
 use Rattle.dr_plain_senders.specs.Calls.Ends.{SenderStand}
 use Rattle.dr_plain_senders.specs.Inside.Fits.{SenderFits}
-use Rattle.dr_plain_senders.specs.Inside.Hands.{with_hand}
+use Rattle.dr_lent.specs.Ends.{with_hand}
 use Rattle.dr_plain_senders.specs.Inside.Publishing.{HasPublishedRun, LendsCells, AreWhole, cleared}
 use Rattle.dr_plain_senders.specs.Inside.Seats.{given_by_publication}
 use Rattle.dr_plain_senders.proofs.Bits.{few_in_word}
@@ -25,31 +25,31 @@ run g c = let order = c.requires.order.0 in record {
   ready = λ i lt. c.requires.ready (c.args.lo + i) (omega arith) (omega arith);
 }
 
-size_is : (g : Over) (c : After-saturating_sub g) → c.get-size.result ≡ c.args.station.now.plan.size
+size_is : (g : Over) (c : After-saturating_sub g) → c.get-size.result ≡ c.args.station.now.knows.plan.size
 size_is g c = c.get-size.ensures.value ∙ c.size.ensures ∙ ap (λ (p : Shape g.row.T.Denot). p.size) c.plan.ensures.plan
 
-from_is : (g : Over) (c : After-saturating_sub g) → c.saturating_sub.result ≡ c.args.end - c.args.station.now.plan.size
+from_is : (g : Over) (c : After-saturating_sub g) → c.saturating_sub.result ≡ c.args.end - c.args.station.now.knows.plan.size
 from_is g c = c.saturating_sub.ensures ∙ ap (λ (m : ℕ). c.args.end - m) (size_is g c)
 
 -- so many slots are before and behind them
 few_before : (g : Over) (c : After-count_open g)
     (R : Run c.args.station.now c.args.owned.now c.args.end c.args.lo (c.args.upto - c.args.lo) c.args.tokens.now.items)
-    → c.saturating_sub.result ≡ c.args.end - c.args.station.now.plan.size
-    → c.get-size.result ≡ c.args.station.now.plan.size → (c.handlers.result + 1) * c.count_open.result ≤ 1114112
+    → c.saturating_sub.result ≡ c.args.end - c.args.station.now.knows.plan.size
+    → c.get-size.result ≡ c.args.station.now.knows.plan.size → (c.handlers.result + 1) * c.count_open.result ≤ 1114112
 few_before g c R from size =
     let r = round R in let few = c.count_open.ensures.few in let h = c.handlers.ensures.few in let most = size_at_most _ c.get-size.ensures.size in
     small_product (c.handlers.result + 1) c.count_open.result (omega arith) (omega arith)
 
 few_behind : (g : Over) (c : After-count_open-2 g)
     (R : Run c.args.station.now c.args.owned.now c.args.end c.args.lo (c.args.upto - c.args.lo) c.args.tokens.now.items)
-    → c.get-size.result ≡ c.args.station.now.plan.size → (c.handlers.result + 1) * c.count_open-2.result ≤ 1114112
+    → c.get-size.result ≡ c.args.station.now.knows.plan.size → (c.handlers.result + 1) * c.count_open-2.result ≤ 1114112
 few_behind g c R size =
     let r = round R in let few = c.count_open-2.ensures.few in let h = c.handlers.ensures.few in let most = size_at_most _ c.get-size.ensures.size in
     let order = c.requires.order.0 in small_product (c.handlers.result + 1) c.count_open-2.result (omega arith) (omega arith)
 
 many_before : (g : Over) (c : After-count_open g)
     (R : Run c.args.station.now c.args.owned.now c.args.end c.args.lo (c.args.upto - c.args.lo) c.args.tokens.now.items)
-    → c.saturating_sub.result ≡ c.args.end - c.args.station.now.plan.size
+    → c.saturating_sub.result ≡ c.args.end - c.args.station.now.knows.plan.size
     → length (before R) ≡ (c.handlers.result + 1) * c.count_open.result
 many_before g c R from = let h = c.handlers.ensures.count in slots_before R c.saturating_sub.result _ _ from (omega arith) c.count_open.ensures.count
 
@@ -65,25 +65,25 @@ many_behind g c R =
 lent : (g : Over) (c : After-lend_rows g) (R : Run c.args.station.now c.args.owned.now c.args.end c.args.lo (c.args.upto - c.args.lo) c.args.tokens.now.items)
     → length (before R) ≡ (c.handlers.result + 1) * c.count_open.result
     → c.lend_rows.new.self ≡ with_hand c.args.station.now
-    (given_by_publication c.args.station.now.plan c.args.lo c.lend_rows.ensures.lent.0 ++ (behind R ++ before R))
+    (given_by_publication c.args.station.now.knows.plan c.args.lo c.lend_rows.ensures.lent.0 ++ (behind R ++ before R))
 lent g c R many = rows_given R _ many c.turn_all.new.self c.turn_all.ensures c.lend_rows.ensures.lent.0 c.lend_rows.new.self c.lend_rows.ensures.lent.3
 
 done : (g : Over) (c : After-publish g) (R : Run c.args.station.now c.args.owned.now c.args.end c.args.lo (c.args.upto - c.args.lo) c.args.tokens.now.items)
     → length (before R) ≡ (c.handlers.result + 1) * c.count_open.result
     → length (behind R) ≡ (c.handlers.result + 1) * c.count_open-2.result
     → c.lend_rows.new.self ≡ with_hand c.args.station.now
-    (given_by_publication c.args.station.now.plan c.args.lo c.lend_rows.ensures.lent.0 ++ (behind R ++ before R))
+    (given_by_publication c.args.station.now.knows.plan c.args.lo c.lend_rows.ensures.lent.0 ++ (behind R ++ before R))
     → SenderFits c.turn_all-2.new.self c.publish.new.self c.args.end c.lend_rows.new.tokens.items
     × HasPublishedRun c.args.station.now c.args.owned.now c.args.tokens.now.items c.args.lo
     (c.args.lo + (c.args.upto - c.args.lo)) c.turn_all-2.new.self c.publish.new.self c.lend_rows.new.tokens.items
 done g c R many more given =
     let T = g.row.T.Denot in let ts = c.args.tokens.now.items in let lo = c.args.lo in let n = c.args.upto - lo in
     let lents = c.lend_rows.ensures.lent.0 in let count = c.lend_rows.ensures.lent.1 in
-    run_shown R lents count (subst (λ (x : SenderStand T). LendsCells x.plan ts lo lents) c.turn_all.ensures c.lend_rows.ensures.lent.2)
+    run_shown R lents count (subst (λ (x : SenderStand T). LendsCells x.knows.plan ts lo lents) c.turn_all.ensures c.lend_rows.ensures.lent.2)
     c.lend_rows.new.self c.publish_rows.new.self c.turn_all-2.new.self _ c.publish.new.self c.lend_rows.new.tokens.items given
     (c.publish_rows.ensures lents (behind R ++ before R) count (hand_given R lents count c.lend_rows.new.self given))
     more c.turn_all-2.ensures c.publish.ensures
-    (c.lend_rows.ensures.tokens ∙ ap (λ (x : SenderStand T). cleared x.plan ts lo n) c.turn_all.ensures)
+    (c.lend_rows.ensures.tokens ∙ ap (λ (x : SenderStand T). cleared x.knows.plan ts lo n) c.turn_all.ensures)
 
 pub count_open-requires : goal.count_open-requires
 count_open-requires g c =
@@ -127,17 +127,17 @@ overflow_add-behind g c =
 
 pub lend_rows-requires-clause-order : goal.lend_rows-requires-clause-order
 lend_rows-requires-clause-order g c =
-    let size = ap (λ (x : SenderStand g.row.T.Denot). x.plan.size) c.turn_all.ensures in let inside = few_in_word c.args.station.now.plan c.args.lo in
+    let size = ap (λ (x : SenderStand g.row.T.Denot). x.knows.plan.size) c.turn_all.ensures in let inside = few_in_word c.args.station.now.knows.plan c.args.lo in
     let order = c.requires.order.0 in let word = c.requires.order.1 in let most = inside.1 in (order, omega arith)
 
 pub lend_rows-requires-clause-count : goal.lend_rows-requires-clause-count
 lend_rows-requires-clause-count g c =
-    c.requires.fits.count ∙ ap (λ (x : SenderStand g.row.T.Denot). x.plan.size) (sym c.turn_all.ensures)
+    c.requires.fits.count ∙ ap (λ (x : SenderStand g.row.T.Denot). x.knows.plan.size) (sym c.turn_all.ensures)
 
 pub lend_rows-requires-clause-whole : goal.lend_rows-requires-clause-whole
 lend_rows-requires-clause-whole g c =
     let P = goal.at.lend_rows-requires-clause-whole g c in let R = run g P.After-plan in
-    subst (λ (x : SenderStand g.row.T.Denot). AreWhole x.plan c.args.tokens.now.items c.args.lo (c.args.upto - c.args.lo))
+    subst (λ (x : SenderStand g.row.T.Denot). AreWhole x.knows.plan c.args.tokens.now.items c.args.lo (c.args.upto - c.args.lo))
     (sym c.turn_all.ensures) (rows_whole R)
 
 pub lend_rows-requires-clause-small : goal.lend_rows-requires-clause-small
@@ -147,7 +147,7 @@ lend_rows-requires-clause-small g c =
     let from = from_is g P.After-saturating_sub in
     let size = size_is g P.After-saturating_sub in
     let few = few_before g P.After-count_open R from size in let few2 = few_behind g P.After-count_open-2 R size in
-    let inside = few_in_word c.args.station.now.plan c.args.lo in let most = inside.0 in let word = c.requires.order.1 in (omega arith, omega arith)
+    let inside = few_in_word c.args.station.now.knows.plan c.args.lo in let most = inside.0 in let word = c.requires.order.1 in (omega arith, omega arith)
 
 pub lend_rows-requires-clause-hand : goal.lend_rows-requires-clause-hand
 lend_rows-requires-clause-hand g c =

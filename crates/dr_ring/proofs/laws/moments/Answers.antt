@@ -1,6 +1,6 @@
 use Rattle.dr_seq.specs.declared.event.Event.{Event}
-use Rattle.std.proofs.Common.{◌≡◌, ℕ, ⊎_elim, [], ◌∷◌, ◌++◌, Result, Ok, Err, subst, refl, ap, ◌∙◌, arith}
-use Rattle.dr_runs.specs.OneSender.Words.{halt_word, count_word}
+use Rattle.std.proofs.Common.{◌≡◌, ℕ, ⊎_elim, [], ◌∷◌, ◌++◌, Result, Ok, Err, subst, refl, ap, ◌∙◌}
+use Rattle.dr_runs.specs.OneSender.Words.{halt_word}
 use Rattle.dr_runs.specs.declared.look.Look.{Look}
 use Rattle.dr_runs.specs.Looks.{look, last_look}
 use Rattle.dr_runs.proofs.Looks.{last_look_more}
@@ -87,8 +87,8 @@ returns-clause-hands c k steps more entries rest w u shape runs on =
     hands_what_was_there k more rest w u on (keeps_runs k steps entries (new_world k) w runs (kept_opening k shape))
 
 pub returns-clause-rises : goal.returns-clause-rises
-returns-clause-rises c k steps more entries rest w u shape runs on f inside =
-    rises_runs (count_word f) k more rest w u (omega arith) on (keeps_runs k steps entries (new_world k) w runs (kept_opening k shape))
+returns-clause-rises c k steps more entries rest w u shape runs on word inside =
+    rises_runs word k more rest w u inside on (keeps_runs k steps entries (new_world k) w runs (kept_opening k shape))
 
 pub returns-clause-halted : goal.returns-clause-halted
 returns-clause-halted c k steps more entries rest w u shape runs on halted =

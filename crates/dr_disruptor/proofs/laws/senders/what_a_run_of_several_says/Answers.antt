@@ -4,6 +4,7 @@ use lib.ListN.{get_elem?, length-map}
 use Rattle.dr_meaning.specs.Meaning.Laws.{Laws}
 use Rattle.dr_runs.specs.declared.counts.HandlerCounts.{HandlerCounts}
 use Rattle.dr_runs.proofs.Lists.{map_there}
+use Rattle.dr_plain_senders.specs.declared.record.HalterRecord.{HalterRecord}
 use Rattle.dr_plain_senders.specs.declared.settled.Settled.{Settled}
 use Rattle.dr_plain_senders.specs.Calls.Ends.{HalterEnd, ReceiverEnd, SenderEnd, receiver_place, received_of}
 use Rattle.dr_plain_senders.specs.Calls.InPlace.{SawSome, does_in_place}
@@ -27,7 +28,7 @@ returns-clause-begins g c most k feeds handlers ran is = (
 )
 
 pub returns-clause-halts : goal.returns-clause-halts
-returns-clause-halts g c most k feeds handlers ran is = let halts = is.halts.1 in (halts.0.0, halts.0.1, halts.4)
+returns-clause-halts g c most k feeds handlers ran is = let halts = is.halts.1 in (halts.0, ap (λ (r : HalterRecord g.row.E.Denot). r.plan) halts.1, halts.4)
 
 pub returns-clause-merges : goal.returns-clause-merges
 returns-clause-merges g c most k feeds handlers ran is = (is.through.merge, is.through.through, is.claimed)
@@ -57,7 +58,7 @@ returns-clause-completes g c most k feeds handlers ran is =
 pub returns-clause-serves : goal.returns-clause-serves
 returns-clause-serves g c most k feeds handlers ran is =
     shown_from_none receiver_place (λ e. received_of e.knows) (λ e. e.knows.told) SawSome does_in_place g.H.InPlaceHandler.goes most (new_receivers is.ring k)
-    (g.T.Team.listed handlers) is.receivers (g.T.Team.listed ran.handlers) (λ h. receiver_at_ring is.ring k (fresh_receiver h))
+    (g.T.Team.listed handlers) is.receivers (g.T.Team.listed ran.handlers) (λ h. receiver_at_ring is.ring (fresh_receiver k h))
     (new_at is.ring k) (λ h. refl)
     (λ h e at n saw.
     let most = is.seen h e at n saw in
@@ -68,7 +69,8 @@ returns-clause-serves g c most k feeds handlers ran is =
 pub returns-clause-runs : goal.returns-clause-runs
 returns-clause-runs g c most k feeds handlers ran is =
     let run = is.ends.run in
-    (run, subst (λ (q : Shape g.row.E.Denot). Laws (ring_setup q) run.entries) is.halts.1.0.1 run.laws, is.ends.senders, is.ends.receivers, is.ends.halter)
+    let plan = ap (λ (r : HalterRecord g.row.E.Denot). r.plan) is.halts.1.1 in
+    (run, subst (λ (q : Shape g.row.E.Denot). Laws (ring_setup q) run.entries) plan run.laws, is.ends.senders, is.ends.receivers, is.ends.halter)
 
 pub returns-clause-returns : goal.returns-clause-returns
 returns-clause-returns g c most k feeds handlers ran is = is.back

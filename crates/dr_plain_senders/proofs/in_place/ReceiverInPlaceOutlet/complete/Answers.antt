@@ -15,4 +15,4 @@ returns-clause-offered g c =
     let old = c.args.self.now in
     let new = c.complete.new.self in
     ap (λ (q : EndPlace g.row.T.Denot). offered_in q.1 (upstreams_of q.1.upstreams q.2) new.knows.marks new.knows.looks) c.in-Ok.ensures.0
-    ∙ ap (λ (r : ReceiverRecord g.row.T.Denot). offered_in old.plan (ups_of old.plan old.knows) r.marks r.looks) c.in-Ok.ensures.1.2
+    ∙ ap (λ (r : ReceiverRecord g.row.T.Denot). offered_in old.knows.plan (ups_of old.knows) r.marks r.looks) c.in-Ok.ensures.1.2

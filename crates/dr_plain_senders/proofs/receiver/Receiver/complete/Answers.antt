@@ -6,7 +6,7 @@ use Rattle.dr_plain_senders.proofs.receiver.Receiver.complete.Goals as goal
 pub give_back-requires-clause-hand : goal.give_back-requires-clause-hand
 give_back-requires-clause-hand g c =
     let low = c.if-upto-self.false in let high = c.if-upto-self-2.false in let upto = c.args.upto in (
-      blanks_between c.self.inside.station.plan c.self.inside.station.knows upto c.self.inside.taken,
+      blanks_between c.self.inside.station.knows upto c.self.inside.taken,
       first_in_hand c.self.inside.station upto _ _ _ c.self.invariant (omega arith) (omega arith),
     )
 
@@ -18,7 +18,7 @@ turn_all-requires g c =
 pub complete-requires-clause-hand : goal.complete-requires-clause-hand
 complete-requires-clause-hand g c =
     let low = c.if-upto-self.false in let high = c.if-upto-self-2.false in let upto = c.args.upto in (
-      blanks_between c.self.inside.station.plan c.self.inside.station.knows upto c.self.inside.taken,
+      blanks_between c.self.inside.station.knows upto c.self.inside.taken,
       may_give c.self.inside.station upto _ _ _ c.self.invariant (omega arith) (omega arith) _ c.give_back.ensures.hand _ c.turn_all.ensures,
     )
 

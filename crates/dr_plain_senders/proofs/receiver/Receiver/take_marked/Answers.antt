@@ -18,9 +18,9 @@ take_each-requires-clause-next g c =
 
 pub returns-clause-took : goal.returns-clause-took
 returns-clause-took g c =
-    let k = c.args.self.now.plan in let r = c.args.self.now.knows in
+    let r = c.args.self.now.knows in
     let all = c.self.invariant.taken ∙ ap (λ (x : ReceiverEnd g.row.T.Denot). length x.knows.received) c.self.view_is in let le = c.requires.claimed.0 in
-    marked_each k r _ c.args.claimed c.args.room
+    marked_each r _ c.args.claimed c.args.room
     c.min-2.result _ (looks_to c.self.inside.taken (length r.received) c.args.claimed
     c.args.room c.min.result c.min-2.result all le c.min.ensures c.min-2.ensures)
     c.take_each.ensures.took

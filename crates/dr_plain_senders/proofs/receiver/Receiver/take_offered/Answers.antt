@@ -8,18 +8,18 @@ use Rattle.dr_plain_senders.proofs.receiver.Receiver.take_offered.Goals as goal
 
 pub take_marked-requires-clause-first : goal.take_marked-requires-clause-first
 take_marked-requires-clause-first g c =
-    let k = c.args.self.now.plan in let r = c.args.self.now.knows in let same = ap (λ (x : ReceiverEnd g.row.T.Denot). ups_of x.plan x.knows) c.self.view_is in
-    no_elements (ups_of k r) (sym (ap length (c.upstreams.ensures ∙ same)) ∙ eqb-true (length c.upstreams.result.now) 0 (sym c.if-is_empty.ensures))
+    let r = c.args.self.now.knows in let same = ap (λ (x : ReceiverEnd g.row.T.Denot). ups_of x.knows) c.self.view_is in
+    no_elements (ups_of r) (sym (ap length (c.upstreams.ensures ∙ same)) ∙ eqb-true (length c.upstreams.result.now) 0 (sym c.if-is_empty.ensures))
 
 pub returns-then-is_empty-clause-took : goal.returns-then-is_empty-clause-took
 returns-then-is_empty-clause-took g c =
-    let k = c.args.self.now.plan in let r = c.args.self.now.knows in let same = ap (λ (x : ReceiverEnd g.row.T.Denot). ups_of x.plan x.knows) c.self.view_is in
+    let r = c.args.self.now.knows in let same = ap (λ (x : ReceiverEnd g.row.T.Denot). ups_of x.knows) c.self.view_is in
     let none =
-    no_elements (ups_of k r) (sym (ap length (c.upstreams.ensures ∙ same)) ∙ eqb-true (length c.upstreams.result.now) 0 (sym c.if-is_empty.ensures)) in
-    offered_marked k r _ _ _ _ none c.take_marked.ensures.took
+    no_elements (ups_of r) (sym (ap length (c.upstreams.ensures ∙ same)) ∙ eqb-true (length c.upstreams.result.now) 0 (sym c.if-is_empty.ensures)) in
+    offered_marked r _ _ _ _ none c.take_marked.ensures.took
 
 pub returns-clause-took : goal.returns-clause-took
 returns-clause-took g c =
-    let k = c.args.self.now.plan in let r = c.args.self.now.knows in let same = ap (λ (x : ReceiverEnd g.row.T.Denot). ups_of x.plan x.knows) c.self.view_is in
-    offered_past k r _ _ _ _ (λ e. (let zero = eq-eqb (length c.upstreams.result.now) 0 (ap length (c.upstreams.ensures ∙ same ∙ e)) in
+    let r = c.args.self.now.knows in let same = ap (λ (x : ReceiverEnd g.row.T.Denot). ups_of x.knows) c.self.view_is in
+    offered_past r _ _ _ _ (λ e. (let zero = eq-eqb (length c.upstreams.result.now) 0 (ap length (c.upstreams.ensures ∙ same ∙ e)) in
     let not_empty = c.if-is_empty.ensures in cc)) c.take_past_upstreams.ensures.took

@@ -17,7 +17,7 @@ take_in-requires-clause-hand g c =
     let room = F.near in (
       e.hand,
       new_in_hand e c.look_past_upstreams-available.new.self _ _ c.min.result _ L.lents
-          F step.only.0.1 (ap (λ (r : ReceiverRecord g.row.T.Denot). r.number) L.is)
+          F (ap (λ (r : ReceiverRecord g.row.T.Denot). r.plan) L.is) (ap (λ (r : ReceiverRecord g.row.T.Denot). r.number) L.is)
           (ap (λ (r : ReceiverRecord g.row.T.Denot). r.completed) L.is)
           (ap (λ (r : ReceiverRecord g.row.T.Denot). r.received) L.is) L.in_hand (omega arith) (omega arith),
     )
@@ -34,7 +34,8 @@ invariant_of-self g c =
     let room = F.near in (
       refl,
       tt,
-      fits_taken e c.look_past_upstreams-available.new.self _ _ c.min.result _ L.lents F step.only.0.1 (ap (λ (r : ReceiverRecord g.row.T.Denot). r.number) L.is)
+      fits_taken e c.look_past_upstreams-available.new.self _ _ c.min.result _ L.lents F
+          (ap (λ (r : ReceiverRecord g.row.T.Denot). r.plan) L.is) (ap (λ (r : ReceiverRecord g.row.T.Denot). r.number) L.is)
           (ap (λ (r : ReceiverRecord g.row.T.Denot). r.completed) L.is)
           (ap (λ (r : ReceiverRecord g.row.T.Denot). r.received) L.is) L.in_hand (omega arith) (omega arith)
           _ c.take_in.ensures.parts _ c.take_in.ensures.hand,
@@ -46,8 +47,8 @@ returns-clause-took g c =
     let now = ap (λ (x : ReceiverStand g.row.T.Denot). x.knows) (sym c.take_in.ensures.hand) in (
       e.hand,
       e'.hand,
-      subst (λ (r : ReceiverRecord g.row.T.Denot). LooksPast c.args.self.now.plan c.args.self.now.knows c.args.claimed c.args.room available e.hand r e'.hand)
+      subst (λ (r : ReceiverRecord g.row.T.Denot). LooksPast c.args.self.now.knows c.args.claimed c.args.room available e.hand r e'.hand)
           now
-          (subst (λ (x : ReceiverEnd g.row.T.Denot). LooksPast x.plan x.knows c.args.claimed c.args.room available e.hand e'.knows e'.hand) c.self.view_is
+          (subst (λ (x : ReceiverEnd g.row.T.Denot). LooksPast x.knows c.args.claimed c.args.room available e.hand e'.knows e'.hand) c.self.view_is
           c.look_past_upstreams-available.ensures.answer),
     )

@@ -13,7 +13,8 @@ use Rattle.dr_plain_senders.proofs.sender.Sender.halt.Goals as goal
 pub invariant_of-self : goal.invariant_of-self
 invariant_of-self g c =
     let S = c.halt.ensures.1 in
-    (refl, tt, fits_same c.self.inside.station c.halt.new.self _ _ _ S.0.1 (ap (λ (r : SenderRecord g.row.T.Denot). r.own) S.1) S.2 c.self.invariant)
+    (refl, tt, fits_same c.self.inside.station c.halt.new.self _ _ _ (ap (λ (r : SenderRecord g.row.T.Denot). r.plan) S.1)
+        (ap (λ (r : SenderRecord g.row.T.Denot). r.own) S.1) S.2 c.self.invariant)
 
 pub returns : goal.returns
 returns g c =
@@ -26,5 +27,5 @@ returns g c =
       subst (λ (x : SenderEnd g.row.T.Denot).
           HasStoredAt x (SenderHalts x.knows.number) (sender_looked x.knows claim_word (halted_from found)) (sender_end e1 o tokens))
           c.self.view_is
-          ((S.0, S.1, refl, S.3, S.4), (λ i. writes_of (S.0.1 i) o tokens (S.1 i).own), refl),
+          ((S.0, S.1, refl, S.3, S.4), (λ i. writes_of (S.1 i).plan o tokens (S.1 i).own), refl),
     )

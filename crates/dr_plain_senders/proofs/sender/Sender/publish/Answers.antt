@@ -24,12 +24,12 @@ found g c =
     c.self.inside.tokens.items c.has-is_own.result _ c.self.invariant c.has-is_own.ensures
     (omega arith) c.reaches.ensures
 
-some_cell : (g : Over) (c : After-reaches g) → 0 < c.self.inside.station.plan.size
+some_cell : (g : Over) (c : After-reaches g) → 0 < c.self.inside.station.knows.plan.size
 some_cell g c = subst (λ (k : Shape g.row.T.Denot). 0 < k.size) c.plan.ensures.plan (size_positive _ c.plan.ensures.made.size)
 
 still_fits : {T : Type 0} {e a : SenderStand T} {o : Owned} {end hi : ℕ} {tokens : List (Token T)} {is : Bool}
     → Reached e hi a is → SenderFits e o end tokens → SenderFits a o end tokens
-still_fits {T} R F = fits_same _ _ _ _ _ R.stays.1 (ap (λ (r : SenderRecord T). r.own) R.knows) R.hand F
+still_fits {T} R F = fits_same _ _ _ _ _ (ap (λ (r : SenderRecord T). r.plan) R.knows) (ap (λ (r : SenderRecord T). r.own) R.knows) R.hand F
 
 pub returns-then-lo-hi-clause-call : goal.returns-then-lo-hi-clause-call
 returns-then-lo-hi-clause-call g c = publish_bad c.args.self.now c.args.lo c.args.hi c.if-lo-hi.true
@@ -80,7 +80,8 @@ returns-then-stop-hi-clause-call g c =
 pub invariant_of-self-then-not-has : goal.invariant_of-self-then-not-has
 invariant_of-self-then-not-has g c =
     let F = still_fits (found g (goal.at.invariant_of-self-then-not-has g c).After-reaches) c.self.invariant in let looked = c.refusal.ensures.loaded in
-    (refl, tt, fits_same c.reaches.new.self c.refusal.new.self _ _ _ looked.0.1 (ap (λ (r : SenderRecord g.row.T.Denot). r.own) looked.1) looked.2 F)
+    (refl, tt, fits_same c.reaches.new.self c.refusal.new.self _ _ _ (ap (λ (r : SenderRecord g.row.T.Denot). r.plan) looked.1)
+        (ap (λ (r : SenderRecord g.row.T.Denot). r.own) looked.1) looked.2 F)
 
 pub returns-then-not-has-clause-call : goal.returns-then-not-has-clause-call
 returns-then-not-has-clause-call g c =

@@ -29,7 +29,7 @@ invariant_of-self g c =
     let looked = c.refusal.ensures.loaded in (
       refl,
       tt,
-      fits_same c.self.inside.station c.refusal.new.self _ _ _ looked.0.1
+      fits_same c.self.inside.station c.refusal.new.self _ _ _ (ap (λ (r : SenderRecord g.row.T.Denot). r.plan) looked.1)
           (ap (λ (r : SenderRecord g.row.T.Denot). r.own) looked.1) looked.2 c.self.invariant,
     )
 
@@ -72,14 +72,14 @@ returns g c =
     let strip = c.cells-cells.ensures ∙ ap (λ (k : Shape g.row.T.Denot). k.strip) c.plan-2.ensures.plan in
     let token = c.change_in.ensures.3 ∙ ap (λ (p : Ptr). let t : Token g.row.T.Denot = token_at p place (whole event) in t) strip in
     let put = c.put_at.ensures.row ∙ (λ i. set (c.put_at-token.ensures.row i) place (token i)) in
-    let there : get_elem? tokens (cell_of e.plan s) ≡ some t =
+    let there : get_elem? tokens (cell_of e.knows.plan s) ≡ some t =
     ap (λ (i : ℕ). get_elem? tokens i) (sym c.place-place.ensures.place) ∙ c.put_at-token.ensures.was in
     subst (λ (x : SenderEnd g.row.T.Denot). UpdateCall (λ (was now : g.row.T.Denot). FnOnceReturnsAtMut g.F.FnOnce c.args.change was tt now)
     x s (sender_end e c.write.new.self c.put_at.new.row.items) (Ok tt))
     c.self.view_is (
       c.change_in.ensures.0,
       event,
-      lies_at tokens e.plan.size s t c.self.invariant.count there ∙ ap (λ (h : Hold g.row.T.Denot). held h) c.change_in.ensures.2,
+      lies_at tokens e.knows.plan.size s t c.self.invariant.count there ∙ ap (λ (h : Hold g.row.T.Denot). held h) c.change_in.ensures.2,
       c.change_in.ensures.4,
       write_done e c.self.inside.owned _ s place tokens c.put_at.new.row.items c.blank.result event c.self.invariant size
           (sym c.if-not-has.ensures) (sym c.if-is_published.ensures) c.place-place.ensures.place put c.write.new.self c.write.ensures,

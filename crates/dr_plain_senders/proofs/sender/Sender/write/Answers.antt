@@ -19,7 +19,7 @@ invariant_of-self g c =
     let looked = c.refusal.ensures.loaded in (
       refl,
       tt,
-      fits_same c.self.inside.station c.refusal.new.self _ _ _ looked.0.1
+      fits_same c.self.inside.station c.refusal.new.self _ _ _ (ap (λ (r : SenderRecord g.row.T.Denot). r.plan) looked.1)
           (ap (λ (r : SenderRecord g.row.T.Denot). r.own) looked.1) looked.2 c.self.invariant,
     )
 

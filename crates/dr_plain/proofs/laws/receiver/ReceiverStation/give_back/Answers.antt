@@ -6,13 +6,13 @@ use Rattle.dr_plain.specs.Calls.Ends.{ReceiverStand}
 use Rattle.dr_plain.specs.Meaning.Words.{cell_of, slot_of}
 use Rattle.dr_plain.specs.Meaning.Lying.{placed}
 use Rattle.dr_runs.proofs.Elements.{there}
-use Rattle.dr_plain.proofs.Trading.{parts_count, blanks_count, holds}
+use Rattle.dr_plain.proofs.Trading.{parts_count, blanks_count}
 use Rattle.dr_plain.proofs.Trading.{part_at, blank_at}
 use Rattle.dr_plain.proofs.laws.receiver.ReceiverStation.give_back.Goals as goal
 
 pub loop-sequence-init : goal.loop-sequence-init
 loop-sequence-init g c = let r = c.args.self.now.knows in (
-  trade_begins holds c.args.self.now c.args.first _ _ _ c.requires.hand.0 c.requires.hand.1 (blanks_count r c.args.first c.args.upto c.requires.order.1),
+  trade_begins c.args.self.now c.args.first _ _ _ c.requires.hand.0 c.requires.hand.1 (blanks_count r c.args.first c.args.upto c.requires.order.1),
   omega arith,
   places_none r.plan.size c.args.first _,
 )
@@ -20,7 +20,7 @@ loop-sequence-init g c = let r = c.args.self.now.knows in (
 pub exchange-requires : goal.exchange-requires
 exchange-requires g c =
     let inv = c.loop-sequence.invariant in let r = c.args.self.now.knows in let s = c.loop-sequence.sequence in
-    trade_slot holds c.args.self.now c.args.first _ _ _ s _ _ (placed r.plan r.number s None) inv.0
+    trade_slot c.args.self.now c.args.first _ _ _ s _ _ (placed r.plan r.number s None) inv.0
     (blank_at r c.args.first c.args.upto c.requires.order.1 s inv.1 c.loop-sequence-test.true)
     (c.slot-slot.ensures ∙ ap (λ (e : ReceiverStand g.row.T.Denot). slot_of e.knows.plan e.knows.number s) inv.0)
 
@@ -31,7 +31,7 @@ loop-sequence-preserved g c =
     let slot = c.slot-slot.ensures ∙ ap (λ (e : ReceiverStand g.row.T.Denot). slot_of e.knows.plan e.knows.number s) inv.0 in
     let place = c.place-place.ensures.place ∙ ap (λ (e : ReceiverStand g.row.T.Denot). cell_of e.knows.plan s) inv.0 in
     let was = ap (λ (m : ℕ). get_elem? c.loop-sequence.parts.items m) (sym place) ∙ c.put_at-part.ensures.was in (
-      trade_next holds c.args.self.now c.args.first _ _ _ s _ _ _ _ (placed r.plan r.number s None) (placed r.plan r.number s (Some t.0)) inv.1 inv.0
+      trade_next c.args.self.now c.args.first _ _ _ s _ _ _ _ (placed r.plan r.number s None) (placed r.plan r.number s (Some t.0)) inv.1 inv.0
           (blank_at r c.args.first c.args.upto le s inv.1 lt) (part_at r c.args.first c.args.upto le s t.0 inv.1 lt t.1) slot
           (part_is r.plan.strip r.plan.size r.received c.args.first s c.args.upto _ _ _ t.0 inv.2 inv.1 lt (omega arith) c.requires.parts t.1 was)
           c.exchange.ensures.hand,
@@ -43,5 +43,5 @@ loop-sequence-preserved g c =
 pub returns-clause-hand : goal.returns-clause-hand
 returns-clause-hand g c =
     let inv = c.loop-sequence.invariant in let r = c.args.self.now.knows in let over = c.loop-sequence-test.false in let low = inv.1 in let end = c.loop-sequence.auto.sequence-end in
-    trade_ends holds c.args.self.now c.args.first _ _ _ c.loop-sequence.sequence _ (omega arith) inv.0
+    trade_ends c.args.self.now c.args.first _ _ _ c.loop-sequence.sequence _ (omega arith) inv.0
     (blanks_count r c.args.first c.args.upto c.requires.order.1) (parts_count r c.args.first c.args.upto c.requires.order.1)

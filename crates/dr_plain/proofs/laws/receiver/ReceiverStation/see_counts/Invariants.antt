@@ -1,5 +1,5 @@
 use Rattle.std.proofs.Common.{◌≡◌}
-use Rattle.dr_plain.specs.Calls.Ends.{HasLoaded}
+use Rattle.dr_lent.specs.Ends.{HasLoaded}
 use Rattle.dr_plain.specs.Inside.Polling.{LooksAtFirst}
 use Rattle.dr_plain.specs.Calls.Receiving.{ups_of}
 use Rattle.dr_plain.proofs.laws.receiver.ReceiverStation.see_counts.Given as goal

@@ -5,13 +5,13 @@ use Rattle.dr_plain.specs.Calls.Ends.{ReceiverStand}
 use Rattle.dr_plain.specs.Meaning.Words.{cell_of, slot_of}
 use Rattle.dr_plain.specs.Meaning.Lying.{placed}
 use Rattle.dr_runs.proofs.Elements.{there}
-use Rattle.dr_plain.proofs.Trading.{parts_count, holds}
+use Rattle.dr_plain.proofs.Trading.{parts_count}
 use Rattle.dr_plain.proofs.Trading.{blanks_count, part_at, blank_at}
 use Rattle.dr_plain.proofs.laws.receiver.ReceiverStation.take_in.Goals as goal
 
 pub loop-sequence-init : goal.loop-sequence-init
 loop-sequence-init g c = let r = c.args.self.now.knows in (
-  trade_begins holds c.args.self.now c.args.first _ _ _ c.requires.hand.0 c.requires.hand.1 (parts_count r c.args.first c.args.upto c.requires.order.1),
+  trade_begins c.args.self.now c.args.first _ _ _ c.requires.hand.0 c.requires.hand.1 (parts_count r c.args.first c.args.upto c.requires.order.1),
   omega arith,
   parts_none r.plan.strip r.plan.size r.received c.args.first _,
 )
@@ -20,7 +20,7 @@ pub exchange-part-requires : goal.exchange-part-requires
 exchange-part-requires g c =
     let inv = c.loop-sequence.invariant in let r = c.args.self.now.knows in let s = c.loop-sequence.sequence in let lt = c.loop-sequence-test.true in
     let le = c.requires.order.1 in let t = there r.received s (omega arith) in
-    trade_slot holds c.args.self.now c.args.first _ _ _ s _ _ (placed r.plan r.number s (Some t.0)) inv.0
+    trade_slot c.args.self.now c.args.first _ _ _ s _ _ (placed r.plan r.number s (Some t.0)) inv.0
     (part_at r c.args.first c.args.upto le s t.0 inv.1 lt t.1)
     (c.slot-slot.ensures ∙ ap (λ (e : ReceiverStand g.row.T.Denot). slot_of e.knows.plan e.knows.number s) inv.0)
 
@@ -32,17 +32,17 @@ loop-sequence-preserved g c =
     let slot = c.slot-slot.ensures ∙ ap (λ (e : ReceiverStand g.row.T.Denot). slot_of e.knows.plan e.knows.number s) inv.0 in
     let place = c.place-place.ensures.place ∙ ap (λ (e : ReceiverStand g.row.T.Denot). cell_of e.knows.plan s) inv.0 in
     let size = ap (λ (e : ReceiverStand g.row.T.Denot). e.knows.plan.size) inv.0 in let inside = c.place-place.ensures.inside in (
-      trade_next holds c.args.self.now c.args.first _ _ _ s _ _ _ _ (placed r.plan r.number s (Some t.0)) (placed r.plan r.number s None) inv.1 inv.0 at
+      trade_next c.args.self.now c.args.first _ _ _ s _ _ _ _ (placed r.plan r.number s (Some t.0)) (placed r.plan r.number s None) inv.1 inv.0 at
           (blank_at r c.args.first c.args.upto le s inv.1 lt) slot c.blank.ensures c.exchange-part.ensures.hand,
       omega arith,
       parts_more r.plan.strip r.plan.size r.received c.args.first s _ _ _ _ t.0 inv.2 inv.1 (omega arith) c.requires.room (omega arith) t.1
           (was_there _ _ (placed r.plan r.number s (Some t.0)) _
-          (trade_first holds c.args.self.now c.args.first _ _ _ s _ _ inv.0 at) c.exchange-part.ensures.was)
+          (trade_first c.args.self.now c.args.first _ _ _ s _ _ inv.0 at) c.exchange-part.ensures.was)
           (c.put_at.ensures.row ∙ ap (λ (m : ℕ). set c.loop-sequence.parts.items m c.exchange-part.result) place),
     )
 
 pub returns-clause-hand : goal.returns-clause-hand
 returns-clause-hand g c =
     let inv = c.loop-sequence.invariant in let r = c.args.self.now.knows in let over = c.loop-sequence-test.false in let low = inv.1 in let end = c.loop-sequence.auto.sequence-end in
-    trade_ends holds c.args.self.now c.args.first _ _ _ c.loop-sequence.sequence _ (omega arith) inv.0
+    trade_ends c.args.self.now c.args.first _ _ _ c.loop-sequence.sequence _ (omega arith) inv.0
     (parts_count r c.args.first c.args.upto c.requires.order.1) (blanks_count r c.args.first c.args.upto c.requires.order.1)

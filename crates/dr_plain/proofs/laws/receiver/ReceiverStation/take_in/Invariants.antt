@@ -1,7 +1,7 @@
 use Rattle.std.proofs.Common.{◌≡◌, ◌-◌, ◌≤◌, drop}
 use Rattle.dr_lent.proofs.Trading.{traded}
 use Rattle.dr_lent.specs.Trades.{PartsTaken}
-use Rattle.dr_plain.specs.Inside.Hands.{with_hand}
+use Rattle.dr_lent.specs.Ends.{with_hand}
 use Rattle.dr_plain.specs.Inside.Trades.{parts_between, blanks_between}
 use Rattle.dr_plain.proofs.laws.receiver.ReceiverStation.take_in.Given as goal
 

@@ -1,11 +1,12 @@
-use Rattle.std.proofs.Common.{rules, ◌≡◌, ℕ, ◌+◌, ◌-◌, ◌*◌, ◌++◌, List, Option, None, arith, ap, sym, ◌∙◌, subst, length, set, drop}
+use Rattle.std.proofs.Common.{rules, ◌≡◌, ℕ, ◌+◌, ◌-◌, ◌*◌, ◌++◌, List, None, arith, ap, sym, ◌∙◌, subst, length, set, drop}
 use Rattle.dr_cells.specs.declared.token.Token.{Token}
-use Rattle.dr_lent.specs.declared.lent.Lent.{Lent}
 use Rattle.dr_plain.specs.Meaning.Shape.{Shape, handlers_of}
 use Rattle.dr_plain.specs.Meaning.Words.{cell_of}
+use Rattle.dr_plain.specs.Meaning.Records.{Laid}
 use Rattle.dr_plain.specs.Calls.Ends.{SenderStand}
-use Rattle.dr_plain.specs.Inside.Fits.{no_lents, Keeps}
-use Rattle.dr_plain.specs.Inside.Hands.{row, with_hand}
+use Rattle.dr_plain.specs.Inside.Fits.{Keeps}
+use Rattle.dr_lent.specs.Ends.{with_hand}
+use Rattle.dr_plain.specs.Inside.Hands.{row, no_lents}
 use Rattle.dr_plain.specs.Inside.Lending.{laid_between, lanes, TokenFits}
 use Rattle.dr_plain.specs.Inside.Seats.{Hand}
 use Rattle.dr_plain.proofs.Collecting.{between_count, between_at, blanks_count, blanks_more, keeps_by, same_none, same_more, same_next, whole_none, whole_more}
@@ -53,14 +54,14 @@ loop-sequence-preserved g c =
     let inv = c.loop-sequence.invariant in let e = c.args.self.now in let r = e.knows in let k = r.plan in let s = c.loop-sequence.sequence in let lt = c.loop-sequence-test.true in
     let first = c.args.first in let upto = c.args.upto in let low = inv.1 in let round = c.requires.order.2 in let xs = laid_between r first upto in
     let K = kept_now g (goal.at.loop-sequence-preserved g c).After-put_at-kept in let plan = ap (λ (x : SenderStand g.row.T.Denot). x.knows.plan) inv.0 in
-    let nothing : Option (Lent g.row.T.Denot) = None in
+    let nothing : Laid g.row.T.Denot = None in
     let place = c.place-place.ensures.place ∙ ap (λ (p : Shape). cell_of p s) plan in let inside = c.place-place.ensures.inside in
     let size = ap (λ (p : Shape). p.size) plan in let many = ap length inv.3.cells in
     let put = c.put_at.ensures.row ∙ ap (λ (ts : List (Token g.row.T.Denot)). set ts c.place-place.result c.collect_one.new.kept) c.put_at-kept.ensures.row in
     let whole = subst (λ (p : Shape). Keeps p s nothing c.collect_one.new.kept) plan c.collect_one.ensures.whole in
     let hand = c.collect_one.ensures.hand ∙ ap (λ (p : Shape). with_hand c.loop-sequence.self (drop (handlers_of p) c.loop-sequence.self.hand ++ row p s nothing)) plan in (
       rowed_next e k first xs (drop (handlers_of k * (upto - first)) e.hand) s _ _ _ K.0 nothing inv.1 inv.0 (between_at r first upto s K.0 inv.1 lt K.1) (blanks_count g.row.T.Denot (s - first)) hand
-          ∙ ap (λ (ys : List (Option (Lent g.row.T.Denot))). with_hand e (lanes k (s + 1) (drop (s + 1 - first) xs) ++ (drop (handlers_of k * (upto - first)) e.hand ++ lanes k first ys)))
+          ∙ ap (λ (ys : List (Laid g.row.T.Denot)). with_hand e (lanes k (s + 1) (drop (s + 1 - first) xs) ++ (drop (handlers_of k * (upto - first)) e.hand ++ lanes k first ys)))
           (blanks_more (s - first) (s + 1 - first) (omega arith)),
       omega arith,
       whole_more k first s c.place-place.result _ _ _ _ inv.2 inv.1 (omega arith) place (search rules) whole put,

@@ -1,6 +1,6 @@
 use Rattle.std.proofs.Common.{◌-◌, ◌*◌, ◌≤◌, drop}
 use Rattle.dr_plain.specs.Meaning.Shape.{handlers_of}
-use Rattle.dr_plain.specs.Inside.Fits.{no_lents}
+use Rattle.dr_plain.specs.Inside.Hands.{no_lents}
 use Rattle.dr_plain.specs.Inside.Lending.{laid_between, AreWhole, SameBut}
 use Rattle.dr_plain.proofs.Rowing.{Rowed}
 use Rattle.dr_plain.proofs.laws.sender.SenderStation.collect.Given as goal

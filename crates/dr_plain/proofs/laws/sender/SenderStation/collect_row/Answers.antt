@@ -1,13 +1,12 @@
-use Rattle.std.proofs.Common.{◌++◌, Option, None, Some, arith, ap, sym, ◌∙◌}
+use Rattle.std.proofs.Common.{◌++◌, None, Some, arith, ap, sym, ◌∙◌}
 use Rattle.dr_cells.specs.Hold.{held}
 use Rattle.dr_cells.specs.declared.token.Token.{Token}
 use Rattle.dr_lent.proofs.Trading.{trade_begins, trade_first, trade_slot, trade_next, trade_ends, was_there}
-use Rattle.dr_lent.specs.declared.lent.Lent.{Lent}
 use Rattle.dr_lent.proofs.Tokens.{held_by, out_is, can_join, joined_is, is_back, regained_is}
-use Rattle.dr_plain.proofs.Trading.{holds}
 use Rattle.dr_plain.specs.Meaning.Shape.{handlers_of}
 use Rattle.dr_plain.specs.Meaning.Words.{slot_of, cell_of}
 use Rattle.dr_plain.specs.Meaning.Lying.{placed}
+use Rattle.dr_plain.specs.Meaning.Records.{Laid}
 use Rattle.dr_plain.specs.Calls.Ends.{SenderStand}
 use Rattle.dr_plain.specs.Inside.Hands.{row}
 use Rattle.dr_plain.proofs.Tokens.{lending_by}
@@ -19,8 +18,8 @@ loop-handler-init g c =
     let k = c.args.self.now.knows.plan in let s = c.args.sequence in let m = c.requires.lent.0 in let is = c.requires.lent.1 in (
       m,
       is,
-      trade_begins holds c.args.self.now 0 (handlers_of k) (row k s (Some m)) (row k s None) c.requires.hand.0
-          (c.requires.hand.1 ∙ ap (λ (l : Option (Lent g.row.T.Denot)). row k s l ++ c.requires.hand.0) (lending_by k s _ _ m is)) (row_count k s (Some m)),
+      trade_begins c.args.self.now 0 (handlers_of k) (row k s (Some m)) (row k s None) c.requires.hand.0
+          (c.requires.hand.1 ∙ ap (λ (l : Laid g.row.T.Denot). row k s l ++ c.requires.hand.0) (lending_by k s _ _ m is)) (row_count k s (Some m)),
       out_is k.strip (cell_of k s) _ _ _ m is (omega arith),
     )
 
@@ -28,7 +27,7 @@ pub exchange-part-requires : goal.exchange-part-requires
 exchange-part-requires g c =
     let inv = c.loop-handler.invariant in let k = c.args.self.now.knows.plan in let s = c.args.sequence in let h = c.loop-handler.handler in
     let end = c.loop-handler.auto.handler-end in let lt = c.loop-handler-test.true in
-    trade_slot holds c.args.self.now 0 (handlers_of k) (row k s (Some inv.0)) (row k s None) h _ _ (placed k h s (Some inv.0)) inv.2
+    trade_slot c.args.self.now 0 (handlers_of k) (row k s (Some inv.0)) (row k s None) h _ _ (placed k h s (Some inv.0)) inv.2
     (row_at k s (Some inv.0) h (omega arith)) (c.slot-slot.ensures ∙ ap (λ (e : SenderStand g.row.T.Denot). slot_of e.knows.plan h s) inv.2)
 
 pub join-requires : goal.join-requires
@@ -37,7 +36,7 @@ join-requires g c =
     let lt = c.loop-handler-test.true in let at = row_at k s (Some inv.0) h (omega arith) in
     can_join k.strip (cell_of k s) _ _ _ inv.0 inv.3
     (was_there _ _ (placed k h s (Some inv.0)) _
-    (trade_first holds c.args.self.now 0 (handlers_of k) (row k s (Some inv.0)) (row k s None) h _ _ inv.2 at) c.exchange-part.ensures.was)
+    (trade_first c.args.self.now 0 (handlers_of k) (row k s (Some inv.0)) (row k s None) h _ _ inv.2 at) c.exchange-part.ensures.was)
     (omega arith)
 
 pub loop-handler-preserved : goal.loop-handler-preserved
@@ -47,7 +46,7 @@ loop-handler-preserved g c =
     let slot = c.slot-slot.ensures ∙ ap (λ (e : SenderStand g.row.T.Denot). slot_of e.knows.plan h s) inv.2 in (
       m,
       inv.1,
-      trade_next holds c.args.self.now 0 (handlers_of k) (row k s (Some m)) (row k s None) h _ _ _ _ (placed k h s (Some m)) (placed k h s None) (omega arith)
+      trade_next c.args.self.now 0 (handlers_of k) (row k s (Some m)) (row k s None) h _ _ _ _ (placed k h s (Some m)) (placed k h s None) (omega arith)
           inv.2 (row_at k s (Some m) h (omega arith)) (row_at k s None h (omega arith)) slot c.blank.ensures c.exchange-part.ensures.hand,
       joined_is k.strip (cell_of k s) _ _ _ _ m inv.3 c.join.ensures (omega arith),
     )
@@ -60,7 +59,7 @@ regain-requires g c =
 pub returns-clause-hand : goal.returns-clause-hand
 returns-clause-hand g c =
     let inv = c.loop-handler.invariant in let k = c.args.self.now.knows.plan in let s = c.args.sequence in let over = c.loop-handler-test.false in
-    trade_ends holds c.args.self.now 0 (handlers_of k) (row k s (Some inv.0)) (row k s None) c.loop-handler.handler _ (omega arith) inv.2
+    trade_ends c.args.self.now 0 (handlers_of k) (row k s (Some inv.0)) (row k s None) c.loop-handler.handler _ (omega arith) inv.2
     (row_count k s (Some inv.0)) (row_count k s None)
 
 pub returns-clause-whole : goal.returns-clause-whole

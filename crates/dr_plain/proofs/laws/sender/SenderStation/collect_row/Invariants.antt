@@ -2,7 +2,8 @@ use Rattle.std.proofs.Common.{◌≡◌, ◌-◌, drop, None, Some}
 use Rattle.dr_lent.proofs.Trading.{traded}
 use Rattle.dr_lent.specs.declared.lent.Lent.{Lent}
 use Rattle.dr_plain.specs.Meaning.Shape.{handlers_of}
-use Rattle.dr_plain.specs.Inside.Hands.{with_hand, row}
+use Rattle.dr_lent.specs.Ends.{with_hand}
+use Rattle.dr_plain.specs.Inside.Hands.{row}
 use Rattle.dr_plain.proofs.Tokens.{out}
 use Rattle.dr_plain.proofs.laws.sender.SenderStation.collect_row.Given as goal
 

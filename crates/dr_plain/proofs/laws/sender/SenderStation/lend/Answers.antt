@@ -1,12 +1,14 @@
-use Rattle.std.proofs.Common.{rules, ◌+◌, ◌-◌, ◌*◌, ◌++◌, List, [], ◌∷◌, Option, None, Some, arith, ap, sym, ◌∙◌, subst, set, drop}
+use Rattle.std.proofs.Common.{rules, ◌+◌, ◌-◌, ◌*◌, ◌++◌, List, [], ◌∷◌, None, Some, arith, ap, sym, ◌∙◌, subst, set, drop}
 use Rattle.std.proofs.lemmas.List.{length-append, length-map, map-append}
 use Rattle.dr_cells.specs.declared.token.Token.{Token}
 use Rattle.dr_lent.specs.declared.lent.Lent.{Lent}
 use Rattle.dr_plain.specs.Meaning.Shape.{Shape, handlers_of}
 use Rattle.dr_plain.specs.Meaning.Words.{cell_of}
+use Rattle.dr_plain.specs.Meaning.Records.{Laid}
 use Rattle.dr_plain.specs.Calls.Ends.{SenderStand}
-use Rattle.dr_plain.specs.Inside.Fits.{no_lents, Keeps}
-use Rattle.dr_plain.specs.Inside.Hands.{row, with_hand, lent_by}
+use Rattle.dr_plain.specs.Inside.Fits.{Keeps}
+use Rattle.dr_lent.specs.Ends.{with_hand}
+use Rattle.dr_plain.specs.Inside.Hands.{row, lent_by, no_lents}
 use Rattle.dr_plain.specs.Inside.Lending.{lanes, IsLending}
 use Rattle.dr_plain.specs.Inside.Seats.{Hand, lent_all}
 use Rattle.dr_plain.proofs.Collecting.{blanks_at, blanks_count, same_none, same_more, same_next, lent_none, lent_more, lents_told, lent_told}
@@ -37,14 +39,14 @@ whole_now g c =
     c.requires.whole s c.put_at-kept.result inv.3 lt (same_next k c.args.first s _ _ _ _ inv.5 inv.3 (omega arith) place c.put_at-kept.ensures.was)
 
 pub lend_row-requires-clause-whole : goal.lend_row-requires-clause-whole
-lend_row-requires-clause-whole g c = let nothing : Option (Lent g.row.T.Denot) = None in
+lend_row-requires-clause-whole g c = let nothing : Laid g.row.T.Denot = None in
     subst (λ (e : SenderStand g.row.T.Denot). Keeps e.knows.plan c.loop-sequence.sequence nothing c.put_at-kept.result) (sym c.loop-sequence.invariant.2)
     (whole_now g (goal.at.lend_row-requires-clause-whole g c).After-put_at-kept)
 
 pub lend_row-requires-clause-hand : goal.lend_row-requires-clause-hand
 lend_row-requires-clause-hand g c =
     let inv = c.loop-sequence.invariant in let e = c.args.self.now in let k = e.knows.plan in let s = c.loop-sequence.sequence in let lt = c.loop-sequence-test.true in
-    let first = c.args.first in let n = c.args.upto - first in let low = inv.3 in let nothing : Option (Lent g.row.T.Denot) = None in
+    let first = c.args.first in let n = c.args.upto - first in let low = inv.3 in let nothing : Laid g.row.T.Denot = None in
     let front = rowed_row e k first (no_lents n) _ s _ _ nothing inv.2 (blanks_at n (s - first) (omega arith)) in
     (front.0, front.1 ∙ (λ i. row (sym (ap (λ (x : SenderStand g.row.T.Denot). x.knows.plan) inv.2) i) s nothing ++ front.0))
 
@@ -53,17 +55,17 @@ loop-sequence-preserved g c =
     let inv = c.loop-sequence.invariant in let e = c.args.self.now in let k = e.knows.plan in let s = c.loop-sequence.sequence in let lt = c.loop-sequence-test.true in
     let first = c.args.first in let n = c.args.upto - first in let low = inv.3 in let round = c.requires.order.1 in
     let plan = ap (λ (x : SenderStand g.row.T.Denot). x.knows.plan) inv.2 in
-    let nothing : Option (Lent g.row.T.Denot) = None in let kept = c.lend_row.new.kept in
+    let nothing : Laid g.row.T.Denot = None in let kept = c.lend_row.new.kept in
     let lent = subst (λ (p : Shape). IsLending p s kept) plan c.lend_row.ensures.lent in let m = lent.0 in
     let place = c.place-place.ensures.place ∙ ap (λ (p : Shape). cell_of p s) plan in
     let put = c.put_at.ensures.row ∙ ap (λ (ts : List (Token g.row.T.Denot)). set ts c.place-place.result kept) c.put_at-kept.ensures.row in
     let hand = c.lend_row.ensures.hand ∙ ap (λ (p : Shape). with_hand c.loop-sequence.self (drop (handlers_of p) c.loop-sequence.self.hand ++ row p s (lent_by kept.hold))) plan
-    ∙ ap (λ (l : Option (Lent g.row.T.Denot)). with_hand c.loop-sequence.self (drop (handlers_of k) c.loop-sequence.self.hand ++ row k s l)) (lending_by k s kept (handlers_of k) m lent.1) in
+    ∙ ap (λ (l : Laid g.row.T.Denot). with_hand c.loop-sequence.self (drop (handlers_of k) c.loop-sequence.self.hand ++ row k s l)) (lending_by k s kept (handlers_of k) m lent.1) in
     let longer = length-append inv.0 (m ∷ []) in let many = inv.1 in let counted = length-map inv.0 (λ (l : Lent g.row.T.Denot). Some l) in (
       inv.0 ++ m ∷ [],
       omega arith,
       rowed_next e k first (no_lents n) (drop (handlers_of k * n) e.hand) s _ _ _ nothing (Some m) inv.3 inv.2 (blanks_at n (s - first) (omega arith)) (omega arith) hand
-          ∙ ap (λ (ys : List (Option (Lent g.row.T.Denot))). with_hand e (lanes k (s + 1) (drop (s + 1 - first) (no_lents n)) ++ (drop (handlers_of k * n) e.hand ++ lanes k first ys)))
+          ∙ ap (λ (ys : List (Laid g.row.T.Denot)). with_hand e (lanes k (s + 1) (drop (s + 1 - first) (no_lents n)) ++ (drop (handlers_of k * n) e.hand ++ lanes k first ys)))
           (sym (map-append (λ (l : Lent g.row.T.Denot). Some l) inv.0 (m ∷ []))),
       omega arith,
       lent_more k first s c.place-place.result inv.0 _ _ _ kept m inv.4 inv.1 inv.3 (omega arith) place (search rules) lent.1 put,

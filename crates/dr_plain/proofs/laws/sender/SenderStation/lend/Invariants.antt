@@ -1,7 +1,7 @@
 use Rattle.std.proofs.Common.{◌≡◌, ◌-◌, ◌*◌, ◌≤◌, List, drop, length}
 use Rattle.dr_lent.specs.declared.lent.Lent.{Lent}
 use Rattle.dr_plain.specs.Meaning.Shape.{handlers_of}
-use Rattle.dr_plain.specs.Inside.Fits.{no_lents}
+use Rattle.dr_plain.specs.Inside.Hands.{no_lents}
 use Rattle.dr_plain.specs.Inside.Lending.{SameBut}
 use Rattle.dr_plain.specs.Inside.Seats.{lent_all}
 use Rattle.dr_plain.proofs.Collecting.{LentAs}

@@ -3,7 +3,8 @@ use Rattle.dr_cells.specs.Hold.{held}
 use Rattle.dr_lent.proofs.Trading.{traded}
 use Rattle.dr_lent.specs.declared.lent.Lent.{Lent}
 use Rattle.dr_plain.specs.Meaning.Shape.{handlers_of}
-use Rattle.dr_plain.specs.Inside.Hands.{with_hand, row}
+use Rattle.dr_lent.specs.Ends.{with_hand}
+use Rattle.dr_plain.specs.Inside.Hands.{row}
 use Rattle.dr_plain.proofs.Tokens.{out}
 use Rattle.dr_plain.proofs.laws.sender.SenderStation.lend_row.Given as goal
 

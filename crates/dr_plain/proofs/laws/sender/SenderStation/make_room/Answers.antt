@@ -2,7 +2,7 @@ use Rattle.std.proofs.Common.{rules, ℕ, List, arith, ◌∙◌, sym, ap, subst
 use Rattle.dr_graph.specs.Meaning.Graph.{finals}
 use Rattle.dr_plain.specs.Meaning.Shape.{Shape}
 use Rattle.dr_plain.specs.Calls.Plans.{IsPlan}
-use Rattle.dr_plain.proofs.Stations.{loaded_more}
+use Rattle.dr_lent.proofs.Stations.{loaded_more}
 use Rattle.dr_plain.proofs.Rounds.{scanned_more, scanned_low, scanned_all, remembers}
 use Rattle.dr_plain.proofs.laws.sender.SenderStation.make_room.Goals as goal
 

@@ -1,5 +1,5 @@
 use Rattle.std.proofs.Common.{◌≡◌}
-use Rattle.dr_plain.specs.Calls.Ends.{HasLoaded}
+use Rattle.dr_lent.specs.Ends.{HasLoaded}
 use Rattle.dr_plain.proofs.Rounds.{Scanned}
 use Rattle.dr_plain.proofs.laws.sender.SenderStation.make_room.Given as goal
 

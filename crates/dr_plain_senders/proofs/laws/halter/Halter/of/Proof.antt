@@ -74,8 +74,8 @@ of_spec 𝓤 𝓛 𝓜 𝓡 wired T L =
     let got = ones 𝓛 Rs lone laws a z.0.4 are in let good = got.2 in let vss = each Rs got.0 in let ws = flat Rs vss in let v : Val = vstruct (of_list ws) in
     let d : (inside.the_row R).Denot = record { ring = a.0; seat = a.1.0; strip = a.1.1.0; gathered = a.1.1.1.0 } in
     let table = (arc_value a.0).table.shared in let plan = (arc_value a.0).plan in let s = a.1.0 in let p = a.1.1.0 in
-    let r : (halter.the_row R).Denot = halter_end s.table_id plan s.me in let Told : Type 0 = r ≡ r in
-    let Asked : Type 0 = HalterSits table.table_id s.table_id table.key plan (end_of s.me) p.cells.ptr p.len a.1.1.1.0 in
+    let r : (halter.the_row R).Denot = halter_end s.table_id s.me in let Told : Type 0 = r ≡ r in
+    let Asked : Type 0 = HalterSits table.table_id s.table_id plan (end_of s.me) p.cells.ptr p.len a.1.1.1.0 in
     qed 𝓛 ((raw (alive 𝓛 En.signature κs z.0.1) ⊛ ‵ (owns Rs a z.0.4)) ∷ raw (fact 𝓤 _) ∷ given Asked (‵ ftrue) ∷ []) ∵
     keep ! (2 ∷ 0 ∷ []) $ learn ! (λ asked. drop ! $ split ! $ move ! (1 ∷ []) $
     rewrite ! 0 (λ (us : Valss Rs). ‵ (owns Rs a us)) got.1 refl $

@@ -7,40 +7,39 @@ use Rattle.dr_plain_senders.specs.Meaning.Words.{cell_of, lane_of, slot_of}
 use Rattle.dr_plain_senders.specs.Meaning.Lying.{lent, placed}
 use Rattle.dr_plain_senders.specs.Inside.Hands.{blank_slot}
 use Rattle.dr_runs.proofs.Elements.{there}
-use Rattle.dr_plain_senders.proofs.Trading.{parts_count, blanks_count, part_at, blank_at, holds}
+use Rattle.dr_plain_senders.proofs.Trading.{parts_count, blanks_count, part_at, blank_at}
 use Rattle.dr_plain_senders.proofs.laws.receiver.ReceiverStation.give_back.Goals as goal
 
 pub loop-sequence-init : goal.loop-sequence-init
-loop-sequence-init g c = let r = c.args.self.now.knows in let k = c.args.self.now.plan in (
-  trade_begins holds c.args.self.now c.args.first _ _ _ c.requires.hand.0 c.requires.hand.1 (blanks_count k r c.args.first c.args.upto c.requires.order.1),
+loop-sequence-init g c = let r = c.args.self.now.knows in (
+  trade_begins c.args.self.now c.args.first _ _ _ c.requires.hand.0 c.requires.hand.1 (blanks_count r c.args.first c.args.upto c.requires.order.1),
   omega arith,
-  places_none k.size c.args.first _,
+  places_none r.plan.size c.args.first _,
 )
 
 pub exchange-requires : goal.exchange-requires
 exchange-requires g c =
-    let inv = c.loop-sequence.invariant in let r = c.args.self.now.knows in let k = c.args.self.now.plan in let s = c.loop-sequence.sequence in
-    trade_slot holds c.args.self.now c.args.first _ _ _ s _ _ (blank_slot k (lane_of r.number) s) inv.0
-    (blank_at k r c.args.first c.args.upto c.requires.order.1 s inv.1 c.loop-sequence-test.true)
-    (c.slot-slot.ensures ∙ ap (λ (e : ReceiverStand g.row.T.Denot). slot_of e.plan (lane_of e.knows.number) s) inv.0)
+    let inv = c.loop-sequence.invariant in let r = c.args.self.now.knows in let s = c.loop-sequence.sequence in
+    trade_slot c.args.self.now c.args.first _ _ _ s _ _ (blank_slot r.plan (lane_of r.number) s) inv.0
+    (blank_at r c.args.first c.args.upto c.requires.order.1 s inv.1 c.loop-sequence-test.true)
+    (c.slot-slot.ensures ∙ ap (λ (e : ReceiverStand g.row.T.Denot). slot_of e.knows.plan (lane_of e.knows.number) s) inv.0)
 
 pub loop-sequence-preserved : goal.loop-sequence-preserved
 loop-sequence-preserved g c =
     let inv = c.loop-sequence.invariant in
     let r = c.args.self.now.knows in
-    let k = c.args.self.now.plan in
     let s = c.loop-sequence.sequence in
     let lt = c.loop-sequence-test.true in
     let le = c.requires.order.1 in let t = there r.received s (omega arith) in let low = inv.1 in let round = c.requires.order.2 in
-    let slot = c.slot-slot.ensures ∙ ap (λ (e : ReceiverStand g.row.T.Denot). slot_of e.plan (lane_of e.knows.number) s) inv.0 in
-    let place = c.place-place.ensures.place ∙ ap (λ (e : ReceiverStand g.row.T.Denot). cell_of e.plan s) inv.0 in
+    let slot = c.slot-slot.ensures ∙ ap (λ (e : ReceiverStand g.row.T.Denot). slot_of e.knows.plan (lane_of e.knows.number) s) inv.0 in
+    let place = c.place-place.ensures.place ∙ ap (λ (e : ReceiverStand g.row.T.Denot). cell_of e.knows.plan s) inv.0 in
     let was = ap (λ (m : ℕ). get_elem? c.loop-sequence.parts.items m) (sym place) ∙ c.put_at-part.ensures.was in (
-      trade_next holds c.args.self.now c.args.first _ _ _ s _ _ _ _ (blank_slot k (lane_of r.number) s) (placed k (lane_of r.number) s (lent t.0)) inv.1 inv.0
-          (blank_at k r c.args.first c.args.upto le s inv.1 lt) (part_at k r c.args.first c.args.upto le s t.0 inv.1 lt t.1) slot
-          (part_is k.strip k.size r.received c.args.first s c.args.upto _ _ _ t.0 inv.2 inv.1 lt (omega arith) c.requires.parts t.1 was)
+      trade_next c.args.self.now c.args.first _ _ _ s _ _ _ _ (blank_slot r.plan (lane_of r.number) s) (placed r.plan (lane_of r.number) s (lent t.0)) inv.1 inv.0
+          (blank_at r c.args.first c.args.upto le s inv.1 lt) (part_at r c.args.first c.args.upto le s t.0 inv.1 lt t.1) slot
+          (part_is r.plan.strip r.plan.size r.received c.args.first s c.args.upto _ _ _ t.0 inv.2 inv.1 lt (omega arith) c.requires.parts t.1 was)
           c.exchange.ensures.hand,
       omega arith,
-      places_more k.size c.args.first s _ _ _ _ inv.2 inv.1
+      places_more r.plan.size c.args.first s _ _ _ _ inv.2 inv.1
           (c.put_at-part.ensures.row ∙ ap (λ (m : ℕ). set c.loop-sequence.parts.items m c.blank.result) place),
     )
 
@@ -48,9 +47,8 @@ pub returns-clause-hand : goal.returns-clause-hand
 returns-clause-hand g c =
     let inv = c.loop-sequence.invariant in
     let r = c.args.self.now.knows in
-    let k = c.args.self.now.plan in
     let over = c.loop-sequence-test.false in
     let low = inv.1 in
     let end = c.loop-sequence.auto.sequence-end in
-    trade_ends holds c.args.self.now c.args.first _ _ _ c.loop-sequence.sequence _ (omega arith) inv.0
-    (blanks_count k r c.args.first c.args.upto c.requires.order.1) (parts_count k r c.args.first c.args.upto c.requires.order.1)
+    trade_ends c.args.self.now c.args.first _ _ _ c.loop-sequence.sequence _ (omega arith) inv.0
+    (blanks_count r c.args.first c.args.upto c.requires.order.1) (parts_count r c.args.first c.args.upto c.requires.order.1)

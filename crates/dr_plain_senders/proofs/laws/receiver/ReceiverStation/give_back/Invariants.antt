@@ -1,12 +1,12 @@
 use Rattle.std.proofs.Common.{◌≡◌, ◌-◌, ◌≤◌, drop}
 use Rattle.dr_lent.proofs.Trading.{traded}
 use Rattle.dr_lent.specs.Trades.{SamePlaces}
-use Rattle.dr_plain_senders.specs.Inside.Hands.{with_hand}
+use Rattle.dr_lent.specs.Ends.{with_hand}
 use Rattle.dr_plain_senders.specs.Inside.Trades.{parts_between, blanks_between}
 use Rattle.dr_plain_senders.proofs.laws.receiver.ReceiverStation.give_back.Given as goal
 
 abbrev pub invariant-loop-sequence : goal.invariant-loop-sequence
-invariant-loop-sequence g l = let r = l.fn.self.knows in let k = l.fn.self.plan in
+invariant-loop-sequence g l = let r = l.fn.self.knows in
     (l.self ≡ with_hand l.fn.self
-    (traded (blanks_between k r l.first l.upto) (parts_between k r l.first l.upto) (drop (l.upto - l.first) l.fn.self.hand) (l.sequence - l.first)))
-    × (l.first ≤ l.sequence) × SamePlaces k.size l.first l.sequence l.fn.parts.items l.parts.items
+    (traded (blanks_between r l.first l.upto) (parts_between r l.first l.upto) (drop (l.upto - l.first) l.fn.self.hand) (l.sequence - l.first)))
+    × (l.first ≤ l.sequence) × SamePlaces r.plan.size l.first l.sequence l.fn.parts.items l.parts.items

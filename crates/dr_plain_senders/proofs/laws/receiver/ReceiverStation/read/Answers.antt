@@ -13,6 +13,6 @@ at-requires g c =
 
 pub returns : goal.returns
 returns g c l at =
-    let token : c.at.result.now ≡ part_of c.args.self.now.plan c.args.sequence (lent l) =
+    let token : c.at.result.now ≡ part_of c.args.self.now.knows.plan c.args.sequence (lent l) =
     some-injective _ _ (sym c.at.ensures ∙ ap (λ (n : ℕ). get_elem? c.args.parts.now.items n) c.place-place.ensures.place ∙ at) in
     ap (λ (o : Option g.row.T.Denot). unwrap_or o l.event) (sym c.get.ensures ∙ ap (λ (t : Token g.row.T.Denot). held t.hold) token)

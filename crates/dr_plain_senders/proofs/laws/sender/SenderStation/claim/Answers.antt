@@ -1,5 +1,4 @@
-use Rattle.std.proofs.Common.{rules, refl, sym, subst, ap, ◌∙◌, ◌≡◌, ◌+◌, ◌-◌, ℕ, arith}
-use Rattle.dr_plain_senders.specs.Meaning.Shape.{Shape}
+use Rattle.std.proofs.Common.{rules, refl, sym, subst, ◌≡◌, ◌+◌, ◌-◌, ℕ, arith}
 use Rattle.dr_plain_senders.specs.Meaning.Records.{Owns, SeesRoom}
 use Rattle.dr_plain_senders.specs.declared.record.Stage.{Stage}
 use Rattle.dr_plain_senders.specs.Calls.Finds.{IsEarlier, exchanged}
@@ -10,37 +9,24 @@ use Rattle.dr_plain_senders.proofs.laws.sender.SenderStation.claim.Goals as goal
 
 pub compare_exchange-requires : goal.compare_exchange-requires
 compare_exchange-requires g c =
-    let J = g.J.Names.plan in
-    let plan = ap (λ (e : SenderStand g.row.T.Denot). e.plan) c.self.view_is ∙ c.requires.named in
-    let room = subst (λ (e : SenderStand g.row.T.Denot). SeesRoom e.plan e.knows c.args.found c.args.count) (sym c.self.view_is) c.requires.room in (
-      search rules,
-      search rules,
-      sender_claims_more _ J _ _ c.args.found c.args.count _ (ap (λ r. r.table.shared.key) c.deref.ensures ∙ c.self.invariant.keyed.key ∙ plan)
-          refl c.self.invariant.end c.requires.some
-          (subst (λ (p : Shape g.row.T.Denot). SeesRoom p (sender_of c.self.inside.seat.me.0.ends) c.args.found c.args.count) plan room),
-    )
+    let room = subst (λ (e : SenderStand g.row.T.Denot). SeesRoom e.knows.plan e.knows c.args.found c.args.count) (sym c.self.view_is) c.requires.room in
+    (search rules, search rules, sender_claims_more _ _ _ c.args.found c.args.count _ refl c.self.invariant.end c.requires.some room)
 
 pub returns-clause-own : goal.returns-clause-own
 returns-clause-own g c =
-    let plan = ap (λ (e : SenderStand g.row.T.Denot). e.plan) c.self.view_is ∙ c.requires.named in
     let found = c.args.found in
     let upto = c.args.found + c.args.count in
     subst (λ (e : SenderStand g.row.T.Denot).
-    c.compare_exchange.result ≡ found → (s : ℕ) (t : Stage g.row.T.Denot) → Owns e.knows s t → IsEarlier e.plan found upto s t)
-    c.self.view_is
-    (subst (λ (k : Shape g.row.T.Denot).
-    c.compare_exchange.result ≡ found → (s : ℕ) (t : Stage g.row.T.Denot) → Owns (sender_of c.self.inside.seat.me.0.ends) s t → IsEarlier k found upto s t)
-    (sym plan) c.compare_exchange.ensures.2.0.4)
+    c.compare_exchange.result ≡ found → (s : ℕ) (t : Stage g.row.T.Denot) → Owns e.knows s t → IsEarlier e.knows.plan found upto s t)
+    c.self.view_is c.compare_exchange.ensures.2.0.4
 
 pub returns-clause-step : goal.returns-clause-step
 returns-clause-step g c =
     let E = c.compare_exchange.ensures.2.0 in let found : ℕ = c.args.found in let count : ℕ = c.args.count in let result : ℕ = c.compare_exchange.result in
-    let plan = ap (λ (e : SenderStand g.row.T.Denot). e.plan) c.self.view_is ∙ c.requires.named in let many : found + count - found ≡ count = omega arith in (
+    let many : found + count - found ≡ count = omega arith in (
       E.0,
-      subst (λ (e : SenderStand g.row.T.Denot). LayIn e.plan found (exchanged found count result) E.0) c.self.view_is
-          (subst (λ (k : Shape g.row.T.Denot). LayIn k found (exchanged found count result) E.0) (sym plan)
-          (subst (λ (m : ℕ). LayIn g.J.Names.plan found (exchanged found m result) E.0) many E.1)),
+      subst (λ (e : SenderStand g.row.T.Denot). LayIn e.knows.plan found (exchanged found count result) E.0) c.self.view_is
+          (subst (λ (m : ℕ). LayIn (sender_of c.self.inside.seat.me.0.ends).plan found (exchanged found m result) E.0) many E.1),
       search rules,
-      subst (λ (e : SenderStand g.row.T.Denot). LayAsLent e.plan e.knows found E.0) c.self.view_is
-          (subst (λ (k : Shape g.row.T.Denot). LayAsLent k (sender_of c.self.inside.seat.me.0.ends) found E.0) (sym plan) E.5),
+      subst (λ (e : SenderStand g.row.T.Denot). LayAsLent e.knows found E.0) c.self.view_is E.5,
     )

@@ -2,7 +2,7 @@ use Rattle.std.proofs.Common.{◌≡◌, ◌++◌, ◌-◌, ℕ, arith, ap, sym,
 use Rattle.dr_plain_senders.specs.Meaning.Shape.{Shape}
 use Rattle.dr_plain_senders.specs.Meaning.Words.{cell_of, lanes_of}
 use Rattle.dr_plain_senders.specs.Calls.Ends.{SenderStand}
-use Rattle.dr_plain_senders.specs.Inside.Hands.{with_hand}
+use Rattle.dr_lent.specs.Ends.{with_hand}
 use Rattle.dr_plain_senders.specs.Inside.Rows.{row, blank_row, IsWholeOf, AreCollected}
 use Rattle.dr_plain_senders.specs.Inside.Seats.{IsOfRound}
 use Rattle.dr_plain_senders.proofs.Collecting.{collecting_none, row_next, collecting_next, collecting_all, collected_none, collected_more, row_event}
@@ -14,11 +14,11 @@ loop-sequence-init g c =
     let e = c.args.self.now in let first = c.args.first in let n = c.args.upto - first in let R = c.requires.hand in let le = c.requires.order.0 in (
       R.0,
       R.2,
-      collecting_none e e.plan first n R.0 R.2 R.1 R.3,
+      collecting_none e e.knows.plan first n R.0 R.2 R.1 R.3,
       omega arith,
-      collected_none e.plan first _,
+      collected_none e.knows.plan first _,
       (R.1, R.3),
-      have_none e.plan first R.0 _,
+      have_none e.knows.plan first R.0 _,
     )
 
 pub collect_row-whole-requires : goal.collect_row-whole-requires
@@ -28,8 +28,8 @@ collect_row-whole-requires g c =
     let n = c.args.upto - first in
     let inv = c.loop-sequence.invariant in
     let lt = c.loop-sequence-test.true in
-    let s = c.loop-sequence.sequence in let low = inv.3 in let next = row_next e e.plan first n inv.0 inv.1 s _ low (omega arith) inv.2 in
-    let plan = ap (λ (x : SenderStand g.row.T.Denot). x.plan) inv.2 in (
+    let s = c.loop-sequence.sequence in let low = inv.3 in let next = row_next e e.knows.plan first n inv.0 inv.1 s _ low (omega arith) inv.2 in
+    let plan = ap (λ (x : SenderStand g.row.T.Denot). x.knows.plan) inv.2 in (
       next.0,
       next.1,
       subst (λ (p : Shape g.row.T.Denot). IsOfRound p s next.0) (sym plan) next.2,
@@ -38,9 +38,9 @@ collect_row-whole-requires g c =
 
 pub loop-sequence-preserved : goal.loop-sequence-preserved
 loop-sequence-preserved g c =
-    let e = c.args.self.now in let k = e.plan in let first = c.args.first in let n = c.args.upto - first in let inv = c.loop-sequence.invariant in
+    let e = c.args.self.now in let k = e.knows.plan in let first = c.args.first in let n = c.args.upto - first in let inv = c.loop-sequence.invariant in
     let lt = c.loop-sequence-test.true in let s = c.loop-sequence.sequence in let low = inv.3 in let round = c.requires.order.1 in
-    let plan = ap (λ (x : SenderStand g.row.T.Denot). x.plan) inv.2 in let size = ap (λ (p : Shape g.row.T.Denot). p.size) plan in
+    let plan = ap (λ (x : SenderStand g.row.T.Denot). x.knows.plan) inv.2 in let size = ap (λ (p : Shape g.row.T.Denot). p.size) plan in
     let now = c.loop-sequence.self in let inside = c.place-place.ensures.inside in let room = c.requires.room in
     let was = row_event e k first n inv.0 inv.1 s now low (omega arith) inv.2 in let many = inv.4.count in
     let place = c.place-place.ensures.place ∙ ap (λ (p : Shape g.row.T.Denot). cell_of p s) plan in (
@@ -60,7 +60,7 @@ pub returns-clause-hand : goal.returns-clause-hand
 returns-clause-hand g c =
     let e = c.args.self.now in let first = c.args.first in let n = c.args.upto - first in let inv = c.loop-sequence.invariant in let le = c.requires.order.0 in
     let over = c.loop-sequence-test.false in let end = c.loop-sequence.auto.sequence-end in let low = inv.3 in
-    collecting_all e e.plan first n inv.0 inv.1 c.loop-sequence.sequence _ (omega arith) inv.2
+    collecting_all e e.knows.plan first n inv.0 inv.1 c.loop-sequence.sequence _ (omega arith) inv.2
 
 pub returns-clause-collected : goal.returns-clause-collected
 returns-clause-collected g c =
@@ -70,12 +70,12 @@ returns-clause-collected g c =
     let inv = c.loop-sequence.invariant in
     let low = inv.3 in
     let all : c.loop-sequence.sequence ≡ c.args.upto = omega arith in
-    subst (λ (q : ℕ). AreCollected c.args.self.now.plan c.args.first q c.args.tokens.now.items c.loop-sequence.tokens.items) all inv.4
+    subst (λ (q : ℕ). AreCollected c.args.self.now.knows.plan c.args.first q c.args.tokens.now.items c.loop-sequence.tokens.items) all inv.4
 
 pub returns-clause-events : goal.returns-clause-events
 returns-clause-events g c =
     let e = c.args.self.now in let first = c.args.first in let inv = c.loop-sequence.invariant in
     let over = c.loop-sequence-test.false in let end = c.loop-sequence.auto.sequence-end in let le = c.requires.order.0 in let low = inv.3 in
     let all : c.loop-sequence.sequence ≡ c.args.upto = omega arith in
-    have_all e.plan first c.args.upto inv.0 inv.5.0 e.hand _ inv.1.count inv.5.1
-    (subst (λ (q : ℕ). HaveLaid e.plan first q inv.0 c.loop-sequence.tokens.items) all inv.6)
+    have_all e.knows.plan first c.args.upto inv.0 inv.5.0 e.hand _ inv.1.count inv.5.1
+    (subst (λ (q : ℕ). HaveLaid e.knows.plan first q inv.0 c.loop-sequence.tokens.items) all inv.6)

@@ -3,7 +3,7 @@ use Rattle.dr_plain_senders.specs.Meaning.Shape.{Shape}
 use Rattle.dr_plain_senders.specs.Meaning.Words.{cell_of, lanes_of}
 use Rattle.dr_plain_senders.specs.Meaning.Lying.{lent}
 use Rattle.dr_plain_senders.specs.Calls.Ends.{SenderStand}
-use Rattle.dr_plain_senders.specs.Inside.Hands.{with_hand}
+use Rattle.dr_lent.specs.Ends.{with_hand}
 use Rattle.dr_plain_senders.specs.Inside.Rows.{row, blank_row, blank_rows, IsWholeOf}
 use Rattle.dr_plain_senders.specs.Inside.Seats.{Hand, given_by_publication}
 use Rattle.dr_plain_senders.proofs.RowsLent.{cleared_count, others_count, lending_none, row_next, rest_count, lending_more, next_whole, lent_room}
@@ -25,43 +25,43 @@ overflow_add-behind g c =
 
 pub loop-sequence-init : goal.loop-sequence-init
 loop-sequence-init g c =
-    let T = g.row.T.Denot in let e = c.args.self.now in let k = e.plan in let first = c.args.first in let n = c.args.upto - first in
+    let T = g.row.T.Denot in let e = c.args.self.now in let k = e.knows.plan in let first = c.args.first in let n = c.args.upto - first in
     let ts = c.args.tokens.now.items in let R = c.requires.hand in
     let order = c.requires.order.0 in let round = c.requires.order.1 in
     lending_none e k ts first n R.0 R.1
 
 pub put_at-whole-requires : goal.put_at-whole-requires
 put_at-whole-requires g c =
-    let T = g.row.T.Denot in let e = c.args.self.now in let k = e.plan in let first = c.args.first in let n = c.args.upto - first in
+    let T = g.row.T.Denot in let e = c.args.self.now in let k = e.knows.plan in let first = c.args.first in let n = c.args.upto - first in
     let ts = c.args.tokens.now.items in let R = c.requires.hand in
     let order = c.requires.order.0 in let round = c.requires.order.1 in
     let L = c.loop-sequence.invariant in let s = c.loop-sequence.sequence in let lt = c.loop-sequence-test.true in
     let end = c.loop-sequence.auto.sequence-end (omega arith) in let now = c.loop-sequence.self in
-    let left = c.loop-sequence.tokens.items in let plan = ap (λ (x : SenderStand T). x.plan) L.is in let place = c.place-place.result in
+    let left = c.loop-sequence.tokens.items in let plan = ap (λ (x : SenderStand T). x.knows.plan) L.is in let place = c.place-place.result in
     let at = c.place-place.ensures.place ∙ ap (λ (p : Shape g.row.T.Denot). cell_of p s) plan in
     let count = cleared_count k ts first (s - first) in let same = ap length L.tokens_left in let inside = c.place-place.ensures.inside in
     let size = ap (λ (p : Shape g.row.T.Denot). p.size) plan in let many = c.requires.count in omega arith
 
 pub lend_behind-requires-clause-whole : goal.lend_behind-requires-clause-whole
 lend_behind-requires-clause-whole g c =
-    let T = g.row.T.Denot in let e = c.args.self.now in let k = e.plan in let first = c.args.first in let n = c.args.upto - first in
+    let T = g.row.T.Denot in let e = c.args.self.now in let k = e.knows.plan in let first = c.args.first in let n = c.args.upto - first in
     let ts = c.args.tokens.now.items in let R = c.requires.hand in
     let order = c.requires.order.0 in let round = c.requires.order.1 in
     let L = c.loop-sequence.invariant in let s = c.loop-sequence.sequence in let lt = c.loop-sequence-test.true in
     let end = c.loop-sequence.auto.sequence-end (omega arith) in let now = c.loop-sequence.self in
-    let left = c.loop-sequence.tokens.items in let plan = ap (λ (x : SenderStand T). x.plan) L.is in let place = c.place-place.result in
+    let left = c.loop-sequence.tokens.items in let plan = ap (λ (x : SenderStand T). x.knows.plan) L.is in let place = c.place-place.result in
     let at = c.place-place.ensures.place ∙ ap (λ (p : Shape g.row.T.Denot). cell_of p s) plan in
     subst (λ (p : Shape g.row.T.Denot). IsWholeOf p s c.put_at-whole.result) (sym plan)
     (next_whole e k ts first n s place now left _ L (omega arith) (omega arith) c.requires.whole at c.put_at-whole.ensures.was)
 
 pub lend_behind-requires-clause-hand : goal.lend_behind-requires-clause-hand
 lend_behind-requires-clause-hand g c =
-    let T = g.row.T.Denot in let e = c.args.self.now in let k = e.plan in let first = c.args.first in let n = c.args.upto - first in
+    let T = g.row.T.Denot in let e = c.args.self.now in let k = e.knows.plan in let first = c.args.first in let n = c.args.upto - first in
     let ts = c.args.tokens.now.items in let R = c.requires.hand in
     let order = c.requires.order.0 in let round = c.requires.order.1 in
     let L = c.loop-sequence.invariant in let s = c.loop-sequence.sequence in let lt = c.loop-sequence-test.true in
     let end = c.loop-sequence.auto.sequence-end (omega arith) in let now = c.loop-sequence.self in
-    let left = c.loop-sequence.tokens.items in let plan = ap (λ (x : SenderStand T). x.plan) L.is in let place = c.place-place.result in
+    let left = c.loop-sequence.tokens.items in let plan = ap (λ (x : SenderStand T). x.knows.plan) L.is in let place = c.place-place.result in
     let at = c.place-place.ensures.place ∙ ap (λ (p : Shape g.row.T.Denot). cell_of p s) plan in
     let count = others_count e k ts first n R.0 c.args.others R.1 R.2 in let h = c.handlers.ensures.count in
     let total = rest_count e k ts first n s c.args.others now left L (omega arith) count in
@@ -74,23 +74,23 @@ lend_behind-requires-clause-hand g c =
 
 pub lend_behind-requires-clause-slots : goal.lend_behind-requires-clause-slots
 lend_behind-requires-clause-slots g c =
-    let T = g.row.T.Denot in let e = c.args.self.now in let k = e.plan in let first = c.args.first in let n = c.args.upto - first in
+    let T = g.row.T.Denot in let e = c.args.self.now in let k = e.knows.plan in let first = c.args.first in let n = c.args.upto - first in
     let ts = c.args.tokens.now.items in let R = c.requires.hand in
     let order = c.requires.order.0 in let round = c.requires.order.1 in
     let L = c.loop-sequence.invariant in let s = c.loop-sequence.sequence in let lt = c.loop-sequence-test.true in
     let end = c.loop-sequence.auto.sequence-end (omega arith) in let now = c.loop-sequence.self in
-    let left = c.loop-sequence.tokens.items in let plan = ap (λ (x : SenderStand T). x.plan) L.is in let place = c.place-place.result in
+    let left = c.loop-sequence.tokens.items in let plan = ap (λ (x : SenderStand T). x.knows.plan) L.is in let place = c.place-place.result in
     let at = c.place-place.ensures.place ∙ ap (λ (p : Shape g.row.T.Denot). cell_of p s) plan in
     let h = c.handlers.ensures.count in let slots : c.handlers.result + 1 ≡ lanes_of k = omega arith in slots ∙ ap lanes_of (sym plan)
 
 pub loop-sequence-preserved : goal.loop-sequence-preserved
 loop-sequence-preserved g c =
-    let T = g.row.T.Denot in let e = c.args.self.now in let k = e.plan in let first = c.args.first in let n = c.args.upto - first in
+    let T = g.row.T.Denot in let e = c.args.self.now in let k = e.knows.plan in let first = c.args.first in let n = c.args.upto - first in
     let ts = c.args.tokens.now.items in let R = c.requires.hand in
     let order = c.requires.order.0 in let round = c.requires.order.1 in
     let L = c.loop-sequence.invariant in let s = c.loop-sequence.sequence in let lt = c.loop-sequence-test.true in
     let end = c.loop-sequence.auto.sequence-end (omega arith) in let now = c.loop-sequence.self in
-    let left = c.loop-sequence.tokens.items in let plan = ap (λ (x : SenderStand T). x.plan) L.is in let place = c.place-place.result in
+    let left = c.loop-sequence.tokens.items in let plan = ap (λ (x : SenderStand T). x.knows.plan) L.is in let place = c.place-place.result in
     let at = c.place-place.ensures.place ∙ ap (λ (p : Shape g.row.T.Denot). cell_of p s) plan in
     let N = c.lend_behind.ensures in
     lending_more e k ts first n s place now c.lend_behind.new.self left c.put_at-whole.new.row.items N.0
@@ -99,7 +99,7 @@ loop-sequence-preserved g c =
 
 pub turn_all-requires : goal.turn_all-requires
 turn_all-requires g c =
-    let T = g.row.T.Denot in let e = c.args.self.now in let k = e.plan in let first = c.args.first in let n = c.args.upto - first in
+    let T = g.row.T.Denot in let e = c.args.self.now in let k = e.knows.plan in let first = c.args.first in let n = c.args.upto - first in
     let ts = c.args.tokens.now.items in let R = c.requires.hand in
     let order = c.requires.order.0 in let round = c.requires.order.1 in
     let L = c.loop-sequence.invariant in let over = c.loop-sequence-test.false in let end = c.loop-sequence.auto.sequence-end (omega arith) in
@@ -108,7 +108,7 @@ turn_all-requires g c =
 
 pub returns-clause-lent : goal.returns-clause-lent
 returns-clause-lent g c =
-    let T = g.row.T.Denot in let e = c.args.self.now in let k = e.plan in let first = c.args.first in let n = c.args.upto - first in
+    let T = g.row.T.Denot in let e = c.args.self.now in let k = e.knows.plan in let first = c.args.first in let n = c.args.upto - first in
     let ts = c.args.tokens.now.items in let R = c.requires.hand in
     let order = c.requires.order.0 in let round = c.requires.order.1 in
     let L = c.loop-sequence.invariant in let over = c.loop-sequence-test.false in let end = c.loop-sequence.auto.sequence-end (omega arith) in
@@ -122,7 +122,7 @@ returns-clause-lent g c =
 
 pub returns-clause-tokens : goal.returns-clause-tokens
 returns-clause-tokens g c =
-    let T = g.row.T.Denot in let e = c.args.self.now in let k = e.plan in let first = c.args.first in let n = c.args.upto - first in
+    let T = g.row.T.Denot in let e = c.args.self.now in let k = e.knows.plan in let first = c.args.first in let n = c.args.upto - first in
     let ts = c.args.tokens.now.items in let R = c.requires.hand in
     let order = c.requires.order.0 in let round = c.requires.order.1 in
     let L = c.loop-sequence.invariant in let over = c.loop-sequence-test.false in let end = c.loop-sequence.auto.sequence-end (omega arith) in

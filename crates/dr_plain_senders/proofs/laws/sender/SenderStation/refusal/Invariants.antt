@@ -1,4 +1,4 @@
 use Rattle.dr_plain_senders.proofs.laws.sender.SenderStation.refusal.Given as goal
 
 abbrev pub ghosts-look_at_mark : goal.ghosts-look_at_mark
-ghosts-look_at_mark g a = record { plan = a.self.now.plan; number = a.sequence }
+ghosts-look_at_mark g a = record { number = a.sequence }

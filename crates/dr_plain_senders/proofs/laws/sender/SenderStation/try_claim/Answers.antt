@@ -1,7 +1,6 @@
-use Rattle.std.proofs.Common.{Bool, true, arith, refl, sym, ap, ◌∙◌, subst}
+use Rattle.std.proofs.Common.{Bool, true, arith, refl, ap, ◌∙◌, subst}
 use Rattle.dr_seq.specs.Size.{IsSize}
 use Rattle.dr_plain_senders.specs.Meaning.Shape.{Shape}
-use Rattle.dr_plain_senders.specs.Meaning.Records.{SeesRoom}
 use Rattle.dr_plain_senders.specs.Inside.Scans.{Scans}
 use Rattle.dr_plain_senders.proofs.Claims.{Tried, sees_room, tried, claim_given, claim_halted, claim_contended, claim_apart, claim_taken}
 use Rattle.dr_plain_senders.proofs.Claims.{claim_stopped, claim_no_room}
@@ -12,22 +11,18 @@ use Rattle.dr_plain_senders.proofs.laws.sender.SenderStation.try_claim.Given.{Ov
 pub claim-found-requires-clause-room : goal.claim-found-requires-clause-room
 claim-found-requires-clause-room g c =
     let scan = subst
-    (λ (b : Bool). Scans c.look_at_claims-lo.new.self.plan c.look_at_claims-lo.new.self.knows c.saturating_sub.result c.has_room.new.self.knows b)
+    (λ (b : Bool). Scans c.look_at_claims-lo.new.self.knows c.saturating_sub.result c.has_room.new.self.knows b)
     c.if-not-has_room.false c.has_room.ensures.answer in
     let size = c.get-size.ensures.value ∙ c.size.ensures ∙ ap (λ (k : Shape g.row.T.Denot). k.size) c.plan.ensures.plan in
     let limit = c.limit-limit.ensures.limit ∙ ap (λ (k : Shape g.row.T.Denot). k.limit) c.plan-2.ensures.plan in
     let below = c.if-upto-limit.false in let need = c.saturating_sub.ensures in
-    let first = c.look_at_claims-lo.ensures.step in
-    subst (λ (k : Shape g.row.T.Denot). SeesRoom k c.has_room.new.self.knows c.look_at_claims-lo.result c.args.n)
-    (sym (c.has_room.ensures.only.0.1 ∙ first.0.1))
-    (sees_room c.args.self.now.plan c.args.self.now.knows c.look_at_claims-lo.new.self.knows c.has_room.new.self.knows
-    c.look_at_claims-lo.result c.args.n c.saturating_sub.result (omega arith) (omega arith) first.1
-    (subst (λ (k : Shape g.row.T.Denot). Scans k c.look_at_claims-lo.new.self.knows c.saturating_sub.result c.has_room.new.self.knows true) first.0.1 scan))
+    sees_room c.args.self.now.knows c.look_at_claims-lo.new.self.knows c.has_room.new.self.knows
+    c.look_at_claims-lo.result c.args.n c.saturating_sub.result (omega arith) (omega arith) c.look_at_claims-lo.ensures.step.1 scan
 
 tried_now : (g : Over) (c : After-claim-found g) → Tried c.args.self.now c.args.n c.look_at_claims-lo.result c.claim-found.result c.claim-found.new.self
 tried_now g c =
     let scan = subst
-    (λ (b : Bool). Scans c.look_at_claims-lo.new.self.plan c.look_at_claims-lo.new.self.knows c.saturating_sub.result c.has_room.new.self.knows b)
+    (λ (b : Bool). Scans c.look_at_claims-lo.new.self.knows c.saturating_sub.result c.has_room.new.self.knows b)
     c.if-not-has_room.false c.has_room.ensures.answer in
     let size = c.get-size.ensures.value ∙ c.size.ensures ∙ ap (λ (k : Shape g.row.T.Denot). k.size) c.plan.ensures.plan in
     let limit = c.limit-limit.ensures.limit ∙ ap (λ (k : Shape g.row.T.Denot). k.limit) c.plan-2.ensures.plan in
@@ -40,7 +35,7 @@ tried_now g c =
 pub returns-then-found-lo-clause-own : goal.returns-then-found-lo-clause-own
 returns-then-found-lo-clause-own g c =
     let scan = subst
-    (λ (b : Bool). Scans c.look_at_claims-lo.new.self.plan c.look_at_claims-lo.new.self.knows c.saturating_sub.result c.has_room.new.self.knows b)
+    (λ (b : Bool). Scans c.look_at_claims-lo.new.self.knows c.saturating_sub.result c.has_room.new.self.knows b)
     c.if-not-has_room.false c.has_room.ensures.answer in
     claim_apart c.args.self.now _ _ c.args.n c.look_at_claims-lo.result c.saturating_sub.result c.claim-found.result
     c.look_at_claims-lo.ensures.step c.has_room.ensures.only scan c.claim-found.ensures.own c.if-found-lo.true
@@ -48,7 +43,7 @@ returns-then-found-lo-clause-own g c =
 pub returns-then-found-lo-clause-hand : goal.returns-then-found-lo-clause-hand
 returns-then-found-lo-clause-hand g c =
     let scan = subst
-    (λ (b : Bool). Scans c.look_at_claims-lo.new.self.plan c.look_at_claims-lo.new.self.knows c.saturating_sub.result c.has_room.new.self.knows b)
+    (λ (b : Bool). Scans c.look_at_claims-lo.new.self.knows c.saturating_sub.result c.has_room.new.self.knows b)
     c.if-not-has_room.false c.has_room.ensures.answer in
     let step = c.claim-found.ensures.step in
     claim_taken c.args.self.now c.look_at_claims-lo.new.self c.has_room.new.self
@@ -81,7 +76,7 @@ returns-then-lo-ge-HALT_BIT-clause-call g c =
 pub returns-then-not-has_room-clause-call : goal.returns-then-not-has_room-clause-call
 returns-then-not-has_room-clause-call g c =
     let scan = subst
-    (λ (b : Bool). Scans c.look_at_claims-lo.new.self.plan c.look_at_claims-lo.new.self.knows c.saturating_sub.result c.has_room.new.self.knows b)
+    (λ (b : Bool). Scans c.look_at_claims-lo.new.self.knows c.saturating_sub.result c.has_room.new.self.knows b)
     c.if-not-has_room.true c.has_room.ensures.answer in
     let size = c.get-size.ensures.value ∙ c.size.ensures ∙ ap (λ (k : Shape g.row.T.Denot). k.size) c.plan.ensures.plan in
     let limit = c.limit-limit.ensures.limit ∙ ap (λ (k : Shape g.row.T.Denot). k.limit) c.plan-2.ensures.plan in

@@ -1,5 +1,5 @@
 use Rattle.std.proofs.Common.{rules, ℕ, List, arith, ◌∙◌, sym, ap, length, get_or}
-use Rattle.dr_ring.proofs.Stations.{loaded_more}
+use Rattle.dr_runs.proofs.Stations.{loaded_more}
 use Rattle.dr_ring.proofs.Rounds.{round_more, round_all}
 use Rattle.dr_ring.proofs.laws.receiver.ReceiverStation.barrier.Goals as goal
 

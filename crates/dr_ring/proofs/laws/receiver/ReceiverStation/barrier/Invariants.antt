@@ -1,5 +1,5 @@
 use Rattle.std.proofs.Common.{◌≡◌}
-use Rattle.dr_ring.specs.Calls.Ends.{HasLoaded}
+use Rattle.dr_runs.specs.Ends.{HasLoaded}
 use Rattle.dr_ring.specs.Calls.Receiving.{ups_of}
 use Rattle.dr_ring.proofs.Rounds.{Round}
 use Rattle.dr_ring.proofs.laws.receiver.ReceiverStation.barrier.Given as goal

@@ -1,6 +1,6 @@
 use Rattle.std.proofs.Common.{◌≡◌, ◌+◌, take}
 use Rattle.dr_ring.specs.Calls.Receiving.{received_all}
-use Rattle.dr_ring.specs.Calls.Ends.{HasLoaded}
+use Rattle.dr_runs.specs.Ends.{HasLoaded}
 use Rattle.dr_ring.proofs.laws.receiver.ReceiverStation.take_all.Given as goal
 
 abbrev pub invariant-loop-event : goal.invariant-loop-event

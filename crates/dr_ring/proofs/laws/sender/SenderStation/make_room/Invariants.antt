@@ -1,5 +1,5 @@
 use Rattle.std.proofs.Common.{◌≡◌}
-use Rattle.dr_ring.specs.Calls.Ends.{HasLoaded}
+use Rattle.dr_runs.specs.Ends.{HasLoaded}
 use Rattle.dr_ring.proofs.Rounds.{Scanned}
 use Rattle.dr_ring.proofs.laws.sender.SenderStation.make_room.Given as goal
 

@@ -1,7 +1,0 @@
--- What an end that only loads words knows in the end.
-use Rattle.std.proofs.Common.{refl, ◌∙◌}
-use Rattle.dr_runs.proofs.Beginnings.{begins_on}
-use Rattle.dr_plain_senders.specs.Calls.Ends.{EndOf, HasLoaded}
-
-pub loaded_more : {T K : Type 0} (e s s' : EndOf T K) (knows : K) → HasLoaded e s.knows e.hand s → HasLoaded s knows s.hand s' → HasLoaded e s'.knows e.hand s'
-loaded_more e s s' knows A B = ((B.0.0 ∙ A.0.0, B.0.1 ∙ A.0.1), refl, B.2 ∙ A.2, begins_on e.past s.past s'.past A.3 B.3, B.4 ∙ A.4)
