@@ -12,7 +12,8 @@ ghost use Rattle.dr_replay.specs.Calls.LockRuns.{LockRan};
 ghost use Rattle.dr_replay.specs.Calls.Replayed.{IsReportOfMerge, LockWrites, ReplayCounts, ReplayFaultKeeps};
 ghost use Rattle.dr_replay.specs.Calls.Workers.{IsFirstOf, IsFirstOfLock, IsNoRefusal, IsOfAudit, IsOfLock, IsOfMerge, NoProducerHadToStop, lock_endings};
 ghost use Rattle.dr_replay.specs.Inside.LockWorkers.{SaidOfLock, endings_in, ends_of};
-ghost use Rattle.dr_replay.specs.Meaning.Exchange.{CameTo, GoesOnBy, IsOfReplay, lock_setup, setup_for};
+ghost use Rattle.dr_lock.specs.Calls.Ended.{GoesOnBy};
+ghost use Rattle.dr_replay.specs.Meaning.Exchange.{CameTo, IsOfReplay, lock_setup, setup_for};
 ghost use Rattle.dr_replay.specs.Meaning.Scripts.{scripts_in};
 
 use crate::fault::ReplayFault;
