@@ -12,6 +12,7 @@ use Rattle.dr_graph.specs.Meaning.Graph.{finals}
 use Rattle.dr_runs.specs.OneSender.Words.{halt_word}
 use Rattle.dr_runs.specs.declared.look.Look.{Look}
 use Rattle.dr_ring.specs.declared.record.SenderRecord.{SenderRecord}
+use Rattle.dr_ring.specs.declared.record.Step.{Step}
 use Rattle.dr_ring.specs.declared.record.Step.TheVariants.{SenderStoresFirst, SenderStoresSecond, SenderPublishes, SenderHalts, SenderCloses}
 use Rattle.dr_runs.specs.Runs.{IsBeginning, StoresWhereOk}
 use Rattle.dr_ring.specs.Calls.Ends.{SenderEnd, sender_place}
@@ -96,9 +97,13 @@ TriesToClose r r' (Err _) = ⊥
 abbrev pub ClaimCall : SenderEnd → ℕ → SenderEnd → Result Claimed Refusal → Type 0
 ClaimCall e n e' result = (sender_place e' ≡ sender_place e) × TriesToClaim e.knows n e'.knows result × (e'.stored ≡ e.stored) × IsBeginning e.past e'.past
 
+-- what the write of an event stores: its two words
+abbrev pub stores_of : ℕ → Event → List Step
+stores_of s event = SenderStoresFirst s event.first ∷ SenderStoresSecond event.second ∷ []
+
 abbrev pub WriteCall : SenderEnd → ℕ → Event → SenderEnd → Result (Unit {0}) Refusal → Type 0
 WriteCall e s event e' result =
-    (sender_place e' ≡ sender_place e) × TriesToWrite e.knows s event e'.knows result × StoresWhereOk e.stored (SenderStoresFirst s event.first ∷ SenderStoresSecond event.second ∷ []) e'.stored result × IsBeginning e.past e'.past
+    (sender_place e' ≡ sender_place e) × TriesToWrite e.knows s event e'.knows result × StoresWhereOk e.stored (stores_of s event) e'.stored result × IsBeginning e.past e'.past
 
 abbrev pub PublishCall : SenderEnd → ℕ → ℕ → SenderEnd → Result (Unit {0}) Refusal → Type 0
 PublishCall e lo hi e' result = (sender_place e' ≡ sender_place e) × TriesToPublish e.knows lo hi e'.knows result × StoresWhereOk e.stored (SenderPublishes (hi + 1) ∷ []) e'.stored result × IsBeginning e.past e'.past
