@@ -1,7 +1,7 @@
 -- What the sender's looks come to, as a claim goes on.
-use Rattle.std.specs.Prelude.{◌≡◌, ℕ, ◌+◌, ◌<◌, ◌≤◌, ◌⊎◌, List, [], ◌++◌, length, slice_index, Option, Some, None}
+use Rattle.std.specs.Prelude.{◌≡◌, ℕ, ◌+◌, ◌<◌, ◌≤◌, ◌⊎◌, List, [], ◌++◌, length, slice_index}
 use Rattle.dr_graph.specs.Meaning.Graph.{finals}
-use Rattle.dr_ring.specs.Meaning.Shape.{Shape}
+use Rattle.dr_ring.specs.Meaning.Records.{remembers}
 use Rattle.dr_runs.specs.OneSender.Words.{count_word}
 use Rattle.dr_runs.specs.declared.look.Look.{Look}
 use Rattle.dr_ring.specs.declared.record.SenderRecord.{SenderRecord}
@@ -23,26 +23,30 @@ pub record LooksAtFinals (r : SenderRecord) (xs : List Look) (r' : SenderRecord)
   pub is : r' ≡ sender_saw r xs
   pub rises : (f : ℕ) → last_look 0 r.looks (count_word f) ≤ last_look 0 (r.looks ++ xs) (count_word f)
 
--- every count was at least what was needed, or what was remembered served
-pub record IsEnough (r : SenderRecord) (xs : List Look) (needed least : ℕ) : Type 0 where
-  pub enough : needed ≤ least
-  pub front : least ≤ length r.sent.published
-  pub seen : IsSeenLeast (sender_saw r xs) least
+-- what it remembered serves, and it looked at none; or it does not, and every count was at least what is needed
+pub record IsEnough (r : SenderRecord) (xs : List Look) (needed : ℕ) : Type 0 where
   pub counts : List ℕ
   pub are : xs ≡ count_looks (finals r.plan.upstreams) counts
-  pub all : (counts ≡ []) ⊎ (length counts ≡ length (finals r.plan.upstreams))
+  pub all : ((needed ≤ remembers r) × (counts ≡ [])) ⊎ ((remembers r < needed) × (length counts ≡ length (finals r.plan.upstreams)))
   pub high : (i : ℕ) → i < length counts → needed ≤ slice_index counts i
 
--- the last count was the first that was less
-pub record IsShort (k : Shape) (xs : List Look) (needed : ℕ) : Type 0 where
+-- nor does what it remembered serve, and the last count was the first that was less
+pub record IsShort (r : SenderRecord) (xs : List Look) (needed : ℕ) : Type 0 where
+  pub remembered : remembers r < needed
   pub counts : List ℕ
-  pub are : xs ≡ count_looks (finals k.upstreams) counts
+  pub are : xs ≡ count_looks (finals r.plan.upstreams) counts
   pub before : ℕ
   pub last : length counts ≡ before + 1
-  pub among : length counts ≤ length (finals k.upstreams)
+  pub among : length counts ≤ length (finals r.plan.upstreams)
   pub high : (i : ℕ) → i < before → needed ≤ slice_index counts i
   pub low : slice_index counts before < needed
 
-abbrev pub Scans : SenderRecord → ℕ → SenderRecord → Option ℕ → Type 0
-Scans r need r' (Some least) = (seen : List Look) × LooksAtFinals r seen r' × IsEnough r seen need least
-Scans r need r' None = (seen : List Look) × LooksAtFinals r seen r' × IsShort r.plan seen need
+-- it looked for so many completed events, and this is what it then remembers: it was enough, or too short
+pub record Scans (r : SenderRecord) (need : ℕ) (r' : SenderRecord) (found : ℕ) : Type 0 where
+  pub seen : List Look
+  pub looks : LooksAtFinals r seen r'
+  pub kept : found ≡ remembers r'
+  pub front : found ≤ length r.sent.published
+  pub least : IsSeenLeast r' found
+  pub enough : need ≤ found → IsEnough r seen need
+  pub short : found < need → IsShort r seen need
