@@ -1,8 +1,9 @@
 -- What waiting comes to, look by look.
-use Rattle.std.proofs.Common.{◌≡◌, ◌≢◌, ◌⊎◌, ℕ, zero, suc, ◌+◌, ◌*◌, ◌/◌, ◌^◌, ◌<◌, ◌≤◌, min, Bool, true, false, not, ◌&&◌, List, [], ◌∷◌, ◌++◌, Option, None, Some, inl, inr, refl, sym, ap, ◌∙◌, subst, arith, add-one}
-use Rattle.std.specs.Prelude.{◌↔◌, is_none, nat_lt, if◌then◌else◌}
+use Rattle.std.proofs.Common.{◌≡◌, ◌≢◌, ◌⊎◌, ℕ, zero, suc, ◌+◌, ◌*◌, ◌/◌, ◌^◌, ◌<◌, ◌≤◌, min, Bool, true, false, List, [], ◌∷◌, ◌++◌, Option, None, Some, inl, inr, refl, sym, ap, ◌∙◌, subst, arith, add-one}
+use Rattle.std.specs.Prelude.{◌↔◌, ◌&&◌, not, is_none, nat_lt, if◌then◌else◌}
 use Rattle.std.specs.List.{prefix_len, suffix_len}
-use Rattle.std.proofs.lemmas.Bool.{and-false, cases_lt, false≢true, le-ltb, lt-ltb}
+use Rattle.std.proofs.Math.Bool.{and-false}
+use Rattle.std.proofs.lemmas.Bool.{cases_lt, false≢true, le-ltb, lt-ltb}
 use Rattle.std.proofs.lemmas.Grind.{reverse_onto}
 use Rattle.std.proofs.lemmas.List.{reverse-reverse}
 use Rattle.std.proofs.Math.Nat.{mul-div_cancel, pow-suc, pow-succ'}
@@ -68,7 +69,7 @@ longer_power p x = elim (cases_lt x.0 10) [
 half : (p k : ℕ) → k ≤ 10 → p ≡ 2 ^ k → IsPower (shorter p)
 half p zero low is = subst (λ (n : ℕ). IsPower (shorter n)) (sym is) (0, omega arith, refl)
 half p (suc k) low is =
-    let halved : p / 2 ≡ 2 ^ k = ap (λ (n : ℕ). n / 2) (is ∙ pow-suc 2 k) ∙ mul-div_cancel (2 ^ k) (omega arith) in
+    let halved : p / 2 ≡ 2 ^ k = ap (λ (n : ℕ). n / 2) (is ∙ pow-suc 2 k) ∙ mul-div_cancel (2 ^ k) {n = 2} (omega arith) in
     chosen (nat_lt 1 p) (p / 2) p (k, omega arith, halved) (suc k, low, is)
 
 tuned_power : (room count p : ℕ) → IsPower p → IsPower (tuned room count p)
@@ -130,11 +131,12 @@ parked_early n old new is h less =
     let early : is_early old.looks ≡ true = lt-ltb old.looks 200 less in
     let few : n < 200 = omega (arith, is.looks) in
     let one : looks_after old.looks ≡ old.looks + 1 = rw early refl in
+    let more : (if is_early old.looks then waited_from old.waiting else old.waiting) ≡ waited_from old.waiting = rw early refl in
     record {
-      waiting = subst (λ (w : Waiting). Steady (1 + n) w) (sym (h.waiting ∙ rw early refl)) (steady_waited n old.waiting is.waiting);
+      waiting = subst (λ (w : Waiting). Steady (1 + n) w) (sym (h.waiting ∙ more)) (steady_waited n old.waiting is.waiting);
       looks = h.looks ∙ one ∙ omega (arith, is.looks);
       unheard = λ low. h.early early ∙ is.unheard (omega arith);
-      heard = λ more. absurd (omega arith);
+      heard = λ high. absurd (omega arith);
     }
 
 parked_late : {R : Type 0} (n : ℕ) (old new : Parking R) → Parked n old → HasParked old new → 200 ≤ old.looks → Parked (1 + n) new
@@ -142,9 +144,10 @@ parked_late n old new is h most =
     let late : is_early old.looks ≡ false = le-ltb old.looks 200 most in
     let many : 200 ≤ n = omega (arith, is.looks) in
     let same : looks_after old.looks ≡ old.looks = rw late refl in
+    let stays : (if is_early old.looks then waited_from old.waiting else old.waiting) ≡ old.waiting = rw late refl in
     let still : Steady (1 + n) old.waiting = record { power = is.waiting.power; paused = is.waiting.paused ∙ omega arith } in
     record {
-      waiting = subst (λ (w : Waiting). Steady (1 + n) w) (sym (h.waiting ∙ rw late refl)) still;
+      waiting = subst (λ (w : Waiting). Steady (1 + n) w) (sym (h.waiting ∙ stays)) still;
       looks = h.looks ∙ same ∙ omega (arith, is.looks);
       unheard = λ low. absurd (omega arith);
       heard = λ more. h.listens late;

@@ -7,7 +7,7 @@ use Rattle.dr_workers.specs.Calls.Waits.{HasFound, HasParked, found_from, is_asl
 
 -- looks, each of which found nothing or so many events, lead from one state to another: a thread waits after each that found nothing
 abbrev pub Lead : {P : Type 0} → (P → P → Type 0) → (P → ℕ → P → Type 0) → P → List (Option ℕ) → P → Type 0
-Lead waits finds old [] new = new ≡ old
+Lead {P} waits finds old [] new = new ≡ old
 Lead {P} waits finds old (None ∷ looks) new = (next : P) × waits old next × Lead waits finds next looks new
 Lead {P} waits finds old (Some count ∷ looks) new = (next : P) × finds old count next × Lead waits finds next looks new
 
