@@ -118,7 +118,7 @@ module _ {L : Type 0} where
         subst (λ (x : L). belongs i x) (sym (same_value l t.0 (some-injective (Some l) (Some t.0) (sym here ∙ t.1)))) t.2
 
 -- what is so of what comes out, if anything does
-each_some : {A : Type 0} (P Q : A → Type 0) → ((a : A) → P a → Q a) → (o : Option A) → IfSome o P → IfSome o Q
+pub each_some : {A : Type 0} (P Q : A → Type 0) → ((a : A) → P a → Q a) → (o : Option A) → IfSome o P → IfSome o Q
 each_some P Q f None h = h
 each_some P Q f (Some a) h = f a h
 
