@@ -20,7 +20,7 @@ use Rattle.dr_replay.specs.Meaning.Exchange.{lock_setup}
 use Rattle.dr_replay.specs.Meaning.Scripts.{producers_in, script_in, scripts_in}
 use Rattle.dr_replay.specs.Calls.LockRuns.{IsHistoryOf, JoinedOver, LockRan, endings_over}
 use Rattle.dr_replay.specs.Calls.Replayed.{IsReportOfMerge}
-use Rattle.dr_replay.specs.Calls.Workers.{IsOfLock}
+use Rattle.dr_replay.specs.Inside.Faults.{IsOfLock}
 use Rattle.dr_files.specs.Outcome.{AppendsFront}
 use Rattle.dr_files.specs.declared.fault.FileFault.TheVariants as file
 use Rattle.dr_replay.proofs.Endings.{finds_as, many_scripts, report_more}

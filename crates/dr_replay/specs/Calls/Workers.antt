@@ -190,15 +190,6 @@ abbrev pub audit_fault : AuditFault → ReplayFault
 audit_fault audit.NoMemory = fault.File file.Memory
 audit_fault other = fault.Audit other
 
--- after workers that had no fault: a lack of memory, or what an audit finds
-abbrev pub IsOfAudit : (History Event → Type 0) → List (List Event) → ReplayFault → Type 0
-IsOfAudit IsSuch scripts = OfKind IsMemory (λ who f. ⊥) (AuditFinds IsSuch scripts)
-
--- after the join, which some such history came of: a lack of memory, or the workers' first fault, and where none has a fault, what an audit finds
-abbrev pub IsOfLock : List Ended → (History Event → Type 0) → List (List Event) → ReplayFault → Type 0
-IsOfLock endings IsSuch scripts =
-    OfKind IsMemory (λ who f. IsFirstOf endings (fault.Worker who f) × (h : History Event) × IsSuch h) (λ f. (first_fault endings ≡ None) × AuditFinds IsSuch scripts f)
-
 -- a lack of memory, or the first fault of such workers, one of each producer of these events, or what an audit finds of each producer's events
 abbrev pub IsOfMerge : (ℕ → Type 0) → (History Event → Type 0) → List Event → ReplayFault → Type 0
 IsOfMerge may_stop IsSuch events =
