@@ -1,6 +1,6 @@
 //! What is left in places comes out, or is dropped.
 
-ghost use Rattle.std.specs.Prelude.{◌≡◌, IfOk};
+ghost use Rattle.std.specs.Prelude.{◌≡◌, IfOk, IsTrue};
 
 use dr_places::{Belongs, Places};
 use std::alloc::{AllocError, Global};
@@ -49,6 +49,43 @@ fn all_that_is_left_comes_out_from_the_last_on(rt: HostRuntime) -> Result<(), Fa
     let last = all.pop().map_or(0, |it| it.number);
     assert!(rt; last == 9 && all.len() == 2 && Arc::strong_count(&held) == 3);
     drop(all);
+    assert!(rt; Arc::strong_count(&held) == 1);
+    Ok(())
+}
+
+// Where each of three found its place empty, all that they left comes out.
+fn leave_all(
+    places: Places<Numbered, u64>,
+    first: Numbered,
+    second: Numbered,
+    third: Numbered,
+) -> bool
+    requires places { (places.key ≡ 7) × (places.count ≡ 3) }
+    requires numbers { (first.number ≡ 7) × (second.number ≡ 8) × (third.number ≡ 9) }
+    ensures { IsTrue result }
+{
+    let Ok(first) = places.leave(0, first) else {
+        return true;
+    };
+    let Ok(second) = places.leave(1, second) else {
+        return true;
+    };
+    let Ok(third) = places.leave(2, third) else {
+        return true;
+    };
+    let two = places.both(first, second);
+    let all = places.both(two, third);
+    places.close_knowing(all).is_some()
+}
+
+#[test]
+fn who_saw_it_all_knows_that_it_comes_out(rt: HostRuntime) -> Result<(), Fail> {
+    let held = Arc::new(rt.alloc(), 0u64)?;
+    let places = three_places(rt.alloc())?;
+    let first = make_numbered(7, &held)?;
+    let second = make_numbered(8, &held)?;
+    let third = make_numbered(9, &held)?;
+    assert!(rt; leave_all(places, first, second, third));
     assert!(rt; Arc::strong_count(&held) == 1);
     Ok(())
 }
