@@ -29,7 +29,7 @@ use Rattle.dr_plain_senders.specs.Meaning.Steps.{Happens}
 
 module _ {T : Type 0} where
   abbrev pub fresh_sender : ℕ → SenderRecord T
-  fresh_sender p = record { number = p; own = []; marks = []; looks = [] }
+  fresh_sender p = record { number = p; own = []; taken = []; marks = []; looks = [] }
 
   -- n senders, from the number p on
   abbrev pub fresh_senders : ℕ → ℕ → List (SenderRecord T)
