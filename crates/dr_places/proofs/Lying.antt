@@ -134,7 +134,7 @@ module _ {L K : Type 0} (belongs : K → ℕ → L → Type 0) (p : PlacesOf K) 
   are_all F many o h = each_some (λ all. AreLeft words × (all ≡ somes (slots_items slots))) (AreAll p belongs)
       (λ all it. (
         ap length it.1 ∙ somes_all (slots_items slots) (all_some (belongs p.key) words (slots_items slots) F it.0) ∙ sym (slots_counts slots).0 ∙ many,
-        λ i l at. all_belong (belongs p.key) words (slots_items slots) F it.0 i l (ap (λ (xs : List L). get_elem? xs i) it.1 ∙ at),
+        λ i l at. all_belong (belongs p.key) words (slots_items slots) F it.0 i l (ap (λ (xs : List L). get_elem? xs i) (sym it.1) ∙ at),
       )) o h
 
 -- who saw that something lies in each place knows that all was left

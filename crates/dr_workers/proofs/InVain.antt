@@ -1,6 +1,6 @@
 -- What waiting comes to, look by look.
-use Rattle.std.proofs.Common.{◌≡◌, ◌≢◌, ◌⊎◌, ℕ, zero, suc, ◌+◌, ◌*◌, ◌/◌, ◌^◌, ◌<◌, ◌≤◌, min, Bool, true, false, List, [], ◌∷◌, ◌++◌, Option, None, Some, inl, inr, refl, sym, ap, ◌∙◌, subst, arith, add-one}
-use Rattle.std.specs.Prelude.{◌↔◌, ◌&&◌, not, is_none, nat_lt, if◌then◌else◌}
+use Rattle.std.proofs.Common.{◌≡◌, ◌≢◌, ℕ, zero, suc, ◌+◌, ◌*◌, ◌/◌, ◌^◌, ◌<◌, ◌≤◌, min, Bool, true, false, List, [], ◌∷◌, ◌++◌, Option, None, Some, inl, inr, refl, sym, ap, ◌∙◌, subst, arith, add-one}
+use Rattle.std.specs.Prelude.{◌↔◌, not, is_none, nat_lt, if◌then◌else◌}
 use Rattle.std.specs.List.{prefix_len, suffix_len}
 use Rattle.std.proofs.Math.Bool.{and-false}
 use Rattle.std.proofs.lemmas.Bool.{cases_lt, false≢true, le-ltb, lt-ltb}
@@ -11,7 +11,7 @@ use mathlib.Core.List.{reverse}
 use Rattle.dr_workers.specs.declared.waiting.Waiting.{Waiting}
 use Rattle.dr_workers.specs.declared.parking.Parking.{Parking}
 use Rattle.dr_workers.specs.Calls.InVain.{Lead, Pauses, PausesThenYields, SleepsInTheEnd}
-use Rattle.dr_workers.specs.Calls.Waits.{HasFound, HasParked, begun, found_from, is_asleep_next, is_early, is_too_long, is_too_short, longer, looks_after, most_looks, most_pauses, most_waits, pauses_after, shorter, tuned, waited_from}
+use Rattle.dr_workers.specs.Calls.Waits.{HasFound, HasParked, begun, found_from, is_asleep_next, is_early, is_too_long, is_too_short, longer, looks_after, most_looks, most_pauses, shorter, tuned, waited_from}
 
 -- Of one look behind others.
 

@@ -1,4 +1,4 @@
-use Rattle.std.proofs.Common.{◌≡◌, ap, arith, inl, inr, length, map, subst, sym, ◌∙◌, IfSome, List, Option, Some}
+use Rattle.std.proofs.Common.{ap, arith, inl, inr, length, subst, sym, ◌∙◌, IfSome, List, Option, Some}
 use Rattle.dr_plain.specs.Meaning.Shape.{handlers_of}
 use Rattle.dr_plain.specs.Calls.Ends.{HalterEnd, ReceiverEnd, SenderEnd}
 use Rattle.dr_plain.specs.Inside.Leaving.{AreReceiversLeft, BelongsHalter, BelongsSender, IsHalterLeft, IsSenderLeft}

@@ -1,4 +1,4 @@
-use Rattle.std.proofs.Common.{ℕ, List, length, Contains, ap, sym, subst, arith, ◌<◌, ◌∙◌}
+use Rattle.std.proofs.Common.{◌≡◌, ℕ, List, length, Contains, ap, sym, subst, ◌<◌, ◌∙◌}
 use Rattle.core.specs.Mem.Slots.{slots_counts, slots_items}
 use Rattle.atomic_table.specs.Table.{Final}
 use Rattle.dr_places.specs.declared.sight.Sight.{Sight}

@@ -1,7 +1,5 @@
-use Rattle.std.proofs.Common.{ap, sym, subst, arith, refl, ◌∙◌}
-use Rattle.atomic_table.specs.Table.{rest}
+use Rattle.std.proofs.Common.{ap, sym, subst, arith, ◌∙◌}
 use Rattle.dr_places.specs.Rule.{PlacesOf}
-use Rattle.dr_places.specs.declared.sight.Sight.{Sight}
 use Rattle.dr_places.proofs.Steps.{enters, leaves_it, takes_place}
 use Rattle.dr_places.proofs.places.Places.leave.Goals as goal
 

@@ -1,8 +1,7 @@
-use Rattle.std.proofs.Common.{ap, subst, ◌∙◌, List}
+use Rattle.std.proofs.Common.{subst, ◌∙◌}
 use Rattle.atomic_table.specs.Seated.{TableId}
 use Rattle.dr_places.proofs.Lying.{each_some}
-use Rattle.dr_plain.specs.Meaning.Shape.{Shape, handlers_of}
-use Rattle.dr_plain.specs.Calls.Ends.{HalterEnd, ReceiverEnd, SenderEnd}
+use Rattle.dr_plain.specs.Meaning.Shape.{Shape}
 use Rattle.dr_plain.specs.Inside.Leaving.{AreReceiversLeft, BelongsSender, IsHalterLeft, IsSenderLeft}
 use Rattle.dr_plain.proofs.body.RingBody.drop.Goals as goal
 
