@@ -20,8 +20,8 @@ unreachable-requires g c =
     let left = subst (λ (o : Option (List (SenderEnd g.row.T.Denot))). IfSome o (IsSenderLeft ring plan)) c.in-Some.is c.requires.senders in
     let none = ap length c.in_default-pop.ensures.0 in let one = left.0 in omega arith
 
-pub unreachable-requires-2 : goal.unreachable-requires-2
-unreachable-requires-2 g c =
+pub unreachable-requires-in_default-pop-2 : goal.unreachable-requires-in_default-pop-2
+unreachable-requires-in_default-pop-2 g c =
     let ring = c.args.words.now.table_id in
     let left = subst (λ (o : Option (List (HalterEnd g.row.T.Denot))). IfSome o (IsHalterLeft ring)) c.in-Some-halters.is c.requires.halters in
     let none = ap length c.in_default-pop-2.ensures.0 in let one = left.0 in omega arith
