@@ -17,6 +17,6 @@ pub returns : goal.returns
 returns g c =
     let words = c.close-closed.result.words in let slots = c.close-closed.result.slots in let counts = c.close-closed.ensures.counts in
     let belongs = g.L.Belongs.belongs in
-    are_all belongs _ (slots_items words) slots
+    are_all belongs c.args.self (slots_items words) slots
     (subst (λ (p : PlacesOf g.row.K.Denot). Final {V = Sight} (Keeps (belongs p.key)) (slots_items words) (slots_items slots)) c.self.view_is c.close-closed.ensures.values.2)
     (counts.1 ∙ c.self.invariant ∙ ap (λ (p : PlacesOf g.row.K.Denot). p.count) c.self.view_is) _ c.gather.ensures.all

@@ -23,7 +23,7 @@ pub returns-clause-each : goal.returns-clause-each
 returns-clause-each g c =
     let words = c.close_with-closed.result.words in let slots = c.close_with-closed.result.slots in let counts = c.close_with-closed.ensures.counts in
     let belongs = g.L.Belongs.belongs in
-    are_all belongs _ (slots_items words) slots
+    are_all belongs c.args.self (slots_items words) slots
     (subst (λ (p : PlacesOf g.row.K.Denot). Final {V = Sight} (Keeps (belongs p.key)) (slots_items words) (slots_items slots)) c.self.view_is
     (only_final (belongs c.self.inside.table.shared.key) _ _ _ _ c.close_with-closed.ensures.values.2))
     (counts.1 ∙ c.self.invariant ∙ ap (λ (p : PlacesOf g.row.K.Denot). p.count) c.self.view_is) _ c.gather.ensures.all
