@@ -1,6 +1,6 @@
 //! What is left in places comes out, or is dropped.
 
-ghost use Rattle.std.specs.Prelude.{◌≡◌, IfOk, IsTrue};
+ghost use Rattle.std.specs.Prelude.{◌≡◌, IfOk};
 
 use dr_places::{Belongs, Places};
 use std::alloc::{AllocError, Global};
@@ -53,7 +53,7 @@ fn all_that_is_left_comes_out_from_the_last_on(rt: HostRuntime) -> Result<(), Fa
     Ok(())
 }
 
-// Where each of three found its place empty, all that they left comes out.
+// Whether three find their places empty, and all that they left comes out.
 fn leave_all(
     places: Places<Numbered, u64>,
     first: Numbered,
@@ -62,16 +62,15 @@ fn leave_all(
 ) -> bool
     requires places { (places.key ≡ 7) × (places.count ≡ 3) }
     requires numbers { (first.number ≡ 7) × (second.number ≡ 8) × (third.number ≡ 9) }
-    ensures { IsTrue result }
 {
     let Ok(first) = places.leave(0, first) else {
-        return true;
+        return false;
     };
     let Ok(second) = places.leave(1, second) else {
-        return true;
+        return false;
     };
     let Ok(third) = places.leave(2, third) else {
-        return true;
+        return false;
     };
     let two = places.both(first, second);
     let all = places.both(two, third);
