@@ -48,7 +48,8 @@ crates/dr_lent/src/slots.rt: let token = words.exchange(seat, slot, Token::blank
 crates/dr_places/src/places.rt: if shared.compare_exchange::<Takes>(&mut seat, place, EMPTY, TAKEN) != EMPTY {
 crates/dr_places/src/places.rt: let (_, mut seat) = shared.load_new_seat::<Tells>(place);
 crates/dr_places/src/places.rt: let was = shared.exchange(&mut seat, place, Some(left));
-crates/dr_places/src/places.rt: shared.store::<Tells>(&mut seat, place, LEFT);
+crates/dr_places/src/places.rt: self.table.shared.join_seat::<Both>(&mut seat, other);
+crates/dr_places/src/places.rt: shared.store::<Leaves>(&mut seat, place, LEFT);
 END
 )
 named=$(awk -F: '$2 ~ /(^| )atomic_table( |$)/ { split($1, it, " "); print it[1] }' crates.txt | grep -vE '_tests$|^dr_(ring|plain|plain_senders)$')

@@ -24,12 +24,13 @@ use Rattle.dr_disruptor.specs.declared.feeds.Delivered.{Delivered}
 use Rattle.dr_disruptor.specs.declared.served.Served.{Served}
 use Rattle.dr_disruptor.specs.Feeding.{AreGiven, AreSent, Feeder, IsUnsent, LeavesClosed, fed_sender, given_feed}
 use Rattle.dr_plain_senders.specs.Calls.InPlace.{SawSome, does_in_place, has_one_stretch}
-use Rattle.dr_disruptor.specs.Merging.{HaltsOnly, HasAll, LeavesSender, refusal_of}
+use Rattle.dr_disruptor.specs.Merging.{HaltsOnly, HasAll, LeavesSender, refusal_of_senders}
+use Rattle.dr_disruptor.specs.Running.{refusal_of}
 use Rattle.dr_disruptor.specs.Serving.{AreServed, IsIdle}
 use Rattle.dr_disruptor.proofs.Through.{end_back, many_back}
 
 -- a run that was not refused for its handlers or its closures lacked memory or a thread
-pub memory_is : (graph given feeds : ℕ) → given ≡ graph → has_bad_producers (Multi feeds) ≡ false → refusal_of graph given feeds ≡ fault.Memory
+pub memory_is : (graph given feeds : ℕ) → given ≡ graph → has_bad_producers (Multi feeds) ≡ false → refusal_of graph given (refusal_of_senders feeds) ≡ fault.Memory
 memory_is graph given feeds same fits = rw (eq-eqb graph given (sym same), fits) refl
 
 module _ {E : Type 0} where

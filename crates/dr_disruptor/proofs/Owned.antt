@@ -116,10 +116,10 @@ module _ {T : Type 0} where
   knows : (w : World T) (p : ℕ) (r r' : SenderRecord T) → get_elem? w.senders p ≡ some r → r'.own ≡ r.own → AreOwn w → AreOwn (sender_knows w p r')
   knows w p r r' at same own = each_set (λ q x. x.own ≡ own_from 0 q w.stages) w.senders p r' (same ∙ own p r at) (λ q x ne there. own q x there)
 
-  claims : (k : Shape T) (w : World T) (p c n : ℕ) (r : SenderRecord T) → get_elem? w.senders p ≡ some r → KeepsRule k w
+  claims : (k : Shape T) (w : World T) (p c n : ℕ) (lay : List T) (r : SenderRecord T) → get_elem? w.senders p ≡ some r → KeepsRule k w
       → c + n ≤ k.limit → word_at w.words claim_word ≡ c → AreOwn w
-      → AreOwn (sender_claims w p r c n)
-  claims k w p c n r at K limit here own =
+      → AreOwn (sender_claims w p r c n lay)
+  claims k w p c n lay r at K limit here own =
       let small = K.shape.small in
       let claim : claimed_in c ≡ length w.stages = ap claimed_in (sym here) ∙ K.claim in
       let low = claimed_low c (omega arith) in
@@ -131,19 +131,19 @@ module _ {T : Type 0} where
       ∙ ap (λ (s : ℕ). own_from 0 p w.stages ++ fresh_own p s n) first in
       let new : r.own ++ fresh_own r.number c n ≡ own_from 0 p (w.stages ++ replicate n (fresh_stage p)) =
       ap (λ (l : List (Own T)). l ++ fresh_own r.number c n) (own p r at) ∙ ap (λ (q : ℕ). own_from 0 p w.stages ++ fresh_own q c n) number ∙ sym mine in
-      each_set (λ q x. x.own ≡ own_from 0 q (w.stages ++ replicate n (fresh_stage p))) w.senders p (claimed_from r c n) new
+      each_set (λ q x. x.own ≡ own_from 0 q (w.stages ++ replicate n (fresh_stage p))) w.senders p (claimed_from r c n lay) new
       (λ q x ne there.
       own q x there ∙ sym (own_append 0 q w.stages (replicate n (fresh_stage p))
       ∙ ap (λ (l : List (Own T)). own_from 0 q w.stages ++ l) (own_others (0 + length w.stages) q p n (λ e. ne (sym e)))
       ∙ append-nil (own_from 0 q w.stages)))
 
-  claims_or_looks : (k : Shape T) (w : World T) (p c n : ℕ) (r : SenderRecord T) → get_elem? w.senders p ≡ some r → KeepsRule k w → c + n ≤ k.limit
+  claims_or_looks : (k : Shape T) (w : World T) (p c n : ℕ) (lay : List T) (r : SenderRecord T) → get_elem? w.senders p ≡ some r → KeepsRule k w → c + n ≤ k.limit
       → AreOwn w
-      → AreOwn (if word_at w.words claim_word == c then sender_claims w p r c n else sender_knows w p (sender_looked r claim_word (word_at w.words claim_word)))
-  claims_or_looks k w p c n r at K limit own =
-      let P : Bool → Type 0 = λ b. AreOwn (if b then sender_claims w p r c n else sender_knows w p (sender_looked r claim_word (word_at w.words claim_word))) in
+      → AreOwn (if word_at w.words claim_word == c then sender_claims w p r c n lay else sender_knows w p (sender_looked r claim_word (word_at w.words claim_word)))
+  claims_or_looks k w p c n lay r at K limit own =
+      let P : Bool → Type 0 = λ b. AreOwn (if b then sender_claims w p r c n lay else sender_knows w p (sender_looked r claim_word (word_at w.words claim_word))) in
       elim (cases_eq (word_at w.words claim_word) c) [
-        | inl here ↦ subst P (sym (eq-eqb (word_at w.words claim_word) c here)) (claims k w p c n r at K limit here own)
+        | inl here ↦ subst P (sym (eq-eqb (word_at w.words claim_word) c here)) (claims k w p c n lay r at K limit here own)
         | inr other ↦ subst P (sym (ne_eqb (word_at w.words claim_word) c other)) (knows w p r (sender_looked r claim_word (word_at w.words claim_word)) at refl own)
       ]
 
@@ -166,7 +166,7 @@ module _ {T : Type 0} where
   owns_step : (k : Shape T) (s : Step T) (w u : World T) → Happens k s w u → KeepsRule k w → AreOwn w → AreOwn u
   owns_step k (SenderLooksAtClaims p) w u H K own = subst AreOwn (sym H.2) (knows w p H.0 (sender_looked H.0 claim_word (word_at w.words claim_word)) H.1 refl own)
   owns_step k (SenderLooksAtCount p f) w u H K own = subst AreOwn (sym H.2.1) (knows w p H.0 (sender_looked H.0 (count_word f) (word_at w.words (count_word f))) H.1 refl own)
-  owns_step k (SenderClaims p c n) w u H K own = subst AreOwn (sym H.2.2) (claims_or_looks k w p c n H.0 H.1 K H.2.1.limit own)
+  owns_step k (SenderClaims p c n) w u H K own = subst AreOwn (sym H.2.4) (claims_or_looks k w p c n H.2.2 H.0 H.1 K H.2.1.limit own)
   owns_step k (SenderPublishes p s events) w u H K own = along_all k p AreOwn (owns_one k p) s events w u H.1 K own
   owns_step k (SenderLooksAtMark p s) w u H K own = subst AreOwn (sym H.2) (knows w p H.0 (mark_found H.0 s (word_at w.words (mark_word k s))) H.1 refl own)
   owns_step k (SenderHalts p) w u H K own =

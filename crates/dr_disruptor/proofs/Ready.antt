@@ -32,7 +32,7 @@ use Rattle.dr_disruptor.proofs.Through.{all_went, end_back, many_back}
 use Rattle.dr_disruptor.specs.Running.{AreSettled, HasAll, refusal_of}
 
 -- a run that was not refused for its handlers lacked memory or a thread
-pub memory_is : (graph given : ℕ) → given ≡ graph → refusal_of graph given ≡ fault.Memory
+pub memory_is : (graph given : ℕ) → given ≡ graph → refusal_of graph given fault.Memory ≡ fault.Memory
 memory_is graph given same = rw (eq-eqb graph given (sym same)) refl
 
 module _ {E : Type 0} where

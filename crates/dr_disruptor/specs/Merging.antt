@@ -1,5 +1,5 @@
 -- What came of a run with several senders: what each handler went through, and the run of the ring.
-use Rattle.std.specs.Prelude.{◌≡◌, ℕ, ◌≤◌, ◌==◌, ◌^◌, if◌then◌else◌, List, length, map}
+use Rattle.std.specs.Prelude.{◌≡◌, ℕ, ◌≤◌, ◌^◌, if◌then◌else◌, List, length, map}
 use denote.RawPtr.{Ptr}
 use mathlib.Core.Option.{some}
 use lib.ListN.{get_elem?}
@@ -22,7 +22,7 @@ use Rattle.dr_plain_senders.specs.Calls.Ends.{HalterEnd, ReceiverEnd, SenderEnd,
 use Rattle.dr_plain_senders.specs.Calls.Making.{receiver_at_ring, sender_at_ring}
 use Rattle.dr_plain_senders.specs.Calls.Settling.{GivesBack, HasRun, handler_counts}
 use Rattle.dr_disruptor.specs.declared.fault.RunFault.{RunFault}
-use Rattle.dr_disruptor.specs.declared.fault.RunFault.TheVariants.{Handlers, Memory, Senders}
+use Rattle.dr_disruptor.specs.declared.fault.RunFault.TheVariants.{Memory, Senders}
 use Rattle.dr_disruptor.specs.declared.feeds.Delivered.{Delivered}
 use Rattle.dr_disruptor.specs.declared.running.RunOutcome.{RunOutcome}
 use Rattle.dr_disruptor.specs.declared.served.Served.{Served}
@@ -30,9 +30,9 @@ use Rattle.dr_disruptor.specs.Feeding.{LeavesClosed}
 use Rattle.dr_plain_senders.specs.Calls.InPlace.{SawSome, does_in_place, sending_of}
 use Rattle.dr_disruptor.specs.Serving.{AreServed, CameBackServed, Worker, given_end, given_handler}
 
--- of a graph of so many handlers, where so many handlers and closures were given: that the handlers differ, then that no ring has so many senders, and else a lack of memory or of a thread
-abbrev pub refusal_of : ℕ → ℕ → ℕ → RunFault
-refusal_of graph given feeds = if graph == given then (if has_bad_producers (Multi feeds) then Senders feeds else Memory) else Handlers graph given
+-- of so many closures: that no ring has so many senders, and else a lack of memory or of a thread
+abbrev pub refusal_of_senders : ℕ → RunFault
+refusal_of_senders feeds = if has_bad_producers (Multi feeds) then Senders feeds else Memory
 
 module _ {E : Type 0} where
   -- a ring of a graph, so many slots and so many senders, for as many sequences as there may be, whose events lie there

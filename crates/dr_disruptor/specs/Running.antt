@@ -18,13 +18,13 @@ use Rattle.dr_lent.specs.Events.{events_of}
 use Rattle.dr_plain.specs.Meaning.Settling.{FoundUnhalted, Settles}
 use Rattle.dr_plain.specs.Meaning.Shape.{Shape, handlers_of}
 use Rattle.dr_disruptor.specs.declared.fault.RunFault.{RunFault}
-use Rattle.dr_disruptor.specs.declared.fault.RunFault.TheVariants.{Handlers, Memory}
+use Rattle.dr_disruptor.specs.declared.fault.RunFault.TheVariants.{Handlers}
 use Rattle.dr_disruptor.specs.declared.running.RunOutcome.{RunOutcome}
 use Rattle.dr_disruptor.specs.Serving.{CameBackServed}
 
--- of a graph of so many handlers, where so many were given: that these differ, and else a lack of memory or of a thread
-abbrev pub refusal_of : ℕ → ℕ → RunFault
-refusal_of graph given = if graph == given then Memory else Handlers graph given
+-- of a graph of so many handlers, where so many were given: that these differ, and else another fault
+abbrev pub refusal_of : ℕ → ℕ → RunFault → RunFault
+refusal_of graph given other = if graph == given then other else Handlers graph given
 
 -- a ring of a graph and so many slots, for as many sequences as there may be, whose events lie there
 abbrev pub shape_of : List (List ℕ) → ℕ → Ptr → Shape

@@ -57,7 +57,7 @@ pub(crate) fn open<E: Drop>(
     ensures fresh { IfOk result (λ r. (strip : Ptr) × AreFreshEnds (shape_of graph.now.upstreams size strip) events.items r.0 r.1.items r.2) }
     ensures ends { IfOk result (λ r. AreAllEnds r.0 r.1.items r.2) }
     ensures many { IfOk result (λ r. (handlers ≡ length graph.now.upstreams) × (length r.1.items ≡ handlers)) }
-    ensures refused { IfErr result (λ e. e ≡ refusal_of (length graph.now.upstreams) handlers) }
+    ensures refused { IfErr result (λ e. e ≡ refusal_of (length graph.now.upstreams) handlers RunFault.Memory) }
 {
     let expected = graph.len();
     if handlers != expected {
@@ -173,7 +173,7 @@ pub fn run<
     requires place { (given : SenderEnd E) (answer : A) (back : SenderEnd E) → FnOnceReturnsAtMut F.FnOnce send given answer back → sender_place back ≡ sender_place given }
     ensures ran { IfOk result (IsOutcomeBy (FnOnceReturnsAtMut F.FnOnce send) (λ sender. sender) H.goes T.listed T.went way.batch (shape_of graph.now.upstreams size) events.items handlers) }
     ensures many { IfOk result (λ _. length (T.listed handlers) ≡ length graph.now.upstreams) }
-    ensures refused { IfErr result (λ e. e ≡ refusal_of (length graph.now.upstreams) (length (T.listed handlers))) }
+    ensures refused { IfErr result (λ e. e ≡ refusal_of (length graph.now.upstreams) (length (T.listed handlers)) RunFault.Memory) }
 {
     let given = handlers.many();
     let (fresh, receivers, halter, bell) = open(alloc, graph, size, events, given)?;

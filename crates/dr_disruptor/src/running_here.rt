@@ -77,7 +77,7 @@ pub fn run_here<
     ensures ran { IfOk result (IsOutcomeBy (λ (given : HereEnd E H) (answer : A) (back : HereEnd E H). F.gives send answer (sending_here given).published (sending_here back).published) (λ here. here.sender) H.goes T.listed T.went way.batch (shape_of graph.now.upstreams size) events.items handlers) }
     // It takes as many handlers as the graph has; any other fault than that is `Memory`.
     ensures many { IfOk result (λ _. length (T.listed handlers) ≡ length graph.now.upstreams) }
-    ensures refused { IfErr result (λ e. e ≡ refusal_of (length graph.now.upstreams) (length (T.listed handlers))) }
+    ensures refused { IfErr result (λ e. e ≡ refusal_of (length graph.now.upstreams) (length (T.listed handlers)) RunFault.Memory) }
 {
     let given = handlers.many();
     let (sender, receivers, halter, bell) = open(alloc, graph, size, events, given)?;

@@ -10,7 +10,8 @@ ghost use Rattle.dr_plain_senders.specs.Calls.Making.{AreFreshEnds};
 ghost use Rattle.dr_plain_senders.specs.Calls.Settling.{AreAllEnds};
 ghost use Rattle.dr_plain_senders.specs.Calls.Ends.{received_of};
 ghost use Rattle.dr_disruptor.specs.Feeding.{AreSent, IsUnsent};
-ghost use Rattle.dr_disruptor.specs.Merging.{IsOutcomeByAll, IsWoundUp, LeavesSender, refusal_of, shape_of};
+ghost use Rattle.dr_disruptor.specs.Merging.{IsOutcomeByAll, IsWoundUp, LeavesSender, refusal_of_senders, shape_of};
+ghost use Rattle.dr_disruptor.specs.Running.{refusal_of};
 ghost use Rattle.dr_disruptor.specs.Serving.{AreInBatches, IsIdle, given_end, given_handler};
 
 use crate::fault::RunFault;
@@ -56,7 +57,7 @@ fn open<E: Drop>(
     ensures many { IfOk result (λ r. (handlers ≡ length graph.now.upstreams) × (length r.1.items ≡ handlers) × (length r.0.items ≡ feeds)) }
     ensures lawful { IsGraph graph.now.upstreams × (0 < size) }
     ensures fits { IfOk result (λ _. has_bad_producers (Multi feeds) ≡ false) }
-    ensures refused { IfErr result (λ e. e ≡ refusal_of (length graph.now.upstreams) handlers feeds) }
+    ensures refused { IfErr result (λ e. e ≡ refusal_of (length graph.now.upstreams) handlers (refusal_of_senders feeds)) }
 {
     let expected = graph.len();
     let _some = size.get();
@@ -224,7 +225,7 @@ pub fn run_senders<
     ensures ran { IfOk result (IsOutcomeByAll (FnOnceReturnsAtMut F.FnOnce) H.goes T.listed T.went way.batch (shape_of graph.now.upstreams size events.items (length feeds.items)) feeds.items handlers) }
     ensures many { IfOk result (λ _. length (T.listed handlers) ≡ length graph.now.upstreams) }
     ensures few { IfOk result (λ _. has_bad_producers (Multi (length feeds.items)) ≡ false) }
-    ensures refused { IfErr result (λ e. e ≡ refusal_of (length graph.now.upstreams) (length (T.listed handlers)) (length feeds.items)) }
+    ensures refused { IfErr result (λ e. e ≡ refusal_of (length graph.now.upstreams) (length (T.listed handlers)) (refusal_of_senders (length feeds.items))) }
 {
     let (given, many) = (handlers.many(), feeds.len());
     let (senders, receivers, halter, bell) = open(alloc, graph, size, events, given, many)?;

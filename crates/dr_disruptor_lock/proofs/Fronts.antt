@@ -10,7 +10,7 @@ use Rattle.dr_workers.specs.declared.fault.WorkFault.{WorkFault}
 use Rattle.dr_workers.specs.declared.producer.Produced.{Produced}
 use Rattle.dr_runs.proofs.Elements.{at_below, value_at}
 use Rattle.dr_disruptor_lock.specs.declared.sending.Delivered.{Delivered}
-use Rattle.dr_disruptor_lock.specs.Joining.{endings_from}
+use Rattle.dr_lock.specs.Calls.Ended.{endings_from}
 use Rattle.dr_disruptor_lock.specs.Running.{AreFine, fronts}
 
 -- what the workers gave back of their scripts is what they sent of them

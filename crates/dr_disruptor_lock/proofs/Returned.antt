@@ -17,6 +17,7 @@ use Rattle.dr_workers.specs.declared.fault.WorkFault.{WorkFault}
 use Rattle.dr_runs.proofs.Elements.{at_below, there, value_at}
 use Rattle.dr_runs.proofs.Lists.{at_behind}
 use Rattle.dr_lock.specs.Calls.Asking.{InletAsks, OutletAsks}
+use Rattle.dr_lock.specs.Calls.Ended.{GoesOnBy, endings_from}
 use Rattle.dr_lock.specs.Calls.Lock.{EndView, HasHalted, no_calls}
 use Rattle.dr_lock.specs.Meaning.Audit.{Faults, IsAudited}
 use Rattle.dr_lock.specs.Meaning.History.{History, transcript}
@@ -31,8 +32,8 @@ use Rattle.dr_disruptor_lock.specs.declared.serving.Served.{Served}
 use Rattle.dr_disruptor_lock.specs.declared.watching.Watching.{Watching}
 use Rattle.dr_disruptor_lock.specs.declared.workers.Joined.{Joined}
 use Rattle.dr_disruptor_lock.specs.Jobs.{AreJobs, AreTasks, IsJobOf, IsTaskOf}
-use Rattle.dr_disruptor_lock.specs.Joining.{IsJoined, IsSettled, endings_from}
-use Rattle.dr_disruptor_lock.specs.Running.{HasSent, HasServed, IsAmiss, IsFirstShownOther, IsHistoryOf, IsOutcome, WasShown, fronts}
+use Rattle.dr_disruptor_lock.specs.Joining.{IsJoined, IsSettled}
+use Rattle.dr_disruptor_lock.specs.Running.{HasSent, HasServed, IsAmiss, IsFirstShownOther, IsOutcome, WasShown, fronts}
 use Rattle.dr_disruptor_lock.specs.Serving.{Sending, Serving}
 use Rattle.dr_disruptor_lock.specs.Watching.{HasListed, IsFirstUnlike, IsNew}
 use Rattle.dr_disruptor_lock.proofs.Alike.{listed_as_shown, shown_as_listed}
@@ -323,7 +324,7 @@ module _ {L A : Type 0} (begun : History Event) (size : ℕ) (goes : Relation Ev
       length-map sent (λ (s : Delivered L). s.produced) ∙ many_sent,
       were_shown.many,
     );
-    history = subst (λ (n : ℕ). IsHistoryOf begun n (joined.halter ∷ map (λ (s : Served L A). s.end) served ++ map (λ (s : Delivered L). s.end) sent) ran.recorded.history)
+    history = subst (λ (n : ℕ). GoesOnBy begun n (joined.halter ∷ map (λ (s : Served L A). s.end) served ++ map (λ (s : Delivered L). s.end) sent) ran.recorded.history)
         same came.history;
     serving = λ h start at.
         let one = were_shown.each h start at in

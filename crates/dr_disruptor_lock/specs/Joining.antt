@@ -1,12 +1,11 @@
 -- What the functions of a run promise one another of what its workers gave back.
-use Rattle.std.specs.Prelude.{◌≡◌, ℕ, ◌+◌, List, [], ◌∷◌, ◌++◌, All, length, map, Option, Result, Ok, Err, IfErr, IfOk}
+use Rattle.std.specs.Prelude.{◌≡◌, ℕ, List, ◌∷◌, ◌++◌, All, length, map, Result, Ok, Err, IfErr, IfOk}
 use mathlib.Core.Option.{some}
 use lib.ListN.{get_elem?}
 use Rattle.dr_seq.specs.declared.event.Event.{Event}
 use Rattle.dr_meaning.specs.Calls.Handling.{Relation}
 use Rattle.dr_meaning.specs.Meaning.Machine.{handlers}
-use Rattle.dr_workers.specs.declared.ended.Ended.{Ended}
-use Rattle.dr_workers.specs.declared.fault.WorkFault.{WorkFault}
+use Rattle.dr_lock.specs.Calls.Ended.{GoesOnBy, endings_from}
 use Rattle.dr_lock.specs.Calls.Lock.{EndView, HasHalted, no_calls}
 use Rattle.dr_lock.specs.Meaning.Audit.{IsAudited}
 use Rattle.dr_lock.specs.Meaning.History.{History, transcript}
@@ -16,7 +15,7 @@ use Rattle.dr_disruptor_lock.specs.declared.running.RunOutcome.{RunOutcome}
 use Rattle.dr_disruptor_lock.specs.declared.sending.Delivered.{Delivered}
 use Rattle.dr_disruptor_lock.specs.declared.serving.Served.{Served}
 use Rattle.dr_disruptor_lock.specs.declared.workers.Joined.{Joined}
-use Rattle.dr_disruptor_lock.specs.Running.{IsAmiss, IsHistoryOf}
+use Rattle.dr_disruptor_lock.specs.Running.{IsAmiss}
 use Rattle.dr_disruptor_lock.specs.Serving.{Sending, Serving}
 use Rattle.dr_disruptor_lock.specs.Watching.{HasListed, IsFirstUnlike}
 
@@ -48,14 +47,9 @@ abbrev pub ComesBack : {L A : Type 0} → History Event → ℕ → Relation Eve
 ComesBack begun size goes halter jobs tasks (Ok joined) = IsJoined begun size goes halter jobs tasks joined
 ComesBack begun size goes halter jobs tasks (Err halted) = HasHalted halter halted
 
--- how workers ended whose numbers rise from a first one
-abbrev pub endings_from : ℕ → List (Option WorkFault) → List Ended
-endings_from who [] = []
-endings_from who (f ∷ faults) = record { who = who; fault = f } ∷ endings_from (who + 1) faults
-
 -- what came of what all workers gave back
 pub record IsSettled {L A : Type 0} (begun : History Event) (had : ℕ) (joined : Joined L A) (ran : RunOutcome A) : Type 0 where
-  pub history : IsHistoryOf begun had (joined.halter ∷ map (λ s. s.end) joined.served.items ++ map (λ s. s.end) joined.sent.items) ran.recorded.history
+  pub history : GoesOnBy begun had (joined.halter ∷ map (λ s. s.end) joined.served.items ++ map (λ s. s.end) joined.sent.items) ran.recorded.history
   pub afters : ran.handlers.items ≡ map (λ s. s.watching.handler) joined.served.items
   pub endings : ran.endings.items ≡ endings_from 0 (map (λ s. s.fault) joined.served.items) ++ endings_from 16 (map (λ s. s.produced.fault) joined.sent.items)
   pub audited : IfOk ran.list (λ list. IsAudited (transcript ran.recorded.history) (handlers ran.recorded.history.core.setup) (map (λ s. s.script.items) joined.sent.items) list.items)

@@ -1,5 +1,5 @@
 -- What came of a run behind a lock: what each handler went through, what each sender sent, how the workers ended, and what the history has of it.
-use Rattle.std.specs.Prelude.{◌≡◌, ◌≢◌, ℕ, ◌+◌, ◌^◌, ◌/◌, ◌<◌, ◌≤◌, true, max, sum_by, List, [], ◌∷◌, ◌++◌, length, map, take, slice_index_or, All, Option, None, Some, IfNone, IfSome, IfOk, IfErr, Err}
+use Rattle.std.specs.Prelude.{◌≡◌, ◌≢◌, ℕ, ◌+◌, ◌^◌, ◌/◌, ◌<◌, ◌≤◌, true, max, List, [], ◌∷◌, ◌++◌, length, map, take, slice_index_or, All, Option, None, Some, IfNone, IfSome, IfOk, IfErr, Err}
 use Rattle.std.specs.List.{last_or, range_with_len}
 use mathlib.Core.Option.{some}
 use lib.ListN.{get_elem?}
@@ -17,9 +17,10 @@ use Rattle.dr_workers.specs.declared.producer.Produced.{Produced}
 use Rattle.dr_workers.specs.Meaning.FirstFault.{first_fault}
 use Rattle.dr_workers.specs.Meaning.Work.{batches_in, shown_of}
 use Rattle.dr_lock.specs.Calls.Asking.{InletAsks, OutletAsks}
+use Rattle.dr_lock.specs.Calls.Ended.{GoesOnBy}
 use Rattle.dr_lock.specs.Calls.Lock.{EndView, HasHalted, no_calls}
 use Rattle.dr_lock.specs.Meaning.Audit.{Faults, FirstLacks, IsAudited}
-use Rattle.dr_lock.specs.Meaning.History.{GoesOn, History, IsRecorded, entries_since, halts_in, transcript}
+use Rattle.dr_lock.specs.Meaning.History.{History, transcript}
 use Rattle.dr_disruptor.specs.Handlers.{AllWentThrough}
 use Rattle.dr_disruptor_lock.specs.declared.comparing.HistoryFault.{HistoryFault}
 use Rattle.dr_disruptor_lock.specs.declared.comparing.HistoryFault.TheVariants.{Audit, Shown}
@@ -57,13 +58,6 @@ pub record HasSent (begun : History Event) (p size : ℕ) (script : List Event) 
   pub all : IfNone produced.fault (produced.sent ≡ length script)
   pub stopped : produced.fault ≢ Some Stopped
 
--- a history that goes on from one which had so many entries, by as many calls as these ends had kept, and as many halts among them
-pub record IsHistoryOf (begun : History Event) (had : ℕ) (ends : List (EndView Event)) (h : History Event) : Type 0 where
-  pub recorded : IsRecorded h
-  pub goes_on : GoesOn begun h
-  pub calls : length h.entries ≡ had + sum_by (λ (end : EndView Event). end.calls) ends
-  pub halts : halts_in (entries_since begun h) ≡ sum_by (λ (end : EndView Event). end.halts) ends
-
 -- a handler was shown just these events, in sequence order from 0 on, and the last of them ended what was available
 pub record WasShown (events : List Event) (showings : List (Showing Event)) : Type 0 where
   pub all : map (λ x. x.event) showings ≡ events
@@ -90,7 +84,7 @@ pub record IsOutcome {A : Type 0} (goes : Relation Event A) (begun : History Eve
   pub halted : HasHalted no_calls halter
   pub many : (length outlets ≡ length starts) × (length inlets ≡ length scripts) × (length produced ≡ length scripts) × (length shown ≡ length starts)
   -- the history has the calls of these ends that were kept, and no other since
-  pub history : IsHistoryOf begun (length begun.entries) (halter ∷ outlets ++ inlets) ran.recorded.history
+  pub history : GoesOnBy begun (length begun.entries) (halter ∷ outlets ++ inlets) ran.recorded.history
   -- each handler had its events through the end at its place, and each script was sent through the end at its place
   pub serving : (h : ℕ) (start : A) → get_elem? starts h ≡ some start
       → (after : A) × (end : EndView Event) × (xs : List (Showing Event)) × (f : Option WorkFault) × (get_elem? ran.handlers.items h ≡ some after)

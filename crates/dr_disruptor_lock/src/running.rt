@@ -6,7 +6,8 @@ ghost use Rattle.dr_meaning.specs.Meaning.Machine.{handlers as handlers_of, setu
 ghost use Rattle.dr_meaning.specs.Calls.OpenFault.{has_bad_producers};
 ghost use Rattle.dr_workers.specs.Meaning.FirstFault.{first_fault as first_of};
 ghost use Rattle.dr_disruptor.specs.Handlers.{AllWentThrough};
-ghost use Rattle.dr_disruptor.specs.Merging.{AllWentThroughMerge, refusal_of};
+ghost use Rattle.dr_disruptor.specs.Merging.{AllWentThroughMerge, refusal_of_senders};
+ghost use Rattle.dr_disruptor.specs.Running.{refusal_of};
 ghost use Rattle.dr_disruptor_lock.specs.Running.{AreFine, IsOutcome, IsRun, IsWhyNot};
 
 use crate::around::Around;
@@ -97,7 +98,7 @@ fn check(graph: usize, given: usize, scripts: usize) -> Result<(), RunFault>
     ensures many { OnOk result (given ≡ graph) }
     ensures few { OnOk result (scripts ≤ 16) }
     ensures fits { OnOk result (has_bad_producers (Multi scripts) ≡ false) }
-    ensures refused { IfErr result (λ e. e ≡ refusal_of graph given scripts) }
+    ensures refused { IfErr result (λ e. e ≡ refusal_of graph given (refusal_of_senders scripts)) }
 {
     if given != graph {
         return Err(RunFault::Handlers { graph, given });
@@ -125,7 +126,7 @@ fn open(
     ensures many { IfOk result (λ _. handlers ≡ length graph.upstreams) }
     ensures few { IfOk result (λ _. length scripts.now ≤ 16) }
     ensures fits { IfOk result (λ _. has_bad_producers (Multi (length scripts.now)) ≡ false) }
-    ensures refused { IfErr result (λ e. e ≡ refusal_of (length graph.upstreams) handlers (length scripts.now)) }
+    ensures refused { IfErr result (λ e. e ≡ refusal_of (length graph.upstreams) handlers (refusal_of_senders (length scripts.now))) }
 {
     let producers = scripts.len();
     check(graph.len(), handlers, producers)?;
@@ -217,7 +218,7 @@ pub fn run_locked<R: Threads + Wait + Sync, H: InPlaceHandler<Event> + Drop + Se
     // It takes as many handlers as the graph has, and 1 to 16 scripts; any other fault is `Memory`.
     ensures many { IfOk result (λ _. length handlers.items ≡ length graph.upstreams) }
     ensures few { IfOk result (λ _. has_bad_producers (Multi (length scripts.items)) ≡ false) }
-    ensures refused { IfErr result (λ e. e ≡ refusal_of (length graph.upstreams) (length handlers.items) (length scripts.items)) }
+    ensures refused { IfErr result (λ e. e ≡ refusal_of (length graph.upstreams) (length handlers.items) (refusal_of_senders (length scripts.items))) }
 {
     let given = handlers.len();
     let (recorded, events) = open(alloc, graph, size, given, scripts.as_slice())?;

@@ -1,8 +1,8 @@
 //! How what the workers gave back comes together.
 
 ghost use Rattle.std.specs.Prelude.{◌≡◌, ◌+◌, ◌≤◌, ◌++◌, IfOk, OnOk, length, map};
-ghost use Rattle.dr_disruptor_lock.specs.Joining.{IsSettled, endings_from};
-ghost use Rattle.dr_disruptor_lock.specs.Running.{IsHistoryOf};
+ghost use Rattle.dr_lock.specs.Calls.Ended.{GoesOnBy, endings_from};
+ghost use Rattle.dr_disruptor_lock.specs.Joining.{IsSettled};
 
 use crate::comparing::compared;
 use crate::running::RunOutcome;
@@ -79,7 +79,7 @@ fn taken_out<L: Exchange<Event>>(
     ends: Vec<End<Event, L>>,
 ) -> Recorded<Event>
     requires all { shared.given ≤ length ends.items }
-    ensures { IsHistoryOf L.begun shared.begun ends.items result.history }
+    ensures { GoesOnBy L.begun shared.begun ends.items result.history }
 {
     match finish(shared, ends) {
         Ok(recorded) => {

@@ -2,3 +2,4 @@
 pub mod Lock
 pub mod AuditFault
 pub mod Asking
+pub mod Ended

@@ -1,15 +1,17 @@
 -- What was left in all places comes out of the slots.
-use Rattle.std.proofs.Common.{◌≡◌, ◌≢◌, ℕ, zero, suc, ◌+◌, ◌-◌, ◌<◌, ◌≤◌, false, ltb, List, [], ◌∷◌, ◌++◌, length, get_or, set, take, Option, Some, None, MatchOption}
+use Rattle.std.proofs.Common.{◌≡◌, ◌≢◌, ℕ, zero, suc, ◌+◌, ◌-◌, ◌<◌, ◌≤◌, false, ltb, List, [], ◌∷◌, ◌++◌, length, get_or, set, take, Contains, IfNone, IfSome, IsSome, Option, Some, None, MatchOption}
 use Rattle.std.proofs.Common.{refl, sym, ap, ◌∙◌, subst, arith, ⊎_elim, get_or-set_same, get_or-set_other}
 use Rattle.std.proofs.lemmas.Bool.{cases_lt, lt-ltb, le-ltb}
+use Rattle.std.proofs.lemmas.List.Elements.{All-contains}
 use mathlib.Core.Logic.{dite}
 use mathlib.Core.Option.{some, some-injective, some-ne-none}
 use native.Mathlib.Decide.{ℕ_discrete}
 use lib.ListN.{get_elem?}
 use Rattle.core.specs.Mem.Slots.{slots_filled, slots_items, slots_len, slots_counts}
 use Rattle.core.specs.declared.slots.Slots.{Slots}
-use Rattle.atomic_table.specs.Table.{Final}
-use Rattle.dr_places.specs.Rule.{Keeps}
+use Rattle.atomic_table.specs.Table.{Final, Seen}
+use Rattle.dr_places.specs.declared.sight.Sight.{Sight}
+use Rattle.dr_places.specs.Rule.{AreAll, Keeps, PlacesOf}
 use Rattle.dr_places.specs.Gathered.{AreLeft, AreSome, AreThere, somes}
 
 pub found : (words : List ℕ) (i n : ℕ) → get_elem? words i ≡ some n → get_or words i 0 ≡ n
@@ -99,7 +101,7 @@ module _ {L : Type 0} where
   pub none_filled : (a : Slots (Option L)) (count : ℕ) → count ≡ 0 → AreThere a count → (k : ℕ) → k < slots_len a → get_or (slots_filled a) k false ≡ false
   none_filled a count none A k lt = A.filled k lt ∙ le-ltb k count (omega arith)
 
-  module _ {V : Type 0} (belongs : ℕ → L → Type 0) (words : List ℕ) (items : List (Option L)) (F : Final {V = V} (Keeps belongs) words items) (left : AreLeft words) where
+  module _ (belongs : ℕ → L → Type 0) (words : List ℕ) (items : List (Option L)) (F : Final {V = Sight} (Keeps belongs) words items) (left : AreLeft words) where
     left_at : (i : ℕ) → i < length items → (l : L) × (get_elem? items i ≡ some (Some l)) × belongs i l
     left_at i lt =
         let K = F.1 in let wide = K.wide in let same = F.2 in let many = F.3 in let long = ap length same in
@@ -114,3 +116,34 @@ module _ {L : Type 0} where
     all_belong i l at =
         let here = somes_at items all_some i l at in let t = left_at i (below items i (Some l) here) in
         subst (λ (x : L). belongs i x) (sym (same_value l t.0 (some-injective (Some l) (Some t.0) (sym here ∙ t.1)))) t.2
+
+-- what is so of what comes out, if anything does
+pub each_some : {A : Type 0} (P Q : A → Type 0) → ((a : A) → P a → Q a) → (o : Option A) → IfSome o P → IfSome o Q
+each_some P Q f None h = h
+each_some P Q f (Some a) h = f a h
+
+-- something does, where that nothing does would say that not everything was left
+pub never_none : {A P : Type 0} (o : Option A) → IfNone o (P → ⊥) → P → IsSome o
+never_none None h p = absurd (h p)
+never_none (Some a) h p = refl
+
+module _ {L K : Type 0} (belongs : K → ℕ → L → Type 0) (p : PlacesOf K) (words : List ℕ) (slots : Slots (Option L)) where
+  -- what comes out of closed places is all that belongs there
+  pub are_all : Final {V = Sight} (Keeps (belongs p.key)) words (slots_items slots) → slots_len slots ≡ p.count → (o : Option (List L))
+      → IfSome o (λ all. AreLeft words × (all ≡ somes (slots_items slots))) → IfSome o (AreAll p belongs)
+  are_all F many o h = each_some (λ all. AreLeft words × (all ≡ somes (slots_items slots))) (AreAll p belongs)
+      (λ all it. (
+        ap length it.1 ∙ somes_all (slots_items slots) (all_some (belongs p.key) words (slots_items slots) F it.0) ∙ sym (slots_counts slots).0 ∙ many,
+        λ i l at. all_belong (belongs p.key) words (slots_items slots) F it.0 i l (ap (λ (xs : List L). get_elem? xs i) (sym it.1) ∙ at),
+      )) o h
+
+-- who saw that something lies in each place knows that all was left
+pub all_left : {L : Type 0} (belongs : ℕ → L → Type 0) (words : List ℕ) (items : List (Option L)) (id count : ℕ) (v : Sight)
+    → Final (Seen (Keeps belongs) id v) words items → length words ≡ count → ((place : ℕ) → place < count → Contains v.left place) → AreLeft words
+all_left belongs words items id count v F many has i lt =
+    let s = F.0 in let K = F.1.0 in let seen = K.seen id v F.1.1 in
+    ap (λ (ws : List ℕ). get_or ws i 0) (sym F.2) ∙ All-contains (λ place. get_or s.words place 0 ≡ 2) v.left i seen.left (has i (omega arith))
+
+pub only_final : {L : Type 0} (belongs : ℕ → L → Type 0) (words : List ℕ) (items : List (Option L)) (id : ℕ) (v : Sight)
+    → Final (Seen (Keeps belongs) id v) words items → Final {V = Sight} (Keeps belongs) words items
+only_final belongs words items id v F = (F.0, F.1.0, F.2, F.3, F.4)

@@ -1,6 +1,6 @@
 //! What was left in all places.
 
-ghost use Rattle.std.specs.Prelude.{◌≡◌, ℕ, ◌<◌, [], ◌∷◌, ◌++◌, List, length, MatchOption, IsTrue};
+ghost use Rattle.std.specs.Prelude.{◌≡◌, ℕ, ◌<◌, [], ◌∷◌, ◌++◌, List, false, length, IfNone, IfSome, MatchOption, IsTrue};
 ghost use Rattle.core.specs.Mem.Slots.{slots_len, slots_items, IsFull};
 ghost use mathlib.Core.Option.{some};
 ghost use lib.ListN.{get_elem?};
@@ -33,7 +33,8 @@ impl<L> Model for Gathered<L> {
 // Whether something was left in each place.
 pub(crate) fn are_all_there<L>(closed: &Closed<Option<L>, Global>) -> bool
     requires { IsFull closed.now.words × (slots_len closed.now.words ≡ slots_len closed.now.slots) }
-    ensures { IsTrue result → AreLeft (slots_items closed.now.words) }
+    ensures left { IsTrue result → AreLeft (slots_items closed.now.words) }
+    ensures empty { result ≡ false → AreLeft (slots_items closed.now.words) → ⊥ }
 {
     for place in 0..closed.slot_count() {
         if closed.word(place) != LEFT {
@@ -51,6 +52,20 @@ pub(crate) fn let_go<L: Drop>(mut closed: Closed<Option<L>, Global>)
         drop(closed.take(place));
     }
     closed.free();
+}
+
+// All that was left, where something lies in each place; else what lies there is dropped.
+pub(crate) fn gather<L: Drop>(closed: Closed<Option<L>, Global>) -> Option<Gathered<L>>
+    requires full { IsFull closed.words × IsFull closed.slots × (slots_len closed.words ≡ slots_len closed.slots) }
+    requires there { AreLeft (slots_items closed.words) → AreSome (slots_items closed.slots) }
+    ensures all { IfSome result (λ all. AreLeft (slots_items closed.words) × (all ≡ somes (slots_items closed.slots))) }
+    ensures none { IfNone result (AreLeft (slots_items closed.words) → ⊥) }
+{
+    if are_all_there(&closed) {
+        return Some(Gathered::of(closed));
+    }
+    let_go(closed);
+    None
 }
 
 impl<L> Gathered<L> {

@@ -6,6 +6,8 @@
 
 pub mod gathered;
 pub mod places;
+pub mod sight;
 
 pub use gathered::Gathered;
 pub use places::{Belongs, Places};
+pub use sight::{Evidence, Refused};

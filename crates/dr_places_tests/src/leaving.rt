@@ -53,6 +53,42 @@ fn all_that_is_left_comes_out_from_the_last_on(rt: HostRuntime) -> Result<(), Fa
     Ok(())
 }
 
+// Whether three find their places empty, and all that they left comes out.
+fn leave_all(
+    places: Places<Numbered, u64>,
+    first: Numbered,
+    second: Numbered,
+    third: Numbered,
+) -> bool
+    requires places { (places.key ≡ 7) × (places.count ≡ 3) }
+    requires numbers { (first.number ≡ 7) × (second.number ≡ 8) × (third.number ≡ 9) }
+{
+    let Ok(first) = places.leave(0, first) else {
+        return false;
+    };
+    let Ok(second) = places.leave(1, second) else {
+        return false;
+    };
+    let Ok(third) = places.leave(2, third) else {
+        return false;
+    };
+    let two = places.both(first, second);
+    let all = places.both(two, third);
+    places.close_knowing(all).is_some()
+}
+
+#[test]
+fn who_saw_it_all_knows_that_it_comes_out(rt: HostRuntime) -> Result<(), Fail> {
+    let held = Arc::new(rt.alloc(), 0u64)?;
+    let places = three_places(rt.alloc())?;
+    let first = make_numbered(7, &held)?;
+    let second = make_numbered(8, &held)?;
+    let third = make_numbered(9, &held)?;
+    assert!(rt; leave_all(places, first, second, third));
+    assert!(rt; Arc::strong_count(&held) == 1);
+    Ok(())
+}
+
 #[test]
 fn what_lies_beside_an_empty_place_is_dropped(rt: HostRuntime) -> Result<(), Fail> {
     let held = Arc::new(rt.alloc(), 0u64)?;

@@ -22,14 +22,14 @@ use Rattle.dr_runs.specs.declared.look.Look.{Look}
 use Rattle.dr_plain.specs.declared.record.SenderRecord.{SenderRecord}
 use Rattle.dr_runs.specs.declared.written.Written.{Written}
 use Rattle.dr_plain.specs.Meaning.Lying.{placed}
-use Rattle.dr_plain.specs.Meaning.Records.{claimed, laid, halt_looked, Laid}
+use Rattle.dr_plain.specs.Meaning.Records.{claimed, halt_looked, laid, remembers, Laid}
 use Rattle.dr_lent.specs.Events.{events_of}
 use Rattle.dr_runs.specs.Looks.{look, last_look}
 use Rattle.dr_runs.specs.OneSender.Looks.{count_looks}
 use Rattle.dr_plain.specs.Calls.Ends.{SenderStand, SenderEnd, sent_of}
 use Rattle.dr_plain.specs.Calls.Plans.{IsPlan}
 use Rattle.dr_plain.specs.Calls.Sending.{gate_looks, FoundRoom, LooksToClaim, TriesToClaim, ClaimCall, tests_of_claim}
-use Rattle.dr_plain.specs.Inside.Scans.{sender_saw, more_claimed, LooksAtFinals, IsEnough, IsShort}
+use Rattle.dr_plain.specs.Inside.Scans.{sender_saw, more_claimed, LooksAtFinals, IsEnough, IsShort, Scans}
 use Rattle.dr_plain.specs.Inside.Fits.{IsSeenLeast, SenderFields, SenderFits, TokensFit, open_slots}
 use Rattle.dr_plain.specs.Inside.Hands.{no_lents}
 use Rattle.dr_lent.specs.Ends.{with_hand}
@@ -40,6 +40,7 @@ use Rattle.dr_plain.specs.Inside.Views.{sender_end}
 use Rattle.dr_plain.proofs.Collecting.{between_count, blanks_count, laid_count}
 use Rattle.dr_runs.proofs.Answering.{bad_count_fails}
 use Rattle.dr_runs.specs.OneSender.Scans.{Rises}
+use Rattle.dr_runs.proofs.Remembered.{remembers_at_halt}
 use Rattle.dr_runs.proofs.Scans.{rises_then, rises_at_halt}
 use Rattle.dr_runs.proofs.Looks.{last_look_else}
 use Rattle.dr_runs.proofs.Elements.{at_below, there}
@@ -82,17 +83,18 @@ module _ {T : Type 0} where
   pub tokens_saw : (r : SenderRecord T) (xs : List Look) (tokens : List (Token T)) → TokensFit r tokens → TokensFit (sender_saw r xs) tokens
   tokens_saw r xs tokens F = record { count = F.count; opened = F.opened; others = F.others }
 
-  -- a sender that has only looked
-  pub fits_saw : {e e' : SenderStand T} {f : SenderFields T} (xs : List Look) → SenderFits e f → LooksAtFinals e.knows xs e'.knows → e'.hand ≡ e.hand
-      → SenderFits e' f
-  fits_saw {e = e} {e' = e'} {f = f} xs F S same = fits_as e' f (sender_saw e.knows xs) e.hand S.is same (record {
+  -- a sender that has only looked, and now remembers so many
+  fits_saw : {e e' : SenderStand T} {f : SenderFields T} (xs : List Look) (kept : ℕ) → SenderFits e f → LooksAtFinals e.knows xs e'.knows → e'.hand ≡ e.hand
+      → kept ≤ f.published_to → IsSeenLeast e'.knows kept → kept ≡ remembers e'.knows → SenderFits e' (record f { remembered = kept })
+  fits_saw {e = e} {e' = e'} {f = f} xs kept F S same low seen is = fits_as e' (record f { remembered = kept }) (sender_saw e.knows xs) e.hand S.is same (record {
     made = F.made;
     next = F.next;
     front = F.front;
     limit = F.limit;
     near = F.near;
-    least = F.least;
-    seen = λ h has. (let a = F.seen h has in let b = S.rises h in omega arith);
+    least = low;
+    seen = subst (λ (q : SenderRecord T). IsSeenLeast q kept) S.is seen;
+    remembered = is ∙ ap remembers S.is;
     written = F.written;
     tokens = tokens_saw e.knows xs f.tokens F.tokens;
     hand = F.hand;
@@ -104,27 +106,19 @@ module _ {T : Type 0} where
   -- a sender that has looked at halt, and claimed nothing
   pub fits_halt : {e e' : SenderStand T} {f : SenderFields T} (q v : ℕ) → SenderFits e f → e'.knows ≡ halt_looked e.knows q v → (v ≡ 0 → q ≡ 0)
       → e'.hand ≡ e.hand → SenderFits e' f
-  fits_halt {e = e} {e' = e'} q v F is none same = fits_saw (look halt_word v ∷ []) F (saw_halt e.knows e'.knows q v is none) same
+  fits_halt {e = e} {e' = e'} {f = f} q v F is none same =
+      let S = saw_halt e.knows e'.knows q v is none in
+      let kept : remembers e'.knows ≡ remembers e.knows = ap remembers S.is ∙ remembers_at_halt (finals e.knows.plan.upstreams) e.knows.looks v in
+      fits_saw (look halt_word v ∷ []) f.remembered F S same F.least
+      (subst (λ (x : SenderRecord T). IsSeenLeast x f.remembered) (sym S.is) (λ h has. (let a = F.seen h has in let b = S.rises h in omega arith)))
+      (F.remembered ∙ sym kept)
 
-  -- a sender that has found room, and remembers how many events every final completed
-  pub fits_room : {e e' : SenderStand T} {f : SenderFields T} {xs : List Look} {needed found : ℕ} (remembers : ℕ) → SenderFits e f
-      → LooksAtFinals e.knows xs e'.knows
-      → e'.hand ≡ e.hand → IsEnough e.knows xs needed found → remembers ≡ found → SenderFits e' (record f { remembered = remembers })
-  fits_room {e' = e'} {f = f} {xs = xs} {found = found} remembers F S same E raised = let saw : SenderFits e' f = fits_saw xs F S same in record {
-    made = saw.made;
-    next = saw.next;
-    front = saw.front;
-    limit = saw.limit;
-    near = saw.near;
-    least = let a = E.front in let b = F.front in omega arith;
-    seen = subst (λ (m : ℕ). IsSeenLeast e'.knows m) (sym raised) (subst (λ (q : SenderRecord T). IsSeenLeast q found) (sym S.is) E.seen);
-    written = saw.written;
-    tokens = saw.tokens;
-    hand = saw.hand;
-    strip = saw.strip;
-    cells = saw.cells;
-    places = saw.places;
-  }
+  -- a sender that has looked for room, and remembers what it found
+  pub fits_room : {e e' : SenderStand T} {f : SenderFields T} {needed found : ℕ} (kept : ℕ) → SenderFits e f → Scans e.knows needed e'.knows found
+      → e'.hand ≡ e.hand → kept ≡ found → SenderFits e' (record f { remembered = kept })
+  fits_room {e' = e'} {f = f} {found = found} kept F H same raised =
+      subst (λ (n : ℕ). SenderFits e' (record f { remembered = n })) (sym raised)
+      (fits_saw H.seen found F H.looks same (let a = H.front in let b = F.front in omega arith) H.least H.kept)
 
   -- the tokens of a sender that has claimed n more, and has their cells whole
   pub tokens_claimed : (r : SenderRecord T) (n : ℕ) (seen : List Look) (tokens tokens' : List (Token T)) → claimed r + n ≤ r.plan.size + length r.published
@@ -185,6 +179,7 @@ module _ {T : Type 0} where
             let a = F.seen h in_finals in
             let b : last_look 0 (r.looks ++ look halt_word 0 ∷ []) (count_word h) ≡ last_look 0 r.looks (count_word h) =
             last_look_else 0 r.looks halt_word (count_word h) 0 (λ (z : halt_word ≡ count_word h). omega arith) in omega arith);
+        remembered = F.remembered ∙ sym (remembers_at_halt (finals r.plan.upstreams) r.looks 0);
         written = noted_more r.plan.size (claimed r) (claimed (more_claimed r q)) f.written (omega arith) F.written;
         tokens = tokens_claimed r q (look halt_word 0 ∷ []) f.tokens tokens near F.tokens W S many;
         hand = refl;
@@ -313,16 +308,24 @@ module _ {T : Type 0} (e : SenderStand T) (w : Written) (cells : List (Option T)
   plan : s.plan ≡ began.plan
   plan = ap (λ (x : SenderRecord T). x.plan) S.first
 
-  gated : (least : ℕ) (E : IsEnough s xs needed least) → xs ≡ gate_looks began E.counts
-  gated least E = E.are ∙ ap (λ (k : Shape). count_looks (finals k.upstreams) E.counts) plan
+  -- the first look, at halt, left what is remembered
+  remembers_still : remembers s ≡ remembers began
+  remembers_still = ap remembers (saw_halt began s 0 0 S.first (λ z. refl)).is ∙ remembers_at_halt (finals began.plan.upstreams) began.looks 0
 
-  room : (least : ℕ) (E : IsEnough s xs needed least) → FoundRoom began q E.counts
-  room least E =
-      let saw : sender_saw s xs ≡ sender_saw began (look halt_word 0 ∷ gate_looks began E.counts) =
-      sym S.scan.is ∙ scanned.is ∙ ap (λ (ys : List Look). sender_saw began (look halt_word 0 ∷ ys)) (gated least E) in
-      let low = subst (λ (x : SenderRecord T). IsSeenLeast x least) saw E.seen in
-      let next = S.next in let need = S.need in let enough = E.enough in record {
-        all = subst (λ (k : Shape). (E.counts ≡ []) ⊎ (length E.counts ≡ length (finals k.upstreams))) plan E.all;
+  gated : (counts : List ℕ) → xs ≡ count_looks (finals s.plan.upstreams) counts → xs ≡ gate_looks began counts
+  gated counts are = are ∙ ap (λ (k : Shape). count_looks (finals k.upstreams) counts) plan
+
+  room : (found : ℕ) (E : IsEnough s xs needed) → needed ≤ found → IsSeenLeast t found → FoundRoom began q E.counts
+  room found E enough seen =
+      let saw : t ≡ sender_saw began (look halt_word 0 ∷ gate_looks began E.counts) =
+      scanned.is ∙ ap (λ (ys : List Look). sender_saw began (look halt_word 0 ∷ ys)) (gated E.counts E.are) in
+      let low = subst (λ (x : SenderRecord T). IsSeenLeast x found) saw seen in
+      let next = S.next in let need = S.need in let same = remembers_still in record {
+        all = elim E.all [
+          | inl serves ↦ (let a = serves.0 in inl (omega arith, serves.1))
+          | inr looked ↦ (let a = looked.0 in
+              inr (omega arith, subst (λ (k : Shape). length E.counts ≡ length (finals k.upstreams)) plan looked.1))
+        ];
         room = λ i lt. (let high = E.high i lt in omega arith);
         sees = record { limit = (let limit = S.limit in omega arith); completed = λ f has. (let count = low f has in omega arith) };
       }
@@ -331,33 +334,33 @@ module _ {T : Type 0} (e : SenderStand T) (w : Written) (cells : List (Option T)
   within = le-ltb began.plan.limit (claimed began + q) (let next = S.next in let limit = S.limit in omega arith)
 
   -- a final was too far behind
-  pub claim_no_room : (e' : SenderStand T) → e'.knows ≡ t → IsShort s.plan xs needed
+  pub claim_no_room : (e' : SenderStand T) → e'.knows ≡ t → IsShort s xs needed
       → TriesToClaim (sender_end e w cells) q (sender_end e' w cells) (Err NoRoom)
-  claim_no_room e' is short =
-      let H = subst (λ (k : Shape). IsShort k xs needed) plan short in
+  claim_no_room e' is H =
       refused e w cells q made e' NoRoom (look halt_word 0 ∷ gate_looks began H.counts)
       (inr (refl, inr (bad_count_fails q began.plan.size S.size, inr (refl, inr (within, inl (tt, refl)))))) (
         H.counts,
         record {
+          remembered = let low = H.few in let same = remembers_still in let next = S.next in let need = S.need in omega arith;
           before = H.before;
           last = H.last;
-          among = H.among;
+          among = subst (λ (k : Shape). length H.counts ≤ length (finals k.upstreams)) plan H.among;
           room = λ i lt. (let high = H.high i lt in let next = S.next in let need = S.need in omega arith);
           behind = let low = H.low in let next = S.next in let need = S.need in omega arith;
         },
         refl,
       )
-      (is ∙ scanned.is ∙ ap (λ (ys : List Look). sender_saw began (look halt_word 0 ∷ ys)) H.are)
+      (is ∙ scanned.is ∙ ap (λ (ys : List Look). sender_saw began (look halt_word 0 ∷ ys)) (gated H.counts H.are))
 
   -- the last look found the ring halted
-  pub claim_halted_late : (e' : SenderStand T) (least : ℕ) → IsEnough s xs needed least → e'.knows ≡ halt_looked t q 1
+  pub claim_halted_late : (e' : SenderStand T) (found : ℕ) → IsEnough s xs needed → needed ≤ found → IsSeenLeast t found → e'.knows ≡ halt_looked t q 1
       → TriesToClaim (sender_end e w cells) q (sender_end e' w cells) (Err Halted)
-  claim_halted_late e' least E last =
+  claim_halted_late e' found E enough low last =
       refused e w cells q made e' Halted (look halt_word 0 ∷ gate_looks began E.counts ++ look halt_word 1 ∷ [])
       (inr (refl, inr (bad_count_fails q began.plan.size S.size, inl (tt, refl))))
-      (inr (record { counts = E.counts; room = room least E; saw = refl }))
+      (inr (record { counts = E.counts; room = room found E enough low; saw = refl }))
       ((saw_then began t e'.knows (look halt_word 0 ∷ xs) (look halt_word 1 ∷ []) scanned (saw_halt t e'.knows q 1 last (λ z. absurd (omega arith)))).is
-      ∙ ap (λ (ys : List Look). sender_saw began (look halt_word 0 ∷ ys ++ look halt_word 1 ∷ [])) (gated least E))
+      ∙ ap (λ (ys : List Look). sender_saw began (look halt_word 0 ∷ ys ++ look halt_word 1 ∷ [])) (gated E.counts E.are))
 
   -- what was written of the open sequences, once q more are claimed
   more_writes : Noted began.plan.size (claimed began) w → shown e w cells q made (more_claimed began q) ≡ with_claimed (shown e w cells q made began) q
@@ -370,10 +373,10 @@ module _ {T : Type 0} (e : SenderStand T) (w : Written) (cells : List (Option T)
   claimed_shown : claimed began ≡ claimed_in (shown e w cells q made began)
   claimed_shown = let a = length-map began.published (λ (l : Lent T). l.event) in let b = writes_count w cells (length began.published) began.pending in omega arith
 
-  pub claim_accepted : (e' : SenderStand T) (cells' : List (Option T)) (least : ℕ) (c : Claimed) → Noted began.plan.size (claimed began) w
-      → cells' ≡ cells → IsEnough s xs needed least
+  pub claim_accepted : (e' : SenderStand T) (cells' : List (Option T)) (found : ℕ) (c : Claimed) → Noted began.plan.size (claimed began) w
+      → cells' ≡ cells → IsEnough s xs needed → needed ≤ found → IsSeenLeast t found
       → e'.knows ≡ halt_looked t q 0 → c ≡ record { lo = n; hi = n + q - 1 } → TriesToClaim (sender_end e w cells) q (sender_end e' w cells') (Ok c)
-  claim_accepted e' cells' least c N same E last gives =
+  claim_accepted e' cells' found c N same E enough low last gives =
       let seen = look halt_word 0 ∷ gate_looks began E.counts ++ look halt_word 0 ∷ [] in
       let lo : c.lo ≡ n = ap (λ (x : Claimed). x.lo) gives in
       let hi : c.hi ≡ n + q - 1 = ap (λ (x : Claimed). x.hi) gives in
@@ -381,13 +384,13 @@ module _ {T : Type 0} (e : SenderStand T) (w : Written) (cells : List (Option T)
       let only : e'.knows ≡ more_claimed (sender_saw began seen) q =
       last ∙ ap (λ (x : SenderRecord T). halt_looked x q 0) scanned.is
       ∙ ap (λ (ys : List Look). more_claimed (record began { looks = ys }) q) (append_assoc began.looks (look halt_word 0 ∷ xs) (look halt_word 0 ∷ []))
-      ∙ ap (λ (ys : List Look). more_claimed (sender_saw began (look halt_word 0 ∷ ys ++ look halt_word 0 ∷ [])) q) (gated least E) in
+      ∙ ap (λ (ys : List Look). more_claimed (sender_saw began (look halt_word 0 ∷ ys ++ look halt_word 0 ∷ [])) q) (gated E.counts E.are) in
       subst (λ (os : List (Option T)). TriesToClaim (sender_end e w cells) q (sender_end e' w os) (Ok c)) (sym same) (record {
         answer = (refl, (bad_count_fails q began.plan.size S.size, (refl, (within, (refl, tt)))));
         stretch = (omega arith, omega arith, omega arith);
         sent = (lo ∙ S.next ∙ claimed_shown, ap (shown e w cells q made) only ∙ more_writes N);
         seen = seen;
-        looks = (E.counts, room least E, refl);
+        looks = (E.counts, room found E enough low, refl);
         only = only ∙ ap (λ (p : ℕ). record began { pending = p; looks = began.looks ++ seen }) (sym (ap (λ (x : SenderRecord T). x.pending) only));
         known = sym (writes_count w cells (length began.published) began.pending);
         counted = sym (writes_count w cells (length e'.knows.published) e'.knows.pending);

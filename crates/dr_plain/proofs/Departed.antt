@@ -1,5 +1,6 @@
 -- The ends that come together, by what each has: in the views of their seats, and in what they keep.
 use Rattle.std.proofs.Common.{◌≡◌, ℕ, ◌+◌, ◌-◌, ◌≤◌, List, [], ◌∷◌, ◌++◌, map, length, Option, refl, ap, sym, subst, arith, ◌∙◌}
+use Rattle.std.proofs.lemmas.List.{length-append}
 use mathlib.Core.Option.{some}
 use lib.ListN.{get_elem?}
 use Rattle.atomic_table.specs.Seated.{TableId}
@@ -10,7 +11,7 @@ use Rattle.dr_runs.specs.declared.written.Written.{Written}
 use Rattle.dr_runs.specs.Gathering.{Known, IsInView, ViewRan}
 use Rattle.dr_runs.specs.Seats.{end_of}
 use Rattle.dr_runs.proofs.Gathering.{in_own}
-use Rattle.dr_runs.proofs.Lists.{at_map}
+use Rattle.dr_runs.proofs.Lists.{at_map, no_elements}
 use Rattle.dr_runs.specs.declared.counts.HandlerCounts.{HandlerCounts}
 use Rattle.dr_plain.specs.Meaning.Shape.{Shape}
 use Rattle.dr_plain.specs.Meaning.Records.{claimed}
@@ -26,7 +27,6 @@ use Rattle.dr_plain.specs.Inside.Fits.{SenderFields, SenderFits, TokensFit}
 use Rattle.dr_plain.specs.Inside.Gathering.{sender_known, receiver_known, halter_known}
 use Rattle.dr_plain.specs.Inside.Finishing.{first_lent, left_of, HasAllEnds, AreLanes}
 use Rattle.dr_plain.specs.Inside.Bringing.{AreHandsOf, EndsKeep}
-use Rattle.dr_plain.specs.Inside.Leaving.{BelongsSender}
 use Rattle.dr_plain.proofs.Gathering.{Together, all_stand}
 use Rattle.dr_plain.proofs.Ending.{own_sender, own_halter}
 use Rattle.dr_plain.proofs.Handed.{lanes_of}
@@ -37,13 +37,12 @@ pub last_one : {A : Type 0} (P : ℕ → A → Type 0) (all left : List A) (x : 
 last_one P all left x each popped =
     each (length left) x (subst (λ (xs : List _). get_elem? xs (length left) ≡ some x) (sym popped) (at_last left x (length left) refl))
 
-module _ {T : Type 0} where
-  -- the last of what senders left, by what the places were told, belongs to the ring
-  pub last_sender : (ring at : TableId) (k plan : Shape) (all left : List (SenderEnd T)) (e : SenderEnd T)
-      → ((i : ℕ) (x : SenderEnd T) → get_elem? all i ≡ some x → BelongsSender ring k x) → all ≡ left ++ e ∷ [] → ring ≡ at → k ≡ plan → BelongsSender at plan e
-  last_sender ring at k plan all left e each popped same made = subst (λ (x : TableId × Shape). BelongsSender x.0 x.1 e) (λ i. (same i, made i))
-      (last_one (λ _ (x : SenderEnd T). BelongsSender ring k x) all left e each popped)
+-- and where there is one alone, that is it
+pub only_one : {A : Type 0} (all left : List A) (x : A) → length all ≡ 1 → all ≡ left ++ x ∷ [] → all ≡ x ∷ []
+only_one all left x one popped =
+    let none : length left ≡ 0 = omega (arith, one, ap length popped, length-append left (x ∷ [])) in popped ∙ ap (λ (l : List _). l ++ x ∷ []) (no_elements left none)
 
+module _ {T : Type 0} where
   -- an end's own seat has it in its view
   pub sender_in : (ring : TableId) (me : Sitting T) (w : Written) (cells : List (Option T)) (s : SenderEnd T) → IsSender (end_of me)
       → sender_end (sender_stand ring me) w cells ≡ s → IsInView ring_ends me.0 (sender_known s)

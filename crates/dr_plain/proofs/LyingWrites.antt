@@ -55,6 +55,7 @@ module _ {T : Type 0} where
       near = F.near;
       least = F.least;
       seen = F.seen;
+      remembered = F.remembered;
       written = noted_published e.knows.plan.size _ u f.written w (omega arith) new F.written;
       tokens = F.tokens;
       hand = F.hand;

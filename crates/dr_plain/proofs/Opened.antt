@@ -23,7 +23,9 @@ use Rattle.dr_plain.specs.Meaning.Records.{Laid}
 use Rattle.dr_plain.specs.Calls.Plans.{IsPlan}
 use Rattle.dr_plain.specs.Calls.Ends.{SenderStand}
 use Rattle.dr_plain.specs.Inside.Fits.{Keeps, TokensFit, SenderFits}
+use Rattle.dr_graph.specs.Meaning.Graph.{finals}
 use Rattle.dr_runs.proofs.Elements.{there}
+use Rattle.dr_runs.proofs.Remembered.{remembers_none}
 
 module _ {T : Type 0} where
   -- each cell is whole, and holds its event
@@ -70,6 +72,7 @@ module _ {T : Type 0} where
         near = omega arith;
         least = omega arith;
         seen = λ f has. omega arith;
+        remembered = remembers_none (finals k.upstreams) 0 refl;
         written = record { slots = (let z : ℕ = 0 in length-replicate k.size z); upto = omega arith; fresh = λ s low. none_marked k.size s };
         tokens = tokens_new k events tokens (size_positive k.size made.size) count many (subst (λ (q : Ptr). AreWhole q events tokens) here each);
         hand = refl;

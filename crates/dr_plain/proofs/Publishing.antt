@@ -293,6 +293,7 @@ module _ {T : Type 0} {e : SenderStand T} {f : SenderFields T} (tokens : List (T
             near = omega arith;
             least = omega arith;
             seen = F.seen;
+            remembered = F.remembered;
             written = subst (λ (m : ℕ). Noted k.size m w) (let z : claimed before ≡ claimed (published_more before next_lents) = omega arith in z)
                 (noted_published k.size (claimed before) upto f.written w (omega arith) new F.written);
             tokens = tokens_published before next_lents f.tokens tokens (size_positive k.size F.made.size) (omega arith) (omega arith) F.tokens

@@ -91,6 +91,7 @@ module _ {T : Type 0} {e : SenderStand T} {f : SenderFields T} {w : Written} {to
     near = F.near;
     least = F.least;
     seen = F.seen;
+    remembered = F.remembered;
     written = noted_write k.size (claimed r) f.written w s some_slot (omega arith) (omega arith) F.written notes;
     tokens = tokens_written;
     hand = F.hand;

@@ -5,7 +5,7 @@ ghost use Rattle.dr_plain.specs.Meaning.Shape.{handlers_of};
 
 use crate::laws::{RingTable, Words};
 use crate::left::{HalterLeft, ReceiverLeft, SenderLeft};
-use crate::over::end;
+use crate::over::end_left;
 use crate::plan::Plan;
 use dr_places::Places;
 
@@ -22,7 +22,6 @@ pub(crate) struct RingBody<T> {
     ghost many: { (senders.count ≡ 1) × (receivers.count ≡ handlers_of plan) × (halters.count ≡ 1) },
 }
 
-// Where a place is empty its end never was, or is brought together with the others by `settle_all`.
 impl<T: Drop> Drop for RingBody<T> {
     fn drop(self) {
         let RingBody {
@@ -32,17 +31,12 @@ impl<T: Drop> Drop for RingBody<T> {
             receivers,
             halters,
         } = self;
-        let Some(mut senders) = senders.close() else {
-            return;
-        };
-        let Some(receivers) = receivers.close() else {
-            return;
-        };
-        let Some(mut halters) = halters.close() else {
-            return;
-        };
-        let Some(sender) = senders.pop() else { return };
-        let Some(halter) = halters.pop() else { return };
-        drop(end(&table.shared, &plan, sender, receivers, halter));
+        drop(end_left(
+            &table.shared,
+            &plan,
+            senders.close(),
+            receivers.close(),
+            halters.close(),
+        ));
     }
 }

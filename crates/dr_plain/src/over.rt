@@ -1,6 +1,6 @@
 //! A ring ends once all its ends have left.
 
-ghost use Rattle.std.specs.Prelude.{◌≡◌, ◌<◌, length, map, Some};
+ghost use Rattle.std.specs.Prelude.{◌≡◌, ◌<◌, length, map, IfSome, Some};
 ghost use mathlib.Core.Option.{some};
 ghost use lib.ListN.{get_elem?};
 ghost use Rattle.dr_runs.specs.Gathering.{Gathers};
@@ -8,7 +8,7 @@ ghost use Rattle.dr_plain.specs.Calls.Settling.{AreAllEnds, handler_counts};
 ghost use Rattle.dr_plain.specs.Inside.Seats.{ring_ends};
 ghost use Rattle.dr_plain.specs.Inside.Gathering.{AreReceiversAt, receiver_known};
 ghost use Rattle.dr_plain.specs.Inside.Bringing.{AreHandsOf};
-ghost use Rattle.dr_plain.specs.Inside.Leaving.{BelongsSender};
+ghost use Rattle.dr_plain.specs.Inside.Leaving.{AreReceiversLeft, BelongsSender, GivesWhatIsLeft, IsHalterLeft, IsSenderLeft};
 
 use crate::finishing::{bring_receiver, reclaim_all};
 use crate::laws::{RingSeat, Words, settling};
@@ -78,4 +78,36 @@ pub(crate) fn end<T>(
         tokens,
     );
     strip.close(row)
+}
+
+/// Ends a ring by what lies in its places: its events come back. Where a place is empty, its end never
+/// was, or is brought together with the others by `settle_all`; then nothing comes back.
+pub(crate) fn end_left<T: Drop>(
+    words: &Words<T>,
+    plan: &Plan<T>,
+    senders: Option<Gathered<SenderLeft<T>>>,
+    receivers: Option<Gathered<ReceiverLeft<T>>>,
+    halters: Option<Gathered<HalterLeft<T>>>,
+) -> Option<Values<T>>
+    requires senders { IfSome senders (IsSenderLeft words.now.table_id plan.now) }
+    requires receivers { IfSome receivers (AreReceiversLeft words.now.table_id plan.now) }
+    requires halters { IfSome halters (IsHalterLeft words.now.table_id) }
+    ensures { GivesWhatIsLeft senders receivers halters result }
+{
+    let Some(mut senders) = senders else {
+        return None;
+    };
+    let Some(receivers) = receivers else {
+        return None;
+    };
+    let Some(mut halters) = halters else {
+        return None;
+    };
+    let Some(sender) = senders.pop() else {
+        unreachable!()
+    };
+    let Some(halter) = halters.pop() else {
+        unreachable!()
+    };
+    Some(end(words, plan, sender, receivers, halter))
 }

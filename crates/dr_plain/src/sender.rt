@@ -51,7 +51,7 @@ impl<T> Model for Sender<T> {
 
 impl<T> Sender<T> {
     /// Claims the next `n` sequences. It looks at halt first, then at the final handlers' counts
-    /// where those that it remembers leave no room, as you read in the code, and at halt once more.
+    /// where those that it remembers leave no room, and at halt once more.
     ///
     /// The causes of a refusal in their order: `BadCount` (none, or more than the size), `Halted`,
     /// `Exhausted`, `NoRoom`, and `Halted` once more. A refused claim may have looked, and changes
@@ -75,10 +75,11 @@ impl<T> Sender<T> {
         let upto = lo + n;
         let need = upto.saturating_sub(size);
         let seen = self.gate.seen();
-        let Some(least) = self.station.make_room(self.published, seen, need) else {
-            return Err(Refusal::NoRoom);
-        };
+        let least = self.station.make_room(seen, need);
         self.gate.raise(least);
+        if least < need {
+            return Err(Refusal::NoRoom);
+        }
         if !self.station.claims(n) {
             return Err(Refusal::Halted);
         }

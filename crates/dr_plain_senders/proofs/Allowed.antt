@@ -1,5 +1,5 @@
 -- Each kind of step of a sender, and of the halter, is allowed.
-use Rattle.std.proofs.Common.{◌≡◌, ℕ, ◌+◌, ◌-◌, ◌*◌, ◌^◌, ◌<◌, ◌≤◌, inl, inr, Bool, true, false, ◌==◌, if◌then◌else◌, List, [], ◌∷◌, ◌++◌, length}
+use Rattle.std.proofs.Common.{◌≡◌, ℕ, ◌+◌, ◌-◌, ◌*◌, ◌^◌, ◌<◌, ◌≤◌, inl, inr, Bool, true, false, ◌==◌, if◌then◌else◌, List, [], ◌∷◌, ◌++◌, map, length}
 use Rattle.std.proofs.Common.{get_or, set, replicate, sym, refl, ap, ◌∙◌, subst, arith}
 use Rattle.std.specs.Prelude.{Contains, bit_or, bit_xor}
 use Rattle.std.proofs.lemmas.Bool.{cases_eq, cases_lt, eq-eqb, ne_eqb, lt-ltb, le-ltb}
@@ -37,7 +37,7 @@ use Rattle.dr_plain_senders.specs.Meaning.Records.{Owns, has_published, sender_l
 use Rattle.dr_lent.specs.Events.{events_of}
 use Rattle.dr_plain_senders.specs.Meaning.Records.{fresh_stage}
 use Rattle.dr_plain_senders.specs.Meaning.Rule.{World, KeepsRule}
-use Rattle.dr_plain_senders.specs.Meaning.Lying.{Laid, Lies}
+use Rattle.dr_plain_senders.specs.Meaning.Lying.{Laid, value_of, Lies}
 use Rattle.dr_plain_senders.specs.Meaning.Steps.{Happens, sender_knows, sender_claims, halted_words}
 use Rattle.dr_plain_senders.specs.Calls.Finds.{FindsOwn, IsEarlier}
 use Rattle.dr_plain_senders.specs.Inside.Seats.{End, Hand, Sitting, Tells, ring_ends, Loads, Stores, Ruled, as_sender, as_halter, sender_of}
@@ -162,17 +162,19 @@ module _ {T : Type 0} where
       subst (λ (i : ℕ). MayLoad key slots id me i SenderLookedAtCount) (sym here) (looks_at_count key slots id me f is has)
 
   -- an exchange, by whether it finds what it expects
-  abbrev exchanged_world : World T → SenderRecord T → ℕ → ℕ → Bool → World T
-  exchanged_world w r c n b = if b then sender_claims w r.number r c n else sender_knows w r.number (sender_looked r claim_word (word_at w.words claim_word))
+  abbrev exchanged_world : World T → SenderRecord T → ℕ → ℕ → List T → Bool → World T
+  exchanged_world w r c n lay b = if b then sender_claims w r.number r c n lay else sender_knows w r.number (sender_looked r claim_word (word_at w.words claim_word))
 
-  abbrev learned : SenderRecord T → ℕ → ℕ → ℕ → Bool → SenderRecord T
-  learned r c n found b = if b then claimed_from r c n else sender_looked r claim_word found
+  abbrev learned : SenderRecord T → ℕ → ℕ → List T → ℕ → Bool → SenderRecord T
+  learned r c n lay found b = if b then claimed_from r c n lay else sender_looked r claim_word found
 
   -- what a sender has is claimed before a claim that the exchange gives, and published where the claim takes its cell
-  earlier : (k : Shape T) (w : World T) (r : SenderRecord T) (c n z : ℕ) (t : Stage T) → get_elem? w.senders r.number ≡ some r → 0 < n → SeesRoom k r c n
-      → word_at w.words claim_word ≡ c → Owns r z t → KeepsRule k w
+  earlier : (k : Shape T) (w : World T) (r : SenderRecord T) (hand : Hand T) (homes : List (maybe.Option (Token T))) (c n z : ℕ) (t : Stage T)
+      → get_elem? w.senders r.number ≡ some r → 0 < n → SeesRoom k r c n
+      → word_at w.words claim_word ≡ c → Owns r z t → KeepsRule k w → Lies k w homes
       → IsEarlier k c (c + n) z t
-  earlier k w r c n z t at some_one room hit own K =
+  earlier k w r hand homes c n z t at some_one room hit own K lies =
+      let found = claim_moves k w r.number c n r hand homes at room hit K lies in
       let here = (owned k w r.number r z own.0 t at own.1 K).1 in
       let inside = at_below w.stages z t here in
       let small = K.shape.small in
@@ -183,15 +185,15 @@ module _ {T : Type 0} where
       omega (arith, length-append w.stages new, length-replicate n (fresh_stage {T = T} r.number)) in (
         omega arith,
         λ hidden. (
-            let near = near_open k (sender_claims w r.number r c n) z t (at_longer w.stages new z t here) hidden
-            (keeps_claims k w r.number c n r at some_one room hit K) in omega arith),
+            let near = near_open k (sender_claims w r.number r c n (map value_of found.0)) z t (at_longer w.stages new z t here) hidden
+            (keeps_claims k w r.number c n (map value_of found.0) r at some_one room hit found.4 K) in omega arith),
       )
 
   -- what an exchange tells, by whether it finds what it expects
   abbrev ClaimTells : Shape T → SenderRecord T → Hand T → ℕ → ℕ → ℕ → ℕ → Bool → End T → Type 0
   ClaimTells k r hand c n v m b me' =
       (laid : List (Laid T)) × LayIn k c (if b then n else 0) laid
-      × (me' ≡ as_sender (learned r c n m b) (taken_by_claim k c laid ++ hand))
+      × (me' ≡ as_sender (learned r c n (map value_of laid) m b) (taken_by_claim k c laid ++ hand))
       × FindsMore r.looks claim_word m × (m ≡ c → (z : ℕ) (t : Stage T) → Owns r z t → IsEarlier k c v z t) × LayAsLent r c laid
 
   claim_acts : (k : Shape T) (w : World T) (r : SenderRecord T) (hand : Hand T) (homes : List (maybe.Option (Token T))) (c n v m : ℕ)
@@ -204,21 +206,22 @@ module _ {T : Type 0} where
       let seen : FindsMore r.looks claim_word m =
       subst (λ (j : ℕ). FindsMore r.looks claim_word j) (sym here) (sender_sees k w r claim_word at (omega arith) K) in
       let before : m ≡ c → (z : ℕ) (t : Stage T) → Owns r z t → IsEarlier k c v z t =
-      λ hit z t own. subst (λ (j : ℕ). IsEarlier k c j z t) sum (earlier k w r c n z t at some_one room (sym here ∙ hit) own K) in
-      let after : (b : Bool) → (m == c) ≡ b → exchanged_world w r c n b ≡ exchanged_world w r c n (word_at w.words claim_word == c) =
-      λ b e. ap (exchanged_world w r c n) (sym e ∙ ap (λ (j : ℕ). j == c) here) in
+      λ hit z t own. subst (λ (j : ℕ). IsEarlier k c j z t) sum (earlier k w r hand homes c n z t at some_one room (sym here ∙ hit) own K lies) in
+      let after : (lay : List T) (b : Bool) → (m == c) ≡ b → exchanged_world w r c n lay b ≡ exchanged_world w r c n lay (word_at w.words claim_word == c) =
+      λ lay b e. ap (exchanged_world w r c n lay) (sym e ∙ ap (λ (j : ℕ). j == c) here) in
       elim (cases_eq m c) [
-        | inl hit ↦ (let b = eq-eqb m c hit in let q = claimed_from r c n in
+        | inl hit ↦ (let b = eq-eqb m c hit in
             let t = claim_moves k w r.number c n r hand homes at room (sym here ∙ hit) K lies in
+            let lay = map value_of t.0 in let q = claimed_from r c n lay in let u = sender_claims w r.number r c n lay in
             subst P (sym b) (record {
               mine = Sends q;
               same = refl;
               does = record {
-                after = sender_claims w r.number r c n;
-                happens = (r, at, (some_one, room, after true b));
+                after = u;
+                happens = (r, at, (some_one, room, lay, λ _. t.4, after lay true b));
                 words = ap (set w.words claim_word) sum;
                 stands = set_here w.senders r.number q (at_below w.senders r.number r at);
-                others = but_sender w (sender_claims w r.number r c n) r q refl refl refl;
+                others = but_sender w u r q refl refl refl;
               };
               hand_after = taken_by_claim k c t.0 ++ hand;
               moves = t.2;
@@ -231,7 +234,7 @@ module _ {T : Type 0} where
               same = refl;
               does = record {
                 after = u;
-                happens = (r, at, (some_one, room, after false b));
+                happens = (r, at, (some_one, room, [], λ e. absurd (miss (here ∙ e)), after [] false b));
                 words = same_words w.words claim_word ∙ ap (set w.words claim_word) (sym here);
                 stands = ap (λ (j : ℕ). get_elem? (set w.senders r.number (sender_looked r claim_word j)) r.number) (sym here)
                     ∙ set_here w.senders r.number q (at_below w.senders r.number r at);

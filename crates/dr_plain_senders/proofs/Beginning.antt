@@ -60,6 +60,7 @@ module _ (T : Type 0) where
           number = refl;
           own = λ i o there. absurd (some-ne-none o (sym there));
           all = λ s t there mine. absurd (some-ne-none t (sym there));
+          taken = λ s x took. absurd (some-ne-none _ (sym took.1));
           looks = λ i x there. absurd (some-ne-none x (sym there));
         }));
     received = λ h r at. (let e : r ≡ fresh_receiver k h = receiver_fresh k 0 (handlers_of k) h r at ∙ (let z : 0 + h ≡ h = omega arith in ap (fresh_receiver k) z) in

@@ -1,7 +1,7 @@
 -- What a claim of a sender comes to.
-use Rattle.std.proofs.Common.{◌≡◌, ◌≢◌, ℕ, ◌+◌, ◌-◌, ◌<◌, ◌≤◌, inl, inr, Bool, true, false, if◌then◌else◌, List, [], ◌∷◌, ◌++◌, sym, refl, ap, ◌∙◌}
+use Rattle.std.proofs.Common.{◌≡◌, ◌≢◌, ℕ, ◌+◌, ◌-◌, ◌<◌, ◌≤◌, inl, inr, Bool, true, false, if◌then◌else◌, List, [], ◌∷◌, ◌++◌, map, length, sym, refl, ap, ◌∙◌}
 use Rattle.std.proofs.Common.{subst, arith, append_assoc}
-use Rattle.std.proofs.lemmas.List.{append-nil}
+use Rattle.std.proofs.lemmas.List.{append-nil, length-map}
 use Rattle.std.specs.Prelude.{◌^◌, Ok, Err}
 use Rattle.std.proofs.lemmas.Bool.{eq-eqb, ne_eqb, le-leb, lt-leb}
 use Rattle.dr_seq.specs.Size.{IsSize}
@@ -12,12 +12,12 @@ use Rattle.dr_runs.specs.declared.look.Look.{Look}
 use Rattle.dr_runs.specs.Looks.{look, last_look}
 use Rattle.dr_plain_senders.specs.Meaning.Shape.{Shape}
 use Rattle.dr_plain_senders.specs.Meaning.Words.{claim_word, is_halted, halt_bit, count_word}
-use Rattle.dr_plain_senders.specs.Meaning.Lying.{Laid}
+use Rattle.dr_plain_senders.specs.Meaning.Lying.{Laid, value_of}
 use Rattle.dr_plain_senders.specs.declared.record.SenderRecord.{SenderRecord}
 use Rattle.dr_plain_senders.specs.declared.record.Step.{Step}
 use Rattle.dr_plain_senders.specs.declared.record.Step.TheVariants.{SenderClaims}
 use Rattle.dr_meaning.specs.declared.claim_fault.ClaimFault.TheVariants.{Refused, Contended}
-use Rattle.dr_plain_senders.specs.Meaning.Records.{sender_looked, claimed_from, SeesRoom, Owns}
+use Rattle.dr_plain_senders.specs.Meaning.Records.{sender_looked, claimed_from, taken_from, SeesRoom, Owns}
 use Rattle.dr_runs.specs.Runs.{IsBeginning}
 use Rattle.dr_runs.proofs.Beginnings.{begins_on}
 use Rattle.dr_lent.specs.Ends.{HasLoaded, HasStored}
@@ -30,6 +30,7 @@ use Rattle.dr_plain_senders.specs.Inside.Seats.{Hand, LayIn, LayAsLent, taken_by
 use lib.ListN.{get_elem?}
 use Rattle.dr_plain_senders.specs.declared.record.Stage.{Stage}
 use Rattle.dr_plain_senders.specs.declared.record.Own.{Own}
+use Rattle.dr_plain_senders.specs.declared.record.Taken.{Taken}
 
 pub going : (found : ℕ) → found < 9223372036854775808 → is_halted found ≡ false
 going found lt = lt-leb halt_bit found (omega arith)
@@ -71,19 +72,23 @@ module _ {T : Type 0} where
       → record (sender_saw r seen) { looks = (r.looks ++ seen) ++ x ∷ [] } ≡ sender_saw r (seen ++ x ∷ [])
   last_one r seen x = ap (λ (xs : List Look). record r { looks = xs }) (append_assoc r.looks seen (x ∷ []))
 
-  pub hit : (r s t : SenderRecord T) (seen : List Look) (c hi n found : ℕ) → s ≡ sender_saw r seen → t ≡ after_exchange s c n found → found ≡ c
-      → t ≡ knows_after r n (seen ++ look claim_word (c + n) ∷ []) (Ok record { lo = c; hi = hi })
-  hit r s t seen c hi n found was is same =
-      is ∙ (let P : Bool → SenderRecord T = λ b. if b then claimed_from s c n else sender_looked s claim_word found in ap P (eq-eqb found c same))
-      ∙ ap (λ (x : SenderRecord T). claimed_from x c n) was
-      ∙ ap (λ (xs : List Look). record (claimed_from r c n) { looks = xs }) (append_assoc r.looks seen (look claim_word (c + n) ∷ []))
+  pub hit : (r s t : SenderRecord T) (seen : List Look) (c hi n found : ℕ) (lay : List T) → s ≡ sender_saw r seen → t ≡ after_exchange s c n lay found
+      → found ≡ c → t ≡ knows_after r n (seen ++ look claim_word (c + n) ∷ []) lay (Ok record { lo = c; hi = hi })
+  hit r s t seen c hi n found lay was is same =
+      is ∙ (let P : Bool → SenderRecord T = λ b. if b then claimed_from s c n lay else sender_looked s claim_word found in ap P (eq-eqb found c same))
+      ∙ ap (λ (x : SenderRecord T). claimed_from x c n lay) was
+      ∙ ap (λ (xs : List Look). record (claimed_from r c n lay) { looks = xs }) (append_assoc r.looks seen (look claim_word (c + n) ∷ []))
 
-  pub missed : (r s t : SenderRecord T) (seen : List Look) (c n found : ℕ) → s ≡ sender_saw r seen → t ≡ after_exchange s c n found → found ≢ c
+  pub missed : (r s t : SenderRecord T) (seen : List Look) (c n found : ℕ) (lay : List T) → s ≡ sender_saw r seen → t ≡ after_exchange s c n lay found
+      → found ≢ c
       → t ≡ sender_saw r (seen ++ look claim_word found ∷ [])
-  missed r s t seen c n found was is other =
-      is ∙ (let P : Bool → SenderRecord T = λ b. if b then claimed_from s c n else sender_looked s claim_word found in ap P (ne_eqb found c other))
+  missed r s t seen c n found lay was is other =
+      is ∙ (let P : Bool → SenderRecord T = λ b. if b then claimed_from s c n lay else sender_looked s claim_word found in ap P (ne_eqb found c other))
       ∙ ap (λ (x : SenderRecord T). sender_looked x claim_word found) was
       ∙ last_one r seen (look claim_word found)
+
+  all_claimed : (c n found : ℕ) → found ≡ c → exchanged c n found ≡ n
+  all_claimed c n found same = ap (λ (x : Bool). if x then n else 0) (eq-eqb found c same)
 
   -- an exchange for which there was room, by what it found
   pub record Tried (e : SenderStand T) (n c found : ℕ) (e' : SenderStand T) : Type 0 where
@@ -93,20 +98,22 @@ module _ {T : Type 0} where
     pub room : FoundRoom e.knows.plan c n counts
     pub middle : SenderRecord T
     pub looked : middle ≡ sender_saw e.knows (first_looks e.knows.plan c counts)
-    pub knows : e'.knows ≡ after_exchange middle c n found
+    pub lay : List T
+    pub each : found ≡ c → length lay ≡ n
+    pub knows : e'.knows ≡ after_exchange middle c n lay found
     pub stored : e'.stored ≡ e.stored ++ SenderClaims e.knows.number c n ∷ []
     pub past : IsBeginning e.past e'.past
     pub few : e.knows.plan.limit ≤ 2 ^ 62
     pub size : IsSize e.knows.plan.size
 
-  pub tried : (e a b e' : SenderStand T) (h : Hand T) (n c need found : ℕ)
+  pub tried : (e a b e' : SenderStand T) (h : Hand T) (n c need found : ℕ) (laid : List (Laid T)) → LayIn b.knows.plan c (exchanged c n found) laid
       → HasLoaded e (sender_looked e.knows claim_word c) e.hand a → HasLoaded a b.knows a.hand b
       → Scans a.knows need b.knows true
-      → HasStored b (SenderClaims b.knows.number c n) (after_exchange b.knows c n found) h e'
+      → HasStored b (SenderClaims b.knows.number c n) (after_exchange b.knows c n (map value_of laid) found) h e'
       → IsCount e.knows.plan n → c < 9223372036854775808 → c + n ≤ e.knows.plan.limit
       → need ≡ c + n - e.knows.plan.size → e.knows.plan.limit ≤ 2 ^ 62 → IsSize e.knows.plan.size
       → Tried e n c found e'
-  tried e a b e' h n c need found A B S C counted low limit is few size =
+  tried e a b e' h n c need found laid L A B S C counted low limit is few size =
       let q = sender_looked e.knows claim_word c in
       let scan : Scans q need b.knows true = subst (λ (r : SenderRecord T). Scans r need b.knows true) A.1 S in
       let mid = looked_first e.knows.plan e.knows q b.knows c scan.0 refl scan.1 in record {
@@ -116,6 +123,8 @@ module _ {T : Type 0} where
         room = found_room e.knows.plan c n need scan.0 (going c low) limit is scan.2;
         middle = b.knows;
         looked = mid;
+        lay = map value_of laid;
+        each = λ hit_now. length-map laid value_of ∙ L.count ∙ all_claimed c n found hit_now;
         knows = C.1;
         stored = C.4 ∙ ap (λ (xs : List (Step T)). xs ++ SenderClaims b.knows.number c n ∷ []) (B.4 ∙ A.4)
             ∙ ap (λ (q : SenderRecord T). e.stored ++ SenderClaims q.number c n ∷ []) mid;
@@ -131,7 +140,9 @@ module _ {T : Type 0} where
     counts = T.counted;
     seen = first_looks e.knows.plan c T.counts ++ look claim_word (c + n) ∷ [];
     looks = (T.counts, T.room, last, refl, refl);
-    knows = hit e.knows T.middle e'.knows (first_looks e.knows.plan c T.counts) c hi n found T.looked T.knows same;
+    lay = T.lay;
+    each = T.each same;
+    knows = hit e.knows T.middle e'.knows (first_looks e.knows.plan c T.counts) c hi n found T.lay T.looked T.knows same;
     steps = SenderClaims e.knows.number c n ∷ [];
     stored = T.stored;
     past = T.past;
@@ -146,7 +157,9 @@ module _ {T : Type 0} where
     counts = T.counted;
     seen = first_looks e.knows.plan c T.counts ++ look claim_word found ∷ [];
     looks = (found, stopped found high, inr (c, T.counts, T.room, refl, refl));
-    knows = missed e.knows T.middle e'.knows (first_looks e.knows.plan c T.counts) c n found T.looked T.knows other;
+    lay = [];
+    each = refl;
+    knows = missed e.knows T.middle e'.knows (first_looks e.knows.plan c T.counts) c n found T.lay T.looked T.knows other;
     steps = SenderClaims e.knows.number c n ∷ [];
     stored = T.stored;
     past = T.past;
@@ -161,7 +174,9 @@ module _ {T : Type 0} where
     counts = T.counted;
     seen = first_looks e.knows.plan c T.counts ++ look claim_word found ∷ [];
     looks = (c, found, T.counts, T.room, other, going found low, refl, refl);
-    knows = missed e.knows T.middle e'.knows (first_looks e.knows.plan c T.counts) c n found T.looked T.knows other;
+    lay = [];
+    each = refl;
+    knows = missed e.knows T.middle e'.knows (first_looks e.knows.plan c T.counts) c n found T.lay T.looked T.knows other;
     steps = SenderClaims e.knows.number c n ∷ [];
     stored = T.stored;
     past = T.past;
@@ -183,20 +198,28 @@ module _ {T : Type 0} where
       → HasLoaded e (sender_looked e.knows claim_word c) e.hand a → HasLoaded a b.knows a.hand b
       → Scans a.knows need b.knows true → (laid : List (Laid T))
       → LayIn b.knows.plan c (exchanged c n found) laid → b'.hand ≡ taken_by_claim b.knows.plan c laid ++ b.hand
-      → LayAsLent b.knows c laid → found ≡ c → claimed.lo ≡ c → ClaimTakes e n b' (Ok claimed)
-  claim_taken e a b b' n c need found claimed A B S laid L hand O hit lo =
+      → LayAsLent b.knows c laid → b'.knows ≡ after_exchange b.knows c n (map value_of laid) found
+      → found ≡ c → claimed.lo ≡ c → ClaimTakes e n b' (Ok claimed)
+  claim_taken e a b b' n c need found claimed A B S laid L hand O after hit lo =
       let plan : b.knows.plan ≡ e.knows.plan = ap (λ (r : SenderRecord T). r.plan) S.1 ∙ ap (λ (r : SenderRecord T). r.plan) A.1 in
       let list : b.knows.own ≡ e.knows.own = ap (λ (r : SenderRecord T). r.own) S.1 ∙ ap (λ (r : SenderRecord T). r.own) A.1 in
       let same : b.hand ≡ e.hand = B.2 ∙ A.2 in
-      let all : exchanged c n found ≡ n = ap (λ (x : Bool). if x then n else 0) (eq-eqb found c hit) in
+      let taken : b.knows.taken ≡ e.knows.taken = ap (λ (r : SenderRecord T). r.taken) S.1 ∙ ap (λ (r : SenderRecord T). r.taken) A.1 in
+      let lay_now : List T = map value_of laid in
+      let more : b'.knows.taken ≡ b.knows.taken ++ taken_from c lay_now =
+      ap (λ (r : SenderRecord T). r.taken) after
+      ∙ ap (λ (x : Bool). (if x then claimed_from b.knows c n lay_now else sender_looked b.knows claim_word found).taken) (eq-eqb found c hit) in
+      let all : exchanged c n found ≡ n = all_claimed c n found hit in
       let lay : LayIn e.knows.plan c n laid = subst (λ (k : Shape T). LayIn k c n laid) plan (subst (λ (m : ℕ). LayIn b.knows.plan c m laid) all L) in
-      subst (λ (q : ℕ). (xs : List (Laid T)) × LayIn e.knows.plan q n xs × (b'.hand ≡ taken_by_claim e.knows.plan q xs ++ e.hand) × LayAsLent e.knows q xs)
+      subst (λ (q : ℕ). (xs : List (Laid T)) × LayIn e.knows.plan q n xs × (b'.hand ≡ taken_by_claim e.knows.plan q xs ++ e.hand) × LayAsLent e.knows q xs
+      × (b'.knows.taken ≡ e.knows.taken ++ taken_from q (map value_of xs)))
       (sym lo) (
         laid,
         lay,
         hand ∙ (λ i. taken_by_claim (plan i) c laid ++ same i),
         λ i s x t l at place own out. O i s x t l at (place ∙ ap (λ (k : Shape T). k.size + s) (sym plan))
             (own.0, ap (λ (xs : List (Own T)). get_elem? xs own.0) list ∙ own.1) out,
+        more ∙ ap (λ (xs : List (Taken T)). xs ++ taken_from c lay_now) taken,
       )
 
   -- the first look found the ring halted
@@ -208,6 +231,8 @@ module _ {T : Type 0} where
     seen = look claim_word c ∷ [];
     steps = [];
     looks = (c, stopped c high, inl (refl, refl));
+    lay = [];
+    each = refl;
     knows = A.1;
     stored = A.4 ∙ sym (append-nil e.stored);
     past = A.3;
@@ -241,6 +266,8 @@ module _ {T : Type 0} where
           refl,
           refl,
         );
+        lay = [];
+        each = refl;
         knows = looked_first e.knows.plan e.knows q b.knows c scan.0 refl scan.1;
         stored = B.4 ∙ A.4 ∙ sym (append-nil e.stored);
         past = begins_on e.past a.past b.past A.3 B.3;

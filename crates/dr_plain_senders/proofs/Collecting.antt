@@ -16,11 +16,10 @@ use Rattle.dr_runs.proofs.Lists.{past_end, map_there}
 use Rattle.dr_lent.proofs.Lists.{drop_seam, drop_at}
 use Rattle.dr_plain_senders.specs.Meaning.Shape.{Shape}
 use Rattle.dr_plain_senders.specs.Meaning.Words.{cell_of, lanes_of}
-use Rattle.dr_plain_senders.specs.Meaning.Lying.{Laid, unlent, lent, kept_of}
+use Rattle.dr_plain_senders.specs.Meaning.Lying.{Laid, unlent, lent, value_of, kept_of}
 use Rattle.dr_lent.specs.Ends.{StandOf, with_hand}
 use Rattle.dr_plain_senders.specs.Inside.Rows.{row, blank_row, blank_rows, IsWholeOf, AreCollected, first_in, events_in, HaveThoseOf}
 use Rattle.dr_plain_senders.specs.Inside.Seats.{Hand, LayIn, IsOfRound, taken_by_claim}
-use Rattle.dr_plain_senders.specs.Inside.Finishing.{value_of}
 use Rattle.dr_plain_senders.proofs.Rowing.{row_count}
 
 -- one row more

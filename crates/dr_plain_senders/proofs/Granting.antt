@@ -1,6 +1,6 @@
 -- What a claim leaves of a sender's fields, and what its caller sees.
 use Rattle.std.proofs.Common.{◌≡◌, ℕ, zero, suc, ◌+◌, ◌-◌, ◌*◌, ◌^◌, ◌<◌, ◌≤◌, ◌⊎◌, inl, inr, Bool, true, false, not, ◌&&◌, if◌then◌else◌, List, []}
-use Rattle.std.proofs.Common.{◌∷◌, ◌++◌, map, drop, get_or, replicate, sym, refl, ap, ◌∙◌, subst, arith}
+use Rattle.std.proofs.Common.{◌∷◌, ◌++◌, map, length, drop, get_or, replicate, sym, refl, ap, ◌∙◌, subst, arith}
 use Rattle.std.specs.Prelude.{None, Some, Option, Result}
 use Rattle.std.proofs.lemmas.Bool.{cases_Bool, cases_lt}
 use Rattle.std.proofs.Math.Nat.{mod-lt}
@@ -20,10 +20,11 @@ use Rattle.dr_runs.proofs.Elements.{there, value_at}
 use Rattle.dr_runs.proofs.Lists.{map_there}
 use Rattle.dr_plain_senders.specs.Meaning.Shape.{Shape}
 use Rattle.dr_plain_senders.specs.Meaning.Words.{cell_of, lanes_of}
-use Rattle.dr_plain_senders.specs.Meaning.Lying.{Laid, unlent, lent}
-use Rattle.dr_plain_senders.specs.Meaning.Records.{Owns, fresh_stage, fresh_own}
+use Rattle.dr_plain_senders.specs.Meaning.Lying.{Laid, unlent, lent, value_of}
+use Rattle.dr_plain_senders.specs.Meaning.Records.{Owns, Took, fresh_stage, fresh_own, taken_from}
 use Rattle.dr_plain_senders.specs.declared.record.Stage.{Stage}
 use Rattle.dr_plain_senders.specs.declared.record.Own.{Own}
+use Rattle.dr_plain_senders.specs.declared.record.Taken.{Taken}
 use Rattle.dr_plain_senders.specs.declared.record.SenderRecord.{SenderRecord}
 use Rattle.dr_plain_senders.specs.Calls.Ends.{SenderStand}
 use Rattle.dr_plain_senders.specs.Calls.Finds.{IsEarlier}
@@ -33,11 +34,12 @@ use Rattle.dr_plain_senders.specs.Inside.Owned.{Owned, after_claim, is_open}
 use Rattle.dr_lent.specs.Ends.{with_hand}
 use Rattle.dr_plain_senders.specs.Inside.Rows.{blank_rows, AreCollected}
 use Rattle.dr_plain_senders.specs.Inside.Seats.{Hand, LayIn, LayAsLent, IsOfRound, taken_by_claim}
-use Rattle.dr_plain_senders.specs.Inside.Finishing.{value_of}
 use Rattle.dr_plain_senders.proofs.Collecting.{rows_count, HaveLaid}
 use Rattle.dr_plain_senders.proofs.Owning.{marked_was}
 use Rattle.dr_plain_senders.proofs.Wiped.{wiped_none}
 use Rattle.dr_plain_senders.proofs.Opened.{open_later}
+use Rattle.dr_plain_senders.proofs.Places.{more_right}
+use Rattle.dr_plain_senders.proofs.KeepsClaims.{taken_there}
 use Rattle.dr_plain_senders.proofs.Fitting.{no_lent, own_new, whence, marks_claimed, same_row, open_before, open_here}
 
 pub first_of : (a b : Bool) → (a && b) ≡ true → a ≡ true
@@ -217,9 +219,21 @@ module _ {T : Type 0} (e : SenderStand T) (o : Owned) (end lo n : ℕ) (tokens t
       ∙ (λ i. old_writes e.knows.own i ++ new_writes e.knows.number lo n (omega arith) i)
 
   -- in the cell of each sequence of the stretch lies what lay there
+  -- and the sender remembers it
+  took_there : (laid : List (Laid T)) (s : ℕ) (a : Laid T) (x : T) → q.taken ≡ e.knows.taken ++ taken_from lo (map value_of laid) → lo ≤ s
+      → get_elem? laid (s - lo) ≡ some a → value_of a ≡ x → Took q s x
+  took_there laid s a x more low at same =
+      let lay = map value_of laid in let i = length e.knows.taken + (s - lo) in let place : lo + (s - lo) ≡ s = omega arith in (
+        i,
+        ap (λ (xs : List (Taken T)). get_elem? xs i) more
+            ∙ more_right e.knows.taken (taken_from lo lay) (s - lo) (record { sequence = lo + (s - lo); event = value_of a })
+            (taken_there lo lay (s - lo) (value_of a) (map_there value_of laid (s - lo) a at))
+            ∙ (λ j. let o : Taken T = record { sequence = place j; event = same j } in some o),
+      )
+
   pub gains_cells : (laid : List (Laid T)) → LayIn e.knows.plan lo n laid → LayAsLent e.knows lo laid → HaveLaid e.knows.plan lo (lo + n) laid tokens'
-      → GainsCells e.knows lo n (cells_of tokens) (cells_of tokens')
-  gains_cells laid L O H = let f : Token T → Option T = λ x. held x.hold in record {
+      → q.taken ≡ e.knows.taken ++ taken_from lo (map value_of laid) → GainsCells e.knows q lo n (cells_of tokens) (cells_of tokens')
+  gains_cells laid L O H more_taken = let f : Token T → Option T = λ x. held x.hold in record {
     gained = λ s low lt. (let size : 0 < e.knows.plan.size = omega arith in let inside : cell_of e.knows.plan s < e.knows.plan.size = mod-lt s size in
         let many = collected.count in
         let count = F.count in
@@ -233,6 +247,7 @@ module _ {T : Type 0} (e : SenderStand T) (o : Owned) (end lo n : ℕ) (tokens t
             λ first. was_begun e.knows.plan s a.0 (subst (λ (q : ℕ). IsOfRound e.knows.plan q a.0) at (L.rounds (s - lo) a.0 a.1)) first ∙ ap (λ (x : T). some x) same,
             λ z u l place own out. sym same ∙ ap (λ (b : Laid T). value_of b) (O (s - lo) z a.0 u l a.1 (at ∙ place) own out),
           ),
+          took_there laid s a.0 W.0 more_taken low a.1 same,
         ));
     others = λ i none. at_map_each f tokens' i ∙ ap (at_each f) (collected.others i none) ∙ sym (at_map_each f tokens i);
   }
@@ -248,6 +263,8 @@ bare_call e e1 e2 hand n result C is =
       seen = C.seen;
       steps = C.steps;
       looks = C.looks;
+      lay = C.lay;
+      each = C.each;
       knows = C.knows;
       stored = C.stored;
       past = C.past;

@@ -30,12 +30,12 @@ module _ {T : Type 0} where
   other_word w i v ne is = ap is_halted (get_or-set_other w.words i claim_word v 0 (λ (e : claim_word ≡ i). ne (sym e))) ∙ is
 
   -- an exchange finds another number than it expects
-  no_claim : (k : Shape T) (w : World T) (p c m n : ℕ) (r : SenderRecord T) → SeesRoom k r c m → KeepsRule k w → HaltedAt n w
-      → HaltedAt n (if word_at w.words claim_word == c then sender_claims w p r c m else sender_knows w p
+  no_claim : (k : Shape T) (w : World T) (p c m n : ℕ) (lay : List T) (r : SenderRecord T) → SeesRoom k r c m → KeepsRule k w → HaltedAt n w
+      → HaltedAt n (if word_at w.words claim_word == c then sender_claims w p r c m lay else sender_knows w p
       (sender_looked r claim_word (word_at w.words claim_word)))
-  no_claim k w p c m n r room K is =
+  no_claim k w p c m n lay r room K is =
       let high = leb-true halt_bit (word_at w.words claim_word) is.0 in let small = K.shape.small in let low = room.limit in
-      subst (λ (b : Bool). HaltedAt n (if b then sender_claims w p r c m else sender_knows w p (sender_looked r claim_word (word_at w.words claim_word))))
+      subst (λ (b : Bool). HaltedAt n (if b then sender_claims w p r c m lay else sender_knows w p (sender_looked r claim_word (word_at w.words claim_word))))
       (sym (ne_eqb (word_at w.words claim_word) c (λ (e : word_at w.words claim_word ≡ c). omega arith))) is
 
   same_stages : (stages : List (Stage T)) (s n : ℕ) (t : Stage T) → length stages ≡ n → length (set stages s t) ≡ n
@@ -57,7 +57,7 @@ module _ {T : Type 0} where
   pub halted_step : (k : Shape T) (s : Step T) (w u : World T) (n : ℕ) → Happens k s w u → KeepsRule k w → HaltedAt n w → HaltedAt n u
   halted_step k (SenderLooksAtClaims p) w u n H K is = subst (HaltedAt n) (sym H.2) is
   halted_step k (SenderLooksAtCount p f) w u n H K is = subst (HaltedAt n) (sym H.2.1) is
-  halted_step k (SenderClaims p c m) w u n H K is = subst (HaltedAt n) (sym H.2.2) (no_claim k w p c m n H.0 H.2.1 K is)
+  halted_step k (SenderClaims p c m) w u n H K is = subst (HaltedAt n) (sym H.2.4) (no_claim k w p c m n H.2.2 H.0 H.2.1 K is)
   halted_step k (SenderPublishes p s events) w u n H K is = along_all k p (HaltedAt n) (halted_one k p n) s events w u H.1 K is
   halted_step k (SenderLooksAtMark p s) w u n H K is = subst (HaltedAt n) (sym H.2) is
   halted_step k (SenderHalts p) w u n H K is = subst (HaltedAt n) (sym H.2) (halted_more k w K, is.1)

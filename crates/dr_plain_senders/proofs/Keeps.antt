@@ -15,7 +15,7 @@ use Rattle.dr_plain_senders.specs.declared.record.Step.TheVariants.{ReceiverLook
 use Rattle.dr_plain_senders.specs.declared.record.Step.TheVariants.{ReceiverCompletes, HalterHalts, HalterLooks}
 use Rattle.dr_plain_senders.specs.Meaning.Records.{sender_looked, SeesRoom}
 use Rattle.dr_plain_senders.specs.Meaning.Rule.{World, KeepsRule}
-use Rattle.dr_plain_senders.specs.Meaning.Steps.{Happens, PublishesOne, PublishesAll, sender_knows, sender_claims}
+use Rattle.dr_plain_senders.specs.Meaning.Steps.{Happens, PublishesOne, PublishesAll, sender_knows, sender_claims, LieThere}
 use Rattle.dr_plain_senders.specs.Meaning.Moments.{Runs}
 use Rattle.dr_runs.proofs.Elements.{word_at}
 use Rattle.dr_plain_senders.proofs.Facts.{handler_inside, upstream_inside}
@@ -24,14 +24,15 @@ use Rattle.dr_plain_senders.proofs.KeepsPublishes.{keeps_publishes}
 use Rattle.dr_plain_senders.proofs.KeepsReceiving.{keeps_claims_look, keeps_mark_look, keeps_count_look, keeps_completes}
 
 module _ {T : Type 0} where
-  keeps_exchange : (k : Shape T) (w : World T) (p c n : ℕ) (r : SenderRecord T) → get_elem? w.senders p ≡ some r → 0 < n → SeesRoom k r c n → KeepsRule k w
-      → KeepsRule k (if word_at w.words claim_word == c then sender_claims w p r c n else sender_knows w p
+  keeps_exchange : (k : Shape T) (w : World T) (p c n : ℕ) (lay : List T) (r : SenderRecord T) → get_elem? w.senders p ≡ some r → 0 < n → SeesRoom k r c n
+      → (word_at w.words claim_word ≡ c → LieThere k w.stages c n lay) → KeepsRule k w
+      → KeepsRule k (if word_at w.words claim_word == c then sender_claims w p r c n lay else sender_knows w p
       (sender_looked r claim_word (word_at w.words claim_word)))
-  keeps_exchange k w p c n r at some_one room K =
+  keeps_exchange k w p c n lay r at some_one room lie K =
       let P : Bool → Type 0 = λ b. KeepsRule k
-      (if b then sender_claims w p r c n else sender_knows w p (sender_looked r claim_word (word_at w.words claim_word))) in
+      (if b then sender_claims w p r c n lay else sender_knows w p (sender_looked r claim_word (word_at w.words claim_word))) in
       elim (cases_eq (word_at w.words claim_word) c) [
-        | inl e ↦ subst P (sym (eq-eqb (word_at w.words claim_word) c e)) (keeps_claims k w p c n r at some_one room e K)
+        | inl e ↦ subst P (sym (eq-eqb (word_at w.words claim_word) c e)) (keeps_claims k w p c n lay r at some_one room e (lie e) K)
         | inr ne ↦ subst P (sym (ne_eqb (word_at w.words claim_word) c ne)) (keeps_sender_looks k w p claim_word r (omega arith) at K)
       ]
 
@@ -54,7 +55,7 @@ module _ {T : Type 0} where
   keeps_step k (SenderLooksAtClaims p) w u H K = subst (KeepsRule k) (sym H.2) (keeps_sender_looks k w p claim_word H.0 (omega arith) H.1 K)
   keeps_step k (SenderLooksAtCount p f) w u H K =
       let i = final_inside k.upstreams f H.2.0 in subst (KeepsRule k) (sym H.2.1) (keeps_sender_looks k w p (count_word f) H.0 (omega arith) H.1 K)
-  keeps_step k (SenderClaims p c n) w u H K = subst (KeepsRule k) (sym H.2.2) (keeps_exchange k w p c n H.0 H.1 H.2.0 H.2.1 K)
+  keeps_step k (SenderClaims p c n) w u H K = subst (KeepsRule k) (sym H.2.4) (keeps_exchange k w p c n H.2.2 H.0 H.1 H.2.0 H.2.1 H.2.3 K)
   keeps_step k (SenderPublishes p s events) w u H K = keeps_all k p s events w u H.1 K
   keeps_step k (SenderLooksAtMark p s) w u H K = subst (KeepsRule k) (sym H.2) (keeps_mark_found k w p s (word_at w.words (mark_word k s)) H.0 H.1 K)
   keeps_step k (SenderHalts p) w u H K = subst (KeepsRule k) (sym H.2) (keeps_sender_halts k w p H.0 H.1 K)

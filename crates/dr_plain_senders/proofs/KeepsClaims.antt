@@ -1,5 +1,5 @@
 -- A sender that looks or claims keeps the rule, and so does a halt.
-use Rattle.std.proofs.Common.{◌≡◌, ℕ, zero, suc, ◌+◌, ◌<◌, ◌≤◌, inl, inr, false, List, [], ◌∷◌, ◌++◌, length, set, replicate, sym, ap, ◌∙◌, subst, arith}
+use Rattle.std.proofs.Common.{◌≡◌, ℕ, zero, suc, ◌+◌, ◌<◌, ◌≤◌, inl, inr, false, List, [], ◌∷◌, ◌++◌, length, set, replicate, refl, sym, ap, ◌∙◌, subst, arith}
 use Rattle.std.proofs.Common.{length-set, get_or-set_same, get_or-set_other}
 use Rattle.std.proofs.lemmas.Bool.{cases_eq}
 use Rattle.std.proofs.lemmas.List.{length-append, length-replicate}
@@ -12,17 +12,18 @@ use Rattle.dr_plain_senders.specs.Meaning.Shape.{Shape}
 use Rattle.dr_plain_senders.specs.Meaning.Words.{claim_word, claimed_in, is_halted, halted_from, halt_bit, count_word, mark_start, mark_word, is_there}
 use Rattle.dr_plain_senders.specs.declared.record.Stage.{Stage}
 use Rattle.dr_plain_senders.specs.declared.record.Own.{Own}
+use Rattle.dr_plain_senders.specs.declared.record.Taken.{Taken}
 use Rattle.dr_plain_senders.specs.declared.record.SenderRecord.{SenderRecord}
 use Rattle.dr_plain_senders.specs.declared.record.HalterRecord.{HalterRecord}
-use Rattle.dr_plain_senders.specs.Meaning.Records.{fresh_stage, fresh_own, sender_looked, claimed_from, halter_halted, halter_looked, SeesRoom, Owns, mark_found}
-use Rattle.dr_plain_senders.specs.Meaning.Rule.{World, ArePast, SenderKept, KeepsRule, IsOut}
-use Rattle.dr_plain_senders.specs.Meaning.Steps.{sender_knows, sender_claims, halted_words}
+use Rattle.dr_plain_senders.specs.Meaning.Records.{fresh_stage, fresh_own, taken_from, sender_looked, claimed_from, halter_halted, halter_looked, SeesRoom, Owns, mark_found}
+use Rattle.dr_plain_senders.specs.Meaning.Rule.{World, ArePast, SenderKept, KeepsRule, IsOut, LiesBefore}
+use Rattle.dr_plain_senders.specs.Meaning.Steps.{sender_knows, sender_claims, halted_words, LieThere}
 use Rattle.atomic_table.proofs.Lists.{at_longer}
 use Rattle.dr_plain_senders.proofs.Places.{more_right, more_cases, at_replicate, in_replicate, claimed_low, halted_low, claimed_halted}
 use Rattle.dr_plain_senders.proofs.Places.{halted_rises, is_halted_from, Rises, rises_set, past_rises}
 use Rattle.dr_runs.proofs.Looks.{past_more, last_look_more, last_look_else, last_look_le}
 use Rattle.dr_plain_senders.proofs.Facts.{handler_inside, none_or_some}
-use Rattle.dr_plain_senders.proofs.Stays.{Lasts, out_lasts, room_stays, receiver_stays, sender_stays}
+use Rattle.dr_plain_senders.proofs.Stays.{Lasts, out_lasts, lay_lasts, room_stays, receiver_stays, sender_stays}
 
 module _ {T : Type 0} where
   -- a sender's record changes
@@ -55,6 +56,7 @@ module _ {T : Type 0} where
         number = was.number;
         own = was.own;
         all = was.all;
+        taken = was.taken;
         looks = past_more (mark_start k) w.words i (word_at w.words i) r.looks low (omega arith) was.looks;
       })
       K
@@ -63,7 +65,8 @@ module _ {T : Type 0} where
   pub keeps_mark_found : (k : Shape T) (w : World T) (p s found : ℕ) (r : SenderRecord T) → get_elem? w.senders p ≡ some r → KeepsRule k w
       → KeepsRule k (sender_knows w p (mark_found r s found))
   keeps_mark_found k w p s found r at K =
-      let was = K.sent p r at in sender_changes k w p (mark_found r s found) (record { plan = was.plan; number = was.number; own = was.own; all = was.all; looks = was.looks }) K
+      let was = K.sent p r at in sender_changes k w p (mark_found r s found)
+      (record { plan = was.plan; number = was.number; own = was.own; all = was.all; taken = was.taken; looks = was.looks }) K
 
   pub fresh_at : (p c n i : ℕ) (o : Own T) → get_elem? (fresh_own p c n) i ≡ some o → (i < n) × (record { sequence = c + i; stage = fresh_stage p } ≡ o)
   fresh_at p c zero i o at = absurd (some-ne-none o (sym at))
@@ -87,10 +90,34 @@ module _ {T : Type 0} where
   fresh_there p c (suc n) (suc i) lt = let z : suc c + i ≡ c + suc i = omega arith in
       fresh_there p (suc c) n i (omega arith) ∙ ap (λ (s : ℕ). let o : Own T = record { sequence = s; stage = fresh_stage p } in some o) z
 
+  -- what is taken from each cell
+  pub taken_at : (c : ℕ) (lay : List T) (i : ℕ) (o : Taken T) → get_elem? (taken_from c lay) i ≡ some o
+      → (x : T) × (get_elem? lay i ≡ some x) × (record { sequence = c + i; event = x } ≡ o)
+  taken_at c [] i o at = absurd (some-ne-none o (sym at))
+  taken_at c (x ∷ lay) zero o at = (
+    x,
+    refl,
+    (let z : c + 0 ≡ c = omega arith in ap (λ (s : ℕ). let y : Taken T = record { sequence = s; event = x } in y) z) ∙ some-injective _ o at,
+  )
+  taken_at c (x ∷ lay) (suc i) o at =
+      let d = taken_at (suc c) lay i o at in (
+        d.0,
+        d.1,
+        (let z : c + suc i ≡ suc c + i = omega arith in ap (λ (s : ℕ). let y : Taken T = record { sequence = s; event = d.0 } in y) z) ∙ d.2,
+      )
+
+  pub taken_there : (c : ℕ) (lay : List T) (i : ℕ) (x : T) → get_elem? lay i ≡ some x → get_elem? (taken_from c lay) i ≡ some record { sequence = c + i; event = x }
+  taken_there c [] i x at = absurd (some-ne-none x (sym at))
+  taken_there c (y ∷ lay) zero x at =
+      let z : c ≡ c + 0 = omega arith in let same : y ≡ x = some-injective y x at in (λ j. let o : Taken T = record { sequence = z j; event = same j } in some o)
+  taken_there c (y ∷ lay) (suc i) x at =
+      let z : suc c + i ≡ c + suc i = omega arith in
+      taken_there (suc c) lay i x at ∙ ap (λ (s : ℕ). let o : Taken T = record { sequence = s; event = x } in some o) z
+
   -- what is claimed now, its sender has
-  claimed_own : (r : SenderRecord T) (p c n s i : ℕ) (t : Stage T) → r.number ≡ p → c + i ≡ s
-      → get_elem? (replicate n (fresh_stage p)) i ≡ some t → Owns (claimed_from r c n) s t
-  claimed_own r p c n s i t number at new =
+  claimed_own : (r : SenderRecord T) (p c n : ℕ) (lay : List T) (s i : ℕ) (t : Stage T) → r.number ≡ p → c + i ≡ s
+      → get_elem? (replicate n (fresh_stage p)) i ≡ some t → Owns (claimed_from r c n lay) s t
+  claimed_own r p c n lay s i t number at new =
       let inside = at_below (replicate n (fresh_stage p)) i t new in let len = length-replicate n (fresh_stage {T = T} p) in
       let fresh : fresh_stage r.number ≡ t = ap fresh_stage number ∙ at_replicate n (fresh_stage p) t i new in (
         length r.own + i,
@@ -99,9 +126,9 @@ module _ {T : Type 0} where
       )
 
   -- a sender claims
-  pub keeps_claims : (k : Shape T) (w : World T) (p c n : ℕ) (r : SenderRecord T) → get_elem? w.senders p ≡ some r → 0 < n → SeesRoom k r c n
-      → word_at w.words claim_word ≡ c → KeepsRule k w → KeepsRule k (sender_claims w p r c n)
-  keeps_claims k w p c n r at some_one room found K =
+  pub keeps_claims : (k : Shape T) (w : World T) (p c n : ℕ) (lay : List T) (r : SenderRecord T) → get_elem? w.senders p ≡ some r → 0 < n → SeesRoom k r c n
+      → word_at w.words claim_word ≡ c → LieThere k w.stages c n lay → KeepsRule k w → KeepsRule k (sender_claims w p r c n lay)
+  keeps_claims k w p c n lay r at some_one room found lie K =
       let was = K.sent p r at in let us = set w.words claim_word (c + n) in let new = replicate n (fresh_stage {T = T} p) in let more = w.stages ++ new in
       let wide = K.wide in let small = K.shape.small in let fits = room.limit in
       let low : c < halt_bit = omega arith in
@@ -118,7 +145,7 @@ module _ {T : Type 0} where
       let going : is_halted (word_at w.words claim_word) ≡ false = ap is_halted found ∙ halted_low c low in record {
         shape = K.shape;
         wide = length-set w.words claim_word (c + n) ∙ K.wide;
-        inlets = length-set w.senders p (claimed_from r c n) ∙ K.inlets;
+        inlets = length-set w.senders p (claimed_from r c n lay) ∙ K.inlets;
         outlets = K.outlets;
         claim = ap claimed_in here ∙ claimed_low (c + n) (omega arith) ∙ sym longer;
         limit = omega arith;
@@ -128,7 +155,7 @@ module _ {T : Type 0} where
         marks = λ s free near there. out_lasts w.stages more lasts s
             (K.marks s (λ z e. old_out z (free z e)) (omega arith) (ap (is_there k s) (sym (stays (mark_word k s) (omega arith))) ∙ there));
         marked = λ s x near. ap (is_there k s) (stays (mark_word k s) (omega arith)) ∙ K.marked s (old_out s x) (omega arith);
-        sent = each_set (SenderKept k us more) w.senders p (claimed_from r c n)
+        sent = each_set (SenderKept k us more) w.senders p (claimed_from r c n lay)
             (record {
               plan = was.plan;
               number = was.number;
@@ -143,11 +170,17 @@ module _ {T : Type 0} where
               ];
               all = λ s t there mine. elim (more_cases w.stages new s t there) [
                 | inl old ↦ (let x = was.all s t old mine in (x.0, at_longer r.own (fresh_own r.number c n) x.0 (record { sequence = s; stage = t }) x.1))
-                | inr y ↦ claimed_own r p c n s y.0 t (was.number) (let at = y.1 in omega arith) y.2
+                | inr y ↦ claimed_own r p c n lay s y.0 t (was.number) (let at = y.1 in omega arith) y.2
               ];
+              taken = λ s x took. (let o : Taken T = record { sequence = s; event = x } in elim (more_cases r.taken (taken_from c lay) took.0 o took.1) [
+                | inl old ↦ lay_lasts k w.stages more s x lasts (was.taken s x (took.0, old))
+                | inr y ↦ (let d = taken_at c lay y.0 o y.2 in
+                    subst (λ (z : Taken T). LiesBefore k more z.sequence z.event) d.2
+                    (lay_lasts k w.stages more (c + y.0) d.0 lasts (lie.each y.0 d.0 d.1)))
+              ]);
               looks = past_more (mark_start k) us claim_word (c + n) r.looks (omega arith) (omega arith) (past_rises k w.words us r.looks rises was.looks);
             })
-            (λ q x ne there. sender_stays k w.words us w.stages more q x rises (λ s t old _. at_longer w.stages new s t old)
+            (λ q x ne there. sender_stays k w.words us w.stages more q x rises lasts (λ s t old _. at_longer w.stages new s t old)
             (λ s t at_more mine. elim (more_cases w.stages new s t at_more) [
               | inl old ↦ old
               | inr y ↦ absurd (ne (sym (ap (λ (u : Stage T). u.owner) (at_replicate n (fresh_stage p) t y.0 y.2) ∙ mine)))
@@ -210,10 +243,11 @@ module _ {T : Type 0} where
         number = was.number;
         own = was.own;
         all = was.all;
+        taken = was.taken;
         looks =
             past_more (mark_start k) us claim_word (halted_from n) r.looks (omega arith) (omega arith) (past_rises k w.words us r.looks rises was.looks);
       })
-      (λ q x ne there. sender_stays k w.words us w.stages w.stages q x rises (λ s t old _. old) (λ s t old _. old) (K.sent q x there)))
+      (λ q x ne there. sender_stays k w.words us w.stages w.stages q x rises (λ s l out. out) (λ s t old _. old) (λ s t old _. old) (K.sent q x there)))
       K.halter_plan (past_rises k w.words us w.halter.looks rises K.halter) K.halter_claims K
 
   pub keeps_halter_halts : (k : Shape T) (w : World T) → KeepsRule k w
@@ -221,7 +255,7 @@ module _ {T : Type 0} where
   keeps_halter_halts k w K =
       let n = word_at w.words claim_word in let us = halted_words w in let rises = halt_rises k w K in let here = halt_here k w K in
       halting k w w.senders (halter_halted w.halter n) K.inlets
-      (λ p x there. sender_stays k w.words us w.stages w.stages p x rises (λ s t old _. old) (λ s t old _. old) (K.sent p x there))
+      (λ p x there. sender_stays k w.words us w.stages w.stages p x rises (λ s l out. out) (λ s t old _. old) (λ s t old _. old) (K.sent p x there))
       K.halter_plan (past_more (mark_start k) us claim_word (halted_from n) w.halter.looks (omega arith)
       (omega arith) (past_rises k w.words us w.halter.looks rises K.halter))
       (let a = ap claimed_in (last_look_more 0 w.halter.looks claim_word (halted_from n)) in let b = claimed_halted n in let c = K.claim in omega arith)

@@ -20,7 +20,7 @@ use Rattle.dr_plain_senders.proofs.Places.{set_else, one_value, Rises, rises_set
 use Rattle.dr_plain_senders.proofs.Facts.{none_or_some, handler_inside, near_open, owned}
 use Rattle.dr_plain_senders.proofs.Bits.{mark_inside, same_slot, later_slot, flipped_there, flipped_else, next_absent}
 use Rattle.dr_plain_senders.proofs.Marks.{hidden_absent}
-use Rattle.dr_plain_senders.proofs.Stays.{Lasts, room_stays, receiver_stays, sender_stays}
+use Rattle.dr_plain_senders.proofs.Stays.{Lasts, lay_lasts, room_stays, receiver_stays, sender_stays}
 use Rattle.dr_plain_senders.proofs.Brought.{own_brought}
 
 -- two sequences in one cell, each less than a round behind what is claimed, and no two rounds beyond it, are one or follow one another
@@ -194,9 +194,10 @@ module _ {T : Type 0} where
                       (ne_eqb z s old.0),
                 ))
               ];
+              taken = λ q x took. lay_lasts k w.stages more q x lasts (was.taken q x took);
               looks = past_rises k w.words us r.looks rises was.looks;
             })
-            (λ q x ne there. sender_stays k w.words us w.stages more q x rises (others q ne)
+            (λ q x ne there. sender_stays k w.words us w.stages more q x rises lasts (others q ne)
             (λ z u at_more mine. elim (at_set w.stages s z (published l t) u at_more) [
               | inl e ↦ absurd (ne (sym mine ∙ sym (ap (λ (y : Stage T). y.owner) e.1) ∙ own.0))
               | inr old ↦ old.1

@@ -129,7 +129,7 @@ module _ {T : Type 0} where
         room = room_stays k w.words us (length w.stages) rises K.room;
         marks = λ s free near there. K.marks s free near (ap (is_there k s) (sym (stays (mark_word k s) (λ e. omega arith))) ∙ there);
         marked = λ s x near. ap (is_there k s) (stays (mark_word k s) (λ e. omega arith)) ∙ K.marked s x near;
-        sent = λ p q there. sender_stays k w.words us w.stages w.stages p q rises (λ s t x _. x) (λ s t x _. x) (K.sent p q there);
+        sent = λ p q there. sender_stays k w.words us w.stages w.stages p q rises (λ s l x. x) (λ s t x _. x) (λ s t x _. x) (K.sent p q there);
         received = each_set (ReceiverKept k us w.stages) w.receivers h (completed_to r n)
             (record {
               plan = was.plan;

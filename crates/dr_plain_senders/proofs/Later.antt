@@ -155,17 +155,17 @@ module _ {T : Type 0} where
   abbrev Stood : Shape T → World T → ℕ → ℕ → ReceiverRecord T → World T → Type 0
   Stood k w n h r u = HasSeen k w n h r u.receivers
 
-  claims_stand : (k : Shape T) (w : World T) (n h p c m : ℕ) (q : SenderRecord T) (r : ReceiverRecord T) (b : Bool) → get_elem? w.receivers h ≡ some r
-      → Stood k w n h r (if b then sender_claims w p q c m else sender_knows w p (sender_looked q claim_word (word_at w.words claim_word)))
-  claims_stand k w n h p c m q r true at = stays k w n h r at
-  claims_stand k w n h p c m q r false at = stays k w n h r at
+  claims_stand : (k : Shape T) (w : World T) (n h p c m : ℕ) (lay : List T) (q : SenderRecord T) (r : ReceiverRecord T) (b : Bool) → get_elem? w.receivers h ≡ some r
+      → Stood k w n h r (if b then sender_claims w p q c m lay else sender_knows w p (sender_looked q claim_word (word_at w.words claim_word)))
+  claims_stand k w n h p c m lay q r true at = stays k w n h r at
+  claims_stand k w n h p c m lay q r false at = stays k w n h r at
 
   seen_step : (k : Shape T) (s : Step T) (w u : World T) (n h : ℕ) (r : ReceiverRecord T) → length w.stages ≤ n → Happens k s w u → KeepsRule k w
       → get_elem? w.receivers h ≡ some r → Stood k w n h r u
   seen_step k (SenderLooksAtClaims p) w u n h r few H K at = subst (Stood k w n h r) (sym H.2) (stays k w n h r at)
   seen_step k (SenderLooksAtCount p f) w u n h r few H K at = subst (Stood k w n h r) (sym H.2.1) (stays k w n h r at)
   seen_step k (SenderClaims p c m) w u n h r few H K at =
-      subst (Stood k w n h r) (sym H.2.2) (claims_stand k w n h p c m H.0 r (word_at w.words claim_word == c) at)
+      subst (Stood k w n h r) (sym H.2.4) (claims_stand k w n h p c m H.2.2 H.0 r (word_at w.words claim_word == c) at)
   seen_step k (SenderPublishes p s events) w u n h r few H K at =
       subst (λ (rs : List (ReceiverRecord T)). HasSeen k w n h r rs) (sym (same_receivers k p s events w u H.1)) (stays k w n h r at)
   seen_step k (SenderLooksAtMark p s) w u n h r few H K at = subst (Stood k w n h r) (sym H.2) (stays k w n h r at)

@@ -72,12 +72,12 @@ module _ {T : Type 0} where
         | inr last ↦ claimed x (only last.0 x last.2)
       ]
 
-  claims_within : (k : Shape T) (w : World T) (p c n : ℕ) (r : SenderRecord T) (b : Bool) → MarksWithin k w
-      → MarksWithin k (if b then sender_claims w p r c n else sender_knows w p (sender_looked r claim_word (word_at w.words claim_word)))
-  claims_within k w p c n r true all =
+  claims_within : (k : Shape T) (w : World T) (p c n : ℕ) (lay : List T) (r : SenderRecord T) (b : Bool) → MarksWithin k w
+      → MarksWithin k (if b then sender_claims w p r c n lay else sender_knows w p (sender_looked r claim_word (word_at w.words claim_word)))
+  claims_within k w p c n lay r true all =
       let more = length-append w.stages (replicate n (fresh_stage p)) in
       more_claimed k w.receivers (length w.stages) (length (w.stages ++ replicate n (fresh_stage p))) (omega arith) all
-  claims_within k w p c n r false all = all
+  claims_within k w p c n lay r false all = all
 
   within_one : (k : Shape T) (p s : ℕ) (event : T) (w u : World T) → PublishesOne k p s event w u → KeepsRule k w → MarksWithin k w → MarksWithin k u
   within_one k p s event w u H K all =
@@ -87,7 +87,7 @@ module _ {T : Type 0} where
   within_step : (k : Shape T) (s : Step T) (w u : World T) → Happens k s w u → KeepsRule k w → MarksWithin k w → MarksWithin k u
   within_step k (SenderLooksAtClaims p) w u H K all = subst (MarksWithin k) (sym H.2) all
   within_step k (SenderLooksAtCount p f) w u H K all = subst (MarksWithin k) (sym H.2.1) all
-  within_step k (SenderClaims p c n) w u H K all = subst (MarksWithin k) (sym H.2.2) (claims_within k w p c n H.0 (word_at w.words claim_word == c) all)
+  within_step k (SenderClaims p c n) w u H K all = subst (MarksWithin k) (sym H.2.4) (claims_within k w p c n H.2.2 H.0 (word_at w.words claim_word == c) all)
   within_step k (SenderPublishes p s events) w u H K all = along_all k p (MarksWithin k) (within_one k p) s events w u H.1 K all
   within_step k (SenderLooksAtMark p s) w u H K all = subst (MarksWithin k) (sym H.2) all
   within_step k (SenderHalts p) w u H K all = subst (MarksWithin k) (sym H.2) all

@@ -1,6 +1,6 @@
 -- The tokens that each kind of step takes or gives.
-use Rattle.std.proofs.Common.{◌≡◌, ℕ, suc, ◌+◌, ◌-◌, ◌<◌, ◌≤◌, List, ◌++◌, length, set, take, drop, sym, refl, ap, ◌∙◌, subst, arith, inl, inr}
-use Rattle.std.proofs.lemmas.List.{length-append, length-take, length-drop}
+use Rattle.std.proofs.Common.{◌≡◌, ℕ, suc, ◌+◌, ◌-◌, ◌<◌, ◌≤◌, List, ◌++◌, map, length, set, take, drop, sym, refl, ap, ◌∙◌, subst, arith, inl, inr}
+use Rattle.std.proofs.lemmas.List.{length-append, length-map, length-take, length-drop}
 use Rattle.std.proofs.lemmas.Bool.{cases_lt}
 use mathlib.Core.Option.{some}
 use mathlib.Core.Option as maybe
@@ -9,6 +9,7 @@ use Rattle.atomic_table.specs.Table.{keeps, carried_after}
 use Rattle.dr_cells.specs.declared.token.Token.{Token}
 use Rattle.dr_runs.specs.Stretches.{stretch, rows}
 use Rattle.dr_runs.proofs.Elements.{at_below, word_at}
+use Rattle.dr_runs.proofs.Lists.{at_map}
 use Rattle.dr_runs.proofs.Looks.{last_look_le}
 use Rattle.dr_runs.proofs.Offers.{final_inside}
 use Rattle.dr_runs.proofs.Seats.{Moves}
@@ -22,9 +23,9 @@ use Rattle.dr_plain_senders.specs.declared.record.Stage.{Stage}
 use Rattle.dr_plain_senders.specs.declared.record.SenderRecord.{SenderRecord}
 use Rattle.dr_plain_senders.specs.declared.record.ReceiverRecord.{ReceiverRecord}
 use Rattle.dr_plain_senders.specs.Meaning.Records.{SeesRoom, completed_to}
-use Rattle.dr_plain_senders.specs.Meaning.Rule.{World, Room, KeepsRule}
-use Rattle.dr_plain_senders.specs.Meaning.Lying.{Laid, unlent, lent, placed, IsLaid, Lies}
-use Rattle.dr_plain_senders.specs.Meaning.Steps.{sender_claims, receiver_knows, AreNext}
+use Rattle.dr_plain_senders.specs.Meaning.Rule.{World, Room, LiesBefore, KeepsRule}
+use Rattle.dr_plain_senders.specs.Meaning.Lying.{Laid, unlent, lent, value_of, placed, IsLaid, Lies}
+use Rattle.dr_plain_senders.specs.Meaning.Steps.{sender_claims, receiver_knows, AreNext, LieThere}
 use Rattle.dr_plain_senders.specs.Inside.Seats.{Hand, exchange, IsOfRound, LayIn, LayAsLent, taken_by_claim, taken_by_poll, given_by_completion, lent_all}
 use Rattle.dr_plain_senders.proofs.Places.{claimed_low}
 use Rattle.dr_plain_senders.proofs.Facts.{handler_inside, ahead_of_all, above, completed_out, taken_claimed, owned}
@@ -58,11 +59,26 @@ module _ {T : Type 0} where
   of_round k stages q (unlent x) is = is
   of_round k stages q (lent l) is = let e = is.1 in omega arith
 
+  -- its event lies there for the sequence
+  lies_before : (k : Shape T) (stages : List (Stage T)) (q : ℕ) (a : Laid T) → IsLaid k stages q a → LiesBefore k stages q (value_of a)
+  lies_before k stages q (unlent x) is = inl is
+  lies_before k stages q (lent l) is = inr (is.0, l, is.1, is.2, refl)
+
+  all_before : (k : Shape T) (stages : List (Stage T)) (c n : ℕ) (laid : List (Laid T)) → length laid ≡ n
+      → ((i : ℕ) (a : Laid T) → get_elem? laid i ≡ some a → IsLaid k stages (c + i) a) → LieThere k stages c n (map value_of laid)
+  all_before k stages c n laid count are = record {
+    count = length-map laid value_of ∙ count;
+    each = λ i x at_i. (let m = at_map value_of laid i x at_i in
+        subst (λ (y : T). LiesBefore k stages (c + i) y) m.2 (lies_before k stages (c + i) m.0 (are i m.0 m.1)));
+  }
+
   -- a claim takes what is kept of what lies in the cells, and each handler's part of it
   pub claim_moves : (k : Shape T) (w : World T) (p c n : ℕ) (r : SenderRecord T) (hand : Hand T) (homes : List (maybe.Option (Token T)))
       → get_elem? w.senders p ≡ some r
       → SeesRoom k r c n → word_at w.words claim_word ≡ c → KeepsRule k w → Lies k w homes
-      → (laid : List (Laid T)) × LayIn k c n laid × MovesTo k (sender_claims w p r c n) hand homes (taken_by_claim k c laid ++ hand) × LayAsLent r c laid
+      → (laid : List (Laid T)) × LayIn k c n laid
+      × MovesTo k (sender_claims w p r c n (map value_of laid)) hand homes (taken_by_claim k c laid ++ hand) × LayAsLent r c laid
+      × LieThere k w.stages c n (map value_of laid)
   claim_moves k w p c n r hand homes at room found K lies =
       let small = K.shape.small in let fits = room.limit in let low : c < halt_bit = omega arith in
       let now : c ≡ length w.stages = sym (claimed_low c low) ∙ ap claimed_in (sym found) ∙ K.claim in
@@ -86,10 +102,12 @@ module _ {T : Type 0} where
           count = a.1;
           rounds = λ i x at_i. subst (λ (j : ℕ). IsOfRound k (j + i) x) (sym now) (of_round k w.stages (length w.stages + i) x (a.2 i x at_i).laid);
         },
-        subst (λ (j : ℕ). MovesTo k (sender_claims w p r c n) hand homes (rows (placed k) (lanes_of k) j a.0 ++ hand)) (sym now)
-            (takes_moves k (sender_claims w p r c n) hand (rows (placed k) (lanes_of k) (length w.stages) a.0) homes t.0 t.1 t.2),
+        subst (λ (j : ℕ). MovesTo k (sender_claims w p r c n (map value_of a.0)) hand homes (rows (placed k) (lanes_of k) j a.0 ++ hand)) (sym now)
+            (takes_moves k (sender_claims w p r c n (map value_of a.0)) hand (rows (placed k) (lanes_of k) (length w.stages) a.0) homes t.0 t.1 t.2),
         λ i s x u l at_i place own out.
             laid_lent k w.stages (length w.stages + i) s l x (a.2 i x at_i).laid (omega arith) (u, (owned k w p r s own.0 u at own.1 K).1, out),
+        subst (λ (j : ℕ). LieThere k w.stages j n (map value_of a.0)) (sym now)
+            (all_before k w.stages (length w.stages) n a.0 a.1 (λ i x at_i. (a.2 i x at_i).laid)),
       )
 
   counts_of : (k : Shape T) (w : World T) (h : ℕ) (r : ReceiverRecord T) → get_elem? w.receivers h ≡ some r → KeepsRule k w → Counts k w.stages r

@@ -41,8 +41,9 @@ module _ {T : Type 0} where
   one_changes stages senders p r all = subst (HaveOwners stages) (sym (length-set senders p r)) all
 
   -- a sender claims
-  owners_claim : (w : World T) (p c n : ℕ) (r : SenderRecord T) → get_elem? w.senders p ≡ some r → OwnersThere w → OwnersThere (sender_claims w p r c n)
-  owners_claim w p c n r at all = one_changes (w.stages ++ replicate n (fresh_stage p)) w.senders p (claimed_from r c n)
+  owners_claim : (w : World T) (p c n : ℕ) (lay : List T) (r : SenderRecord T) → get_elem? w.senders p ≡ some r → OwnersThere w
+      → OwnersThere (sender_claims w p r c n lay)
+  owners_claim w p c n lay r at all = one_changes (w.stages ++ replicate n (fresh_stage p)) w.senders p (claimed_from r c n lay)
       (λ s t there_now. elim (more_cases w.stages (replicate n (fresh_stage p)) s t there_now) [
         | inl old ↦ all s t old
         | inr x ↦
@@ -68,9 +69,9 @@ module _ {T : Type 0} where
   owners_step k (SenderLooksAtCount p f) w u H K all = subst OwnersThere (sym H.2.1) (one_changes w.stages w.senders p _ all)
   owners_step k (SenderClaims p c n) w u H K all =
       let r = H.0 in let found = word_at w.words claim_word in
-      let P : Bool → Type 0 = λ b. OwnersThere (if b then sender_claims w p r c n else sender_knows w p (sender_looked r claim_word found)) in
-      subst OwnersThere (sym H.2.2) (elim (cases_eq found c) [
-        | inl is ↦ subst P (sym (eq-eqb found c is)) (owners_claim w p c n r H.1 all)
+      let P : Bool → Type 0 = λ b. OwnersThere (if b then sender_claims w p r c n H.2.2 else sender_knows w p (sender_looked r claim_word found)) in
+      subst OwnersThere (sym H.2.4) (elim (cases_eq found c) [
+        | inl is ↦ subst P (sym (eq-eqb found c is)) (owners_claim w p c n H.2.2 r H.1 all)
         | inr ne ↦ subst P (sym (ne_eqb found c ne)) (one_changes w.stages w.senders p _ all)
       ])
   owners_step k (SenderPublishes p s events) w u H K all = along_all k p OwnersThere (owners_one k p) s events w u H.1 K all

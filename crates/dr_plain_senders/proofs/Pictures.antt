@@ -138,10 +138,10 @@ module _ {T : Type 0} where
       let d : word_at w.words (count_word g.last) ≤ word_at w.words (count_word 0) = g.behind in
       let t = receiver_of_handler k w K 0 some_one in let e = t.2.count in let f = t.2.completed in let h = taken_claimed k w 0 t.0 t.1 K in omega arith
 
-  lead_claim : (k : Shape T) (w : World T) (p c n : ℕ) (r : SenderRecord T) → get_elem? w.senders p ≡ some r → 0 < n → SeesRoom k r c n
+  lead_claim : (k : Shape T) (w : World T) (p c n : ℕ) (lay : List T) (r : SenderRecord T) → get_elem? w.senders p ≡ some r → 0 < n → SeesRoom k r c n
       → word_at w.words claim_word ≡ c → KeepsRule k w
-      → Leads k (entry (Claim p n) (Claimed c (c + n - 1)) []) (picture_of k w) (picture_of k (sender_claims w p r c n))
-  lead_claim k w p c n r at some_one room found K =
+      → Leads k (entry (Claim p n) (Claimed c (c + n - 1)) []) (picture_of k w) (picture_of k (sender_claims w p r c n lay))
+  lead_claim k w p c n lay r at some_one room found K =
       let small = K.shape.small in let fits = room.limit in let wide = K.wide in let us = set w.words claim_word (c + n) in
       let low : c < halt_bit = omega arith in
       let now : c ≡ length w.stages = sym (claimed_low c low) ∙ ap claimed_in (sym found) ∙ K.claim in
@@ -154,25 +154,25 @@ module _ {T : Type 0} where
       (claim_room k w p (length w.stages) n r m refl at room' K)) in
       let counts : counts_of k us ≡ counts_of k w.words = counts_stay k w.words claim_word (c + n) (λ h inside e. omega arith) in
       let still : halted us ≡ false = ap is_halted (get_or-set_same w.words claim_word (c + n) 0 (omega arith)) ∙ halted_low (c + n) (omega arith) in
-      let end : shown k (w.stages ++ replicate n (fresh_stage p)) (takens w) (counts_of k w.words) false ≡ picture_of k (sender_claims w p r c n) =
+      let end : shown k (w.stages ++ replicate n (fresh_stage p)) (takens w) (counts_of k w.words) false ≡ picture_of k (sender_claims w p r c n lay) =
       λ i. shown k (w.stages ++ replicate n (fresh_stage p)) (takens w) (sym counts i) (sym still i) in
       subst (λ (b : Bool). Leads k (entry (Claim p n) (Claimed c (c + n - 1)) []) (shown k w.stages (takens w) (counts_of k w.words) b)
-      (picture_of k (sender_claims w p r c n))) (sym off)
-      (subst (λ (x : ℕ). Leads k (entry (Claim p n) (Claimed x (x + n - 1)) []) m (picture_of k (sender_claims w p r c n))) (sym now)
+      (picture_of k (sender_claims w p r c n lay))) (sym off)
+      (subst (λ (x : ℕ). Leads k (entry (Claim p n) (Claimed x (x + n - 1)) []) m (picture_of k (sender_claims w p r c n lay))) (sym now)
       (subst (λ (x : State T). Leads k (entry (Claim p n) (Claimed (length w.stages) (length w.stages + n - 1)) []) m x) end one))
 
-  abbrev exchanged : World T → ℕ → SenderRecord T → ℕ → ℕ → Bool → World T
-  exchanged w p r c n b = if b then sender_claims w p r c n else sender_knows w p (sender_looked r claim_word (word_at w.words claim_word))
+  abbrev exchanged : World T → ℕ → SenderRecord T → ℕ → ℕ → List T → Bool → World T
+  exchanged w p r c n lay b = if b then sender_claims w p r c n lay else sender_knows w p (sender_looked r claim_word (word_at w.words claim_word))
 
   abbrev claim_of : ℕ → ℕ → ℕ → Bool → Transcript T
   claim_of p c n b = if b then entry (Claim p n) (Claimed c (c + n - 1)) [] else []
 
-  lead_exchange : (k : Shape T) (w : World T) (p c n : ℕ) (r : SenderRecord T) → get_elem? w.senders p ≡ some r → 0 < n → SeesRoom k r c n → KeepsRule k w
-      → Leads k (claim_of p c n (word_at w.words claim_word == c)) (picture_of k w) (picture_of k (exchanged w p r c n (word_at w.words claim_word == c)))
-  lead_exchange k w p c n r at some_one room K =
-      let P : Bool → Type 0 = λ b. Leads k (claim_of p c n b) (picture_of k w) (picture_of k (exchanged w p r c n b)) in
+  lead_exchange : (k : Shape T) (w : World T) (p c n : ℕ) (lay : List T) (r : SenderRecord T) → get_elem? w.senders p ≡ some r → 0 < n → SeesRoom k r c n → KeepsRule k w
+      → Leads k (claim_of p c n (word_at w.words claim_word == c)) (picture_of k w) (picture_of k (exchanged w p r c n lay (word_at w.words claim_word == c)))
+  lead_exchange k w p c n lay r at some_one room K =
+      let P : Bool → Type 0 = λ b. Leads k (claim_of p c n b) (picture_of k w) (picture_of k (exchanged w p r c n lay b)) in
       elim (cases_eq (word_at w.words claim_word) c) [
-        | inl e ↦ subst P (sym (eq-eqb (word_at w.words claim_word) c e)) (lead_claim k w p c n r at some_one room e K)
+        | inl e ↦ subst P (sym (eq-eqb (word_at w.words claim_word) c e)) (lead_claim k w p c n lay r at some_one room e K)
         | inr ne ↦ subst P (sym (ne_eqb (word_at w.words claim_word) c ne)) refl
       ]
 
@@ -370,8 +370,8 @@ module _ {T : Type 0} where
   lead_step k (SenderLooksAtClaims p) w u H K = ap (picture_of k) (sym H.2)
   lead_step k (SenderLooksAtCount p f) w u H K = ap (picture_of k) (sym H.2.1)
   lead_step k (SenderClaims p c n) w u H K =
-      subst (λ (x : World T). Leads k (claim_of p c n (word_at w.words claim_word == c)) (picture_of k w) (picture_of k x)) (sym H.2.2)
-      (lead_exchange k w p c n H.0 H.1 H.2.0 H.2.1 K)
+      subst (λ (x : World T). Leads k (claim_of p c n (word_at w.words claim_word == c)) (picture_of k w) (picture_of k x)) (sym H.2.4)
+      (lead_exchange k w p c n H.2.2 H.0 H.1 H.2.0 H.2.1 K)
   lead_step k (SenderPublishes p s events) w u H K = lead_all k p s events w u H.1 K
   lead_step k (SenderLooksAtMark p s) w u H K = ap (picture_of k) (sym H.2)
   lead_step k (SenderHalts p) w u H K = subst (λ (x : World T). Leads k (entry Halt Halting []) (picture_of k w) (picture_of k x)) (sym H.2) (lead_halt k w K)

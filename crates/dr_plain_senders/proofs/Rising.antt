@@ -61,12 +61,12 @@ module _ {T : Type 0} where
     ]);
   }
 
-  claims : (k : Shape T) (w : World T) (p c n : ℕ) (r : SenderRecord T) → KeepsRule k w
-      → Rose k w (if word_at w.words claim_word == c then sender_claims w p r c n
+  claims : (k : Shape T) (w : World T) (p c n : ℕ) (lay : List T) (r : SenderRecord T) → KeepsRule k w
+      → Rose k w (if word_at w.words claim_word == c then sender_claims w p r c n lay
       else sender_knows w p (sender_looked r claim_word (word_at w.words claim_word)))
-  claims k w p c n r K =
+  claims k w p c n lay r K =
       let P : Bool → Type 0 =
-      λ b. Rose k w (if b then sender_claims w p r c n else sender_knows w p (sender_looked r claim_word (word_at w.words claim_word))) in
+      λ b. Rose k w (if b then sender_claims w p r c n lay else sender_knows w p (sender_looked r claim_word (word_at w.words claim_word))) in
       elim (cases_eq (word_at w.words claim_word) c) [
         | inl here ↦ subst P (sym (eq-eqb (word_at w.words claim_word) c here)) (record {
           words = let wide = K.wide in rises_set k w.words claim_word (c + n) (omega arith) (λ low. omega arith);
@@ -97,7 +97,7 @@ module _ {T : Type 0} where
   pub rose_step : (k : Shape T) (s : Step T) (w u : World T) → Happens k s w u → KeepsRule k w → Rose k w u
   rose_step k (SenderLooksAtClaims p) w u H K = subst (Rose k w) (sym H.2) (same_stages k w _ (stays k w w.words) refl)
   rose_step k (SenderLooksAtCount p f) w u H K = subst (Rose k w) (sym H.2.1) (same_stages k w _ (stays k w w.words) refl)
-  rose_step k (SenderClaims p c n) w u H K = subst (Rose k w) (sym H.2.2) (claims k w p c n H.0 K)
+  rose_step k (SenderClaims p c n) w u H K = subst (Rose k w) (sym H.2.4) (claims k w p c n H.2.2 H.0 K)
   rose_step k (SenderPublishes p s events) w u H K =
       along_all k p (Rose k w) (λ q event v x P L rose. rose_on k w v x rose (rose_one k p q event v x P L))
       s events w u H.1 K (same_stages k w w (stays k w w.words) refl)

@@ -118,6 +118,7 @@ module _ {T : Type 0} where
   settles k w K all within = record {
     claimed = all;
     owned = λ p i r o at own. (let S = K.sent p r at in let is = S.own i o own in (is.0 ∙ sym S.number, is.1));
+    taken = λ p s r x at took. (K.sent p r at).taken s x took;
     each = λ h r at. has_beginning k w h r at K within;
     sent = λ h s r l at there. is_sent k w h s r l at there K all;
     follow = λ h j r u at there. follows k w h j r u at there K;

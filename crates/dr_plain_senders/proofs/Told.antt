@@ -44,10 +44,10 @@ module _ {T : Type 0} where
   quiet w u g h q q' at are same now = none_hears was_told w.receivers u.receivers g h q q' at are same now
 
   -- an exchange changes no receiver, whether it claims or is a look
-  exchanges : (w : World T) (p c n : ℕ) (r : SenderRecord T) (b : Bool)
-      → (if b then sender_claims w p r c n else sender_knows w p (sender_looked r claim_word (word_at w.words claim_word))).receivers ≡ w.receivers
-  exchanges w p c n r true = refl
-  exchanges w p c n r false = refl
+  exchanges : (w : World T) (p c n : ℕ) (lay : List T) (r : SenderRecord T) (b : Bool)
+      → (if b then sender_claims w p r c n lay else sender_knows w p (sender_looked r claim_word (word_at w.words claim_word))).receivers ≡ w.receivers
+  exchanges w p c n lay r true = refl
+  exchanges w p c n lay r false = refl
 
   pub look_tells : (k : Shape T) (w : World T) (g : ℕ) (q : ReceiverRecord T) → get_elem? w.receivers g ≡ some q → tells_drained q (word_at w.words claim_word) ≡ true
       → Contains (if tells_drained (receiver_at k w g) (word_at w.words claim_word) then told_drained g ∷ [] else []) (told_drained {T = T} g)
@@ -65,7 +65,7 @@ module _ {T : Type 0} where
   told_step k tell (SenderLooksAtClaims p) w u h H now = inl (stays w u h (ap (λ (x : World T). x.receivers) H.2) now)
   told_step k tell (SenderLooksAtCount p f) w u h H now = inl (stays w u h (ap (λ (x : World T). x.receivers) H.2.1) now)
   told_step k tell (SenderClaims p c n) w u h H now =
-      inl (stays w u h (ap (λ (x : World T). x.receivers) H.2.2 ∙ exchanges w p c n H.0 (word_at w.words claim_word == c)) now)
+      inl (stays w u h (ap (λ (x : World T). x.receivers) H.2.4 ∙ exchanges w p c n H.2.2 H.0 (word_at w.words claim_word == c)) now)
   told_step k tell (SenderPublishes p s events) w u h H now = inl (stays w u h (same_receivers k p s events w u H.1) now)
   told_step k tell (SenderLooksAtMark p s) w u h H now = inl (stays w u h (ap (λ (x : World T). x.receivers) H.2) now)
   told_step k tell (SenderHalts p) w u h H now = inl (stays w u h (ap (λ (x : World T). x.receivers) H.2) now)

@@ -18,6 +18,12 @@ pub struct Own<T> {
     pub stage: Stage<T>,
 }
 
+/// What lay in the cell of a sequence as its sender claimed it.
+pub struct Taken<T> {
+    pub sequence: u64,
+    pub event: T,
+}
+
 /// A look at the mark of a sequence, what it found in the word of that mark, and how many looks at
 /// other words came before it.
 pub struct MarkLook {
@@ -26,12 +32,13 @@ pub struct MarkLook {
     pub after: u64,
 }
 
-/// What a sender knows: its number, the sequences that it claimed, and its looks, those at marks
-/// apart.
+/// What a sender knows: its number, the sequences that it claimed, what lay in their cells then, and
+/// its looks, those at marks apart.
 pub struct SenderRecord<T> {
     pub plan: Plan<T>,
     pub number: u64,
     pub own: LinkedList<Own<T>>,
+    pub taken: LinkedList<Taken<T>>,
     pub marks: LinkedList<MarkLook>,
     pub looks: LinkedList<Look>,
 }

@@ -10,9 +10,8 @@ use dr_meaning::Refusal;
 
 impl<T> Sender<T> {
     /// Changes the event of a sequence that this sender claimed and has not published where it lies,
-    /// and so writes it: `change` finds what was written there before, and at first an event of the
-    /// ring, as you read in the code the one that an earlier sequence left in the cell. Nothing is
-    /// moved.
+    /// and so writes it: `change` finds what was written there before, and at first the event that
+    /// was published in the cell last, by whichever sender. Nothing is moved.
     ///
     /// Refusals in their order: `NotClaimed` (nobody's), `AlreadyPublished`, `NotClaimed` (another
     /// sender's). They change nothing but what the sender remembers of its looks.

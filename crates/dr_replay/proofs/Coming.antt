@@ -9,7 +9,8 @@ use Rattle.dr_replay.specs.declared.given_back.Delivered.{Delivered}
 use Rattle.dr_replay.specs.declared.lock_workers.Joined.{Joined}
 use Rattle.dr_replay.specs.Calls.LockWorkers.{HasHandled, HasSent}
 use Rattle.dr_replay.specs.Inside.LockWorkers.{IsJoined, ends_of}
-use Rattle.dr_replay.specs.Meaning.Exchange.{CameTo, GoesOnBy, IsHandlers, IsOfReplay, IsProducers, setup_for}
+use Rattle.dr_lock.specs.Calls.Ended.{GoesOnBy}
+use Rattle.dr_replay.specs.Meaning.Exchange.{CameTo, IsHandlers, IsOfReplay, IsProducers, setup_for}
 use Rattle.dr_replay.specs.Meaning.Scripts.{producers_in, scripts_in}
 use Rattle.dr_replay.proofs.Endings.{many_scripts, opened_for}
 use Rattle.dr_replay.proofs.Stopping.{some_of}

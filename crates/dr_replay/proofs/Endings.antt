@@ -26,7 +26,8 @@ use Rattle.dr_replay.specs.Meaning.Scripts.{producers_in, script_in, scripts_in}
 use Rattle.dr_accounts.specs.Report.{report_of}
 use Rattle.dr_replay.specs.Calls.Replayed.{IsReportOfMerge}
 use Rattle.dr_replay.specs.Calls.RingRuns.{CameOf, RunOver}
-use Rattle.dr_replay.specs.Calls.Workers.{AreStopped, AreThrough, AreServed, AuditFinds, CameTogether, IsFirstOf, IsMemory, IsOfAudit, IsOfLock, IsOfMerge}
+use Rattle.dr_replay.specs.Calls.Workers.{AreStopped, AreThrough, AreServed, AuditFinds, CameTogether, IsFirstOf, IsMemory, IsOfMerge}
+use Rattle.dr_replay.specs.Inside.Faults.{IsOfAudit, IsOfLock}
 use Rattle.dr_replay.specs.Calls.Workers.{IsOfWorkers, UnlessMemory, audit_fault}
 use Rattle.dr_replay.specs.Calls.Workers.{IsNoRefusal, endings_of, ends_of, lock_endings, replay_fault, ring_workers}
 

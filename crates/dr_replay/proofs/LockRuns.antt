@@ -15,11 +15,12 @@ use Rattle.dr_replay.specs.declared.given_back.Delivered.{Delivered}
 use Rattle.dr_replay.specs.declared.lock_workers.Joined.{Joined}
 use Rattle.dr_replay.specs.Calls.LockWorkers.{list_of}
 use Rattle.dr_replay.specs.Inside.LockWorkers.{IsJoined, SaidOfLock, ends_of}
-use Rattle.dr_replay.specs.Meaning.Exchange.{GoesOnBy, lock_setup}
+use Rattle.dr_lock.specs.Calls.Ended.{GoesOnBy}
+use Rattle.dr_replay.specs.Meaning.Exchange.{lock_setup}
 use Rattle.dr_replay.specs.Meaning.Scripts.{producers_in, script_in, scripts_in}
 use Rattle.dr_replay.specs.Calls.LockRuns.{IsHistoryOf, JoinedOver, LockRan, endings_over}
 use Rattle.dr_replay.specs.Calls.Replayed.{IsReportOfMerge}
-use Rattle.dr_replay.specs.Calls.Workers.{IsOfLock}
+use Rattle.dr_replay.specs.Inside.Faults.{IsOfLock}
 use Rattle.dr_files.specs.Outcome.{AppendsFront}
 use Rattle.dr_files.specs.declared.fault.FileFault.TheVariants as file
 use Rattle.dr_replay.proofs.Endings.{finds_as, many_scripts, report_more}

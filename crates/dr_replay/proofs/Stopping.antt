@@ -16,7 +16,8 @@ use Rattle.dr_replay.proofs.Unrefused.{sender_served}
 use Rattle.dr_replay.specs.declared.lock_workers.Joined.{Joined}
 use Rattle.dr_replay.specs.declared.ring.Returned.{Returned}
 use Rattle.dr_replay.specs.Inside.LockWorkers.{IsJoined, endings_in}
-use Rattle.dr_replay.specs.Calls.Workers.{AreServed, AreStopped, IsRun, endings_of, lock_endings, numbered}
+use Rattle.dr_lock.specs.Calls.Ended.{endings_from}
+use Rattle.dr_replay.specs.Calls.Workers.{AreServed, AreStopped, IsRun, endings_of, lock_endings}
 
 -- a worker that ended with a fault
 ended_with : {A : Type 0} (part : Result A WorkFault) (f : WorkFault) → error_of part ≡ Some f → part ≡ Err f
@@ -40,21 +41,21 @@ module _ (may_stop : ℕ → Type 0) where
   -- producers' workers that each were stopped by their gate alone
   pub numbered_stopped : {X : Type 0} (fault_of : X → Option WorkFault) (who : ℕ) (given : List X)
       → ((k : ℕ) (d : X) → k < length given → fault_of (get_or given k d) ≡ Some Stopped → may_stop (who + k))
-      → AreStopped may_stop (numbered who (map fault_of given))
+      → AreStopped may_stop (endings_from who (map fault_of given))
   numbered_stopped fault_of who [] each = All-nil IsStopped
   numbered_stopped fault_of who (x ∷ given) each =
       let first : who + 0 ≡ who = omega arith in
-      more who (fault_of x) (numbered (who + 1) (map fault_of given)) (λ e. subst may_stop first (each 0 x (omega arith) e))
+      more who (fault_of x) (endings_from (who + 1) (map fault_of given)) (λ e. subst may_stop first (each 0 x (omega arith) e))
       (numbered_stopped fault_of (who + 1) given (λ k d below e.
       let next : who + suc k ≡ who + 1 + k = omega arith in
       subst may_stop next (each (suc k) d (omega (arith, below)) e)))
 
   -- behind a lock
   pub lock_stopped : (journal replica business : Option WorkFault) (producers : List (Option WorkFault)) → (journal ≡ Some Stopped → may_stop 0)
-      → (replica ≡ Some Stopped → may_stop 1) → (business ≡ Some Stopped → may_stop 2) → AreStopped may_stop (numbered 16 producers)
+      → (replica ≡ Some Stopped → may_stop 1) → (business ≡ Some Stopped → may_stop 2) → AreStopped may_stop (endings_from 16 producers)
       → AreStopped may_stop (lock_endings journal replica business producers)
   lock_stopped journal replica business producers first second third rest =
-      let sent : List Ended = numbered 16 producers in
+      let sent : List Ended = endings_from 16 producers in
       let later : List Ended = record { who = 2; fault = business } ∷ sent in
       let others : List Ended = record { who = 1; fault = replica } ∷ later in
       more 0 journal others first (more 1 replica later second (more 2 business sent third rest))

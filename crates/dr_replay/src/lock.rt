@@ -10,9 +10,11 @@ ghost use Rattle.dr_workers.specs.Meaning.FirstFault.{first_fault as first_of};
 ghost use Rattle.dr_workers.specs.Calls.Stops.{MayStop};
 ghost use Rattle.dr_replay.specs.Calls.LockRuns.{LockRan};
 ghost use Rattle.dr_replay.specs.Calls.Replayed.{IsReportOfMerge, LockWrites, ReplayCounts, ReplayFaultKeeps};
-ghost use Rattle.dr_replay.specs.Calls.Workers.{IsFirstOf, IsFirstOfLock, IsNoRefusal, IsOfAudit, IsOfLock, IsOfMerge, NoProducerHadToStop, lock_endings};
+ghost use Rattle.dr_replay.specs.Calls.Workers.{IsFirstOf, IsFirstOfLock, IsNoRefusal, IsOfMerge, NoProducerHadToStop, lock_endings};
+ghost use Rattle.dr_replay.specs.Inside.Faults.{IsOfAudit, IsOfLock};
 ghost use Rattle.dr_replay.specs.Inside.LockWorkers.{SaidOfLock, endings_in, ends_of};
-ghost use Rattle.dr_replay.specs.Meaning.Exchange.{CameTo, GoesOnBy, IsOfReplay, lock_setup, setup_for};
+ghost use Rattle.dr_lock.specs.Calls.Ended.{GoesOnBy};
+ghost use Rattle.dr_replay.specs.Meaning.Exchange.{CameTo, IsOfReplay, lock_setup, setup_for};
 ghost use Rattle.dr_replay.specs.Meaning.Scripts.{scripts_in};
 
 use crate::fault::ReplayFault;

@@ -1,7 +1,7 @@
 //! The replay on one thread.
 
 ghost use Rattle.std.specs.Prelude.{◌<◌, ◌-◌, ◌^◌, IfErr, IfOk, IfSome};
-ghost use Rattle.dr_reports.specs.Turns.{WentThrough};
+ghost use Rattle.dr_reports.specs.Through.{WentThrough};
 ghost use Rattle.dr_files.specs.Counting.{faults_of, inner_of};
 ghost use Rattle.dr_replay.specs.Calls.Replayed.{IsOfFile, ReplayCounts, ReplayFaultKeeps, ReplayWrites};
 ghost use Rattle.dr_accounts.specs.ReplayText.{replay_text};

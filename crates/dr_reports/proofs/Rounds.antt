@@ -8,7 +8,7 @@ use Rattle.dr_core.proofs.Rounds.{CanTurn, TookTurn}
 use Rattle.dr_meaning.specs.Calls.Handling.{Relation}
 use Rattle.dr_meaning.specs.Meaning.Machine.{available}
 use Rattle.dr_reports.specs.Passing.{each, replay_graph, replay_setup}
-use Rattle.dr_reports.specs.Turns.{Rests}
+use Rattle.dr_reports.specs.Through.{Rests}
 use Rattle.dr_workers.proofs.Along.{along}
 
 -- what is offered to each handler, once those before it are done

@@ -12,7 +12,7 @@ use Rattle.dr_core.specs.Calls.Passing.{Holds, passed}
 use Rattle.dr_core.specs.Calls.Shows.{IsStep}
 use Rattle.dr_core.proofs.Rounds.{publish_err, publish_ok}
 use Rattle.dr_reports.specs.Passing.{each, replay_graph}
-use Rattle.dr_reports.specs.Turns.{SendsStretch}
+use Rattle.dr_reports.specs.Inside.Turns.{SendsStretch}
 
 -- a stretch is claimed, and some of it written
 abbrev pub InHand : ℕ → List Event → ℕ → ℕ → ℕ → CoreView Event → Type 0

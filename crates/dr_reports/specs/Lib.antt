@@ -1,3 +1,4 @@
 pub mod Passing
-pub mod Turns
+pub mod Through
 pub mod Keeping
+pub mod Inside

@@ -4,7 +4,8 @@ ghost use Rattle.std.specs.Prelude.{◌≡◌, ℕ, [], IfOk, List, false, take}
 ghost use Rattle.dr_seq.specs.declared.event.Event.{Event};
 ghost use Rattle.dr_accounts.specs.Parts.{HasParts, text_of};
 ghost use Rattle.dr_accounts.specs.Report.{report_of};
-ghost use Rattle.dr_reports.specs.Turns.{AreShown, AreWell, AreOffered, Turns};
+ghost use Rattle.dr_reports.specs.Inside.Turns.{AreOffered, Turns};
+ghost use Rattle.dr_reports.specs.Through.{AreShown, AreWell};
 
 use dr_accounts::{Business, Journal, Replica, Report};
 use dr_core::Core;

@@ -1,7 +1,7 @@
 //! The ways of a replay's events to their report.
 //!
 //! [`report_by_core`] sends events through a core of one thread and gives the report of the three
-//! handlers of `dr_accounts` (`specs/Turns`). Over the ring each of them has a worker ([`work`]),
+//! handlers of `dr_accounts` (`specs/Through`). Over the ring each of them has a worker ([`work`]),
 //! which gives its part of the report (`specs/Keeping`).
 #![tactic(auto)]
 

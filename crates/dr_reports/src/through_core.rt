@@ -4,7 +4,8 @@ ghost use Rattle.std.specs.Prelude.{◌≡◌, ◌<◌, ◌≤◌, ◌+◌, ◌^
 ghost use Rattle.dr_accounts.specs.Parts.{HasParts, text_of};
 ghost use Rattle.dr_reports.specs.Passing.{each};
 ghost use Rattle.dr_accounts.specs.Report.{report_of};
-ghost use Rattle.dr_reports.specs.Turns.{AreShown, ShowsAll, Rests, SendsStretch, WentThrough};
+ghost use Rattle.dr_reports.specs.Inside.Turns.{ShowsAll, SendsStretch};
+ghost use Rattle.dr_reports.specs.Through.{AreShown, Rests, WentThrough};
 
 use crate::handlers::Handlers;
 use crate::topology::open;

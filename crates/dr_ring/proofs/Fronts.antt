@@ -61,6 +61,7 @@ module _ (r : SenderRecord) (n : ℕ) (lt : length r.sent.published < n) (le : n
         near = omega arith;
         least = omega arith;
         seen = F.seen;
+        remembered = F.remembered;
         written = noted_publish f.written u F.written up;
         places = F.places;
       })

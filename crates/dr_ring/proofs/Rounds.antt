@@ -1,6 +1,6 @@
 -- What a list of looks comes to.
 use Rattle.std.proofs.Common.{◌≡◌, ◌≢◌, ℕ, ◌+◌, ◌<◌, ◌≤◌, inl, inr, true, ◌==◌, min, List}
-use Rattle.std.proofs.Common.{[], ◌∷◌, ◌++◌, length, get_or, take, sym, ap, ◌∙◌, subst, arith, append_assoc}
+use Rattle.std.proofs.Common.{[], ◌∷◌, ◌++◌, length, get_or, take, refl, sym, ap, ◌∙◌, subst, arith, append_assoc}
 use Rattle.std.specs.Prelude.{Contains}
 use Rattle.std.proofs.lemmas.Bool.{cases_lt}
 use Rattle.std.proofs.lemmas.List.{length-append, append-nil}
@@ -10,25 +10,27 @@ use Rattle.dr_runs.specs.OneSender.Words.{count_word}
 use Rattle.dr_runs.specs.declared.look.Look.{Look}
 use Rattle.dr_ring.specs.declared.record.SenderRecord.{SenderRecord}
 use Rattle.dr_ring.specs.declared.record.ReceiverRecord.{ReceiverRecord}
-use Rattle.dr_ring.specs.Meaning.Records.{sender_looked, receiver_looked}
+use Rattle.dr_ring.specs.Meaning.Records.{remembers, sender_looked, receiver_looked}
 use Rattle.dr_runs.specs.Looks.{look, last_look, offered_by, lesser_of}
 use Rattle.dr_runs.specs.OneSender.Looks.{count_looks}
 use Rattle.dr_ring.specs.Inside.Fits.{IsSeenLeast}
 use Rattle.dr_ring.specs.Calls.Receiving.{ups_of}
 use Rattle.dr_ring.specs.Inside.Polling.{receiver_saw, LooksAtUpstreams}
-use Rattle.dr_ring.specs.Inside.Scans.{LooksAtFinals, IsEnough, IsShort}
+use Rattle.dr_ring.specs.Inside.Scans.{LooksAtFinals, Scans}
 use Rattle.dr_runs.proofs.Lists.{no_elements, take_whole}
 use Rattle.dr_runs.proofs.Looks.{last_look_more, last_least, looks_more}
 use Rattle.dr_runs.proofs.Scans as scans
+use Rattle.dr_runs.proofs.Remembered.{finals_rise}
 use Rattle.dr_runs.proofs.Scans.{AreScanned, rises_none, rises_more}
 use Rattle.dr_runs.proofs.Elements.{get_any, contains_more, contains_last}
 use Rattle.dr_runs.proofs.Offers.{offers_more, some_final}
 
--- the first i finals were looked at
-pub record Scanned (r : SenderRecord) (needed least i : ℕ) (s : SenderRecord) : Type 0 where
+-- the first i finals were looked at, by a sender that remembers so many completed events
+pub record Scanned (r : SenderRecord) (kept needed least i : ℕ) (s : SenderRecord) : Type 0 where
   pub xs : List Look
   pub saw : LooksAtFinals r xs s
   pub are : AreScanned (finals r.plan.upstreams) r.looks (length r.sent.published) needed xs least i
+  pub above : kept ≤ least
 
 saw_nothing : (r : SenderRecord) → LooksAtFinals r [] r
 saw_nothing r = record { is = ap (λ (ys : List Look). record r { looks = ys }) (sym (append-nil r.looks)); rises = rises_none r.looks }
@@ -40,39 +42,80 @@ saw_more r s s' xs i v S is rise = record {
   rises = rises_more r.looks xs i v S.rises (subst (λ (q : SenderRecord). last_look 0 q.looks i ≤ v) S.is rise);
 }
 
-pub scanned_more : (r s s' : SenderRecord) (needed least least' i f v : ℕ) → Scanned r needed least i s → i < length (finals r.plan.upstreams)
-    → get_or (finals r.plan.upstreams) i 0 ≡ f → s' ≡ sender_looked s (count_word f) v → last_look 0 s.looks (count_word f) ≤ v
-    → needed ≤ v → v ≤ length s.sent.published → least' ≡ min least v → Scanned r needed least' (i + 1) s'
-scanned_more r s s' needed least least' i f v S inside at is rise high below new =
-    let front : v ≤ length r.sent.published = subst (λ (q : SenderRecord). v ≤ length q.sent.published) S.saw.is below in record {
-      xs = S.xs ++ look (count_word f) v ∷ [];
-      saw = saw_more r s s' S.xs (count_word f) v S.saw is rise;
-      are = scans.scanned_more (finals r.plan.upstreams) r.looks (length r.sent.published) needed S.xs least least' i f v S.are inside at high front new;
-    }
+-- a sender that remembers so many, which every final was seen to have completed
+module _ (r : SenderRecord) (kept needed : ℕ) (seen : IsSeenLeast r kept) where
+  -- what was seen of a final stays seen
+  still_seen : (s : SenderRecord) (xs : List Look) → LooksAtFinals r xs s → IsSeenLeast s kept
+  still_seen s xs S = subst (λ (q : SenderRecord). IsSeenLeast q kept) (sym S.is) (λ f has. (let a = seen f has in let b = S.rises f in omega arith))
 
-pub scanned_low : (r s s' : SenderRecord) (needed least i f v : ℕ) → Scanned r needed least i s → i < length (finals r.plan.upstreams)
-    → get_or (finals r.plan.upstreams) i 0 ≡ f → s' ≡ sender_looked s (count_word f) v → last_look 0 s.looks (count_word f) ≤ v
-    → v < needed → (xs : List Look) × LooksAtFinals r xs s' × IsShort r.plan xs needed
-scanned_low r s s' needed least i f v S inside at is rise low =
-    let E = scans.scanned_low (finals r.plan.upstreams) r.looks (length r.sent.published) needed S.xs least i f v S.are inside at low in (
-      S.xs ++ look (count_word f) v ∷ [],
-      saw_more r s s' S.xs (count_word f) v S.saw is rise,
-      E,
-    )
+  pub scanned_none : needed ≤ 18446744073709551615 → kept ≤ 18446744073709551615 → Scanned r kept needed 18446744073709551615 0 r
+  scanned_none fits low = record {
+    xs = [];
+    saw = saw_nothing r;
+    are = scans.scanned_none (finals r.plan.upstreams) r.looks (length r.sent.published) needed fits;
+    above = low;
+  }
 
-pub scanned_all : (r s : SenderRecord) (needed least i : ℕ) → IsPlan r.plan → Scanned r needed least i s → i ≡ length (finals r.plan.upstreams)
-    → (xs : List Look) × LooksAtFinals r xs s × IsEnough r xs needed least
-scanned_all r s needed least i plan S all =
-    let some_one = some_final r.plan.upstreams plan.graph in
-    let E = scans.scanned_all (finals r.plan.upstreams) r.looks (length r.sent.published) needed S.xs least i some_one S.are all in
-    (S.xs, S.saw, E)
+  pub scanned_more : (s s' : SenderRecord) (least least' i f v : ℕ) → Scanned r kept needed least i s → i < length (finals r.plan.upstreams)
+      → get_or (finals r.plan.upstreams) i 0 ≡ f → s' ≡ sender_looked s (count_word f) v → last_look 0 s.looks (count_word f) ≤ v
+      → v ≤ length s.sent.published → v ≤ 18446744073709551615 → needed ≤ least → least' ≡ min least v → Scanned r kept needed least' (i + 1) s'
+  scanned_more s s' least least' i f v S inside at is rise below fits enough new =
+      let fs = finals r.plan.upstreams in
+      let front : v ≤ length r.sent.published = subst (λ (q : SenderRecord). v ≤ length q.sent.published) S.saw.is below in
+      let before : kept ≤ last_look 0 r.looks (count_word f) = seen f (i, inside, get_any fs i f 0 inside ∙ at) in
+      let later : last_look 0 r.looks (count_word f) ≤ last_look 0 s.looks (count_word f) =
+      subst (λ (q : SenderRecord). last_look 0 r.looks (count_word f) ≤ last_look 0 q.looks (count_word f)) (sym S.saw.is) (S.saw.rises f) in
+      let above = S.above in record {
+        xs = S.xs ++ look (count_word f) v ∷ [];
+        saw = saw_more r s s' S.xs (count_word f) v S.saw is rise;
+        are = scans.scanned_more fs r.looks (length r.sent.published) needed S.xs least least' i f v S.are inside at enough front fits new;
+        above = omega arith;
+      }
 
--- what is remembered serves
-pub remembers : (r : SenderRecord) (needed least front : ℕ) → needed ≤ least → least ≤ front → front ≡ length r.sent.published → IsSeenLeast r least
-    → (xs : List Look) × LooksAtFinals r xs r × IsEnough r xs needed least
-remembers r needed least front serves low at seen =
-    let E = scans.remembers (finals r.plan.upstreams) r.looks (length r.sent.published) needed least serves (omega arith) seen in
-    ([], saw_nothing r, E)
+  -- what it remembers serves
+  pub found_kept : needed ≤ kept → kept ≤ length r.sent.published → kept ≡ remembers r → Scans r needed r kept
+  found_kept serves front is = let enough : needed ≤ remembers r = omega arith in record {
+    seen = [];
+    looks = saw_nothing r;
+    kept = is;
+    front = front;
+    least = seen;
+    enough = λ _. scans.remembers (finals r.plan.upstreams) r.looks (length r.sent.published) needed enough;
+    short = λ less. absurd (omega arith);
+  }
+
+  -- it does not, and a count before the last is too low
+  pub found_few : (s : SenderRecord) (least i : ℕ) → Scanned r kept needed least i s → i < length (finals r.plan.upstreams) → least < needed
+      → kept < needed → kept ≤ length r.sent.published → kept ≡ remembers r → Scans r needed s kept
+  found_few s least i S inside low less front is =
+      let fs = finals r.plan.upstreams in
+      let lacks : remembers r < needed = omega arith in
+      let H = scans.scanned_low fs r.looks (length r.sent.published) needed S.xs least i S.are (omega arith) low lacks in
+      let same = scans.scanned_few fs r.looks (length r.sent.published) needed S.xs least i S.are (finals_rise r.plan.upstreams) inside in record {
+        seen = S.xs;
+        looks = S.saw;
+        kept = is ∙ sym (ap remembers S.saw.is ∙ same);
+        front = front;
+        least = still_seen s S.xs S.saw;
+        enough = λ serves. absurd (omega arith);
+        short = λ _. H;
+      }
+
+  -- it does not, and all were looked at
+  pub found_all : (s : SenderRecord) (least i : ℕ) → IsPlan r.plan → Scanned r kept needed least i s → i ≡ length (finals r.plan.upstreams)
+      → kept < needed → kept ≡ remembers r → Scans r needed s least
+  found_all s least i plan S all less is =
+      let some_one = some_final r.plan.upstreams plan.graph in
+      let lacks : remembers r < needed = omega arith in
+      let E = scans.scanned_all (finals r.plan.upstreams) r.looks (length r.sent.published) needed S.xs least i some_one S.are all lacks in record {
+        seen = S.xs;
+        looks = S.saw;
+        kept = E.kept ∙ sym (ap remembers S.saw.is);
+        front = E.front;
+        least = subst (λ (q : SenderRecord). IsSeenLeast q least) (sym S.saw.is) E.seen;
+        enough = E.enough;
+        short = E.short;
+      }
 
 -- the counts of the first i upstreams were looked at
 pub record Round (ups : List ℕ) (r : ReceiverRecord) (cursor available i : ℕ) (s : ReceiverRecord) : Type 0 where

@@ -25,6 +25,7 @@ fits_write {r = r} {f = f} {w = w} s v F is le lt notes =
       near = F.near;
       least = F.least;
       seen = F.seen;
+      remembered = F.remembered;
       written = noted_write r f.written w s v (size_positive r.plan.size F.made.size) (omega arith) (omega arith) (omega arith) F.written notes;
       places = F.places;
     })

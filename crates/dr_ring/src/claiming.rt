@@ -1,7 +1,7 @@
 //! What a claim is made of: looks at halt and at the final handlers' counts.
 
-ghost use Rattle.std.specs.Prelude.{◌≡◌, ◌≤◌, if◌then◌else◌, length, IfSome};
-ghost use Rattle.dr_ring.specs.Meaning.Records.{halt_looked, SeesRoom};
+ghost use Rattle.std.specs.Prelude.{◌≡◌, ◌≤◌, if◌then◌else◌, length};
+ghost use Rattle.dr_ring.specs.Meaning.Records.{halt_looked, remembers, SeesRoom};
 ghost use Rattle.dr_ring.specs.Inside.Fits.{IsSeenLeast};
 ghost use Rattle.dr_runs.specs.Ends.{HasLoaded};
 ghost use Rattle.dr_ring.specs.Inside.Scans.{Scans};
@@ -25,28 +25,30 @@ impl SenderStation {
         self.look_at_halt::<Brand>(more) == 0
     }
 
-    /// Gives a number of events that every final handler has completed, at least `need`: the one
-    /// that is remembered where it serves, else the least of the counts that are there now. It
-    /// gives nothing at the first count that is below `need`.
-    pub(crate) fn make_room(&mut self, published: u64, remembered: u64, need: u64) -> Option<u64>
-        requires front { published ≡ length self.old.knows.sent.published }
-        requires remembered { (remembered ≤ published) × IsSeenLeast self.old.knows remembered }
+    /// Looks for `need` events that every final handler has completed, and gives how many are
+    /// remembered from then on: what is remembered now where that serves, else the least of the
+    /// counts that are there. It stops at the first count that is too low, and then gives what is
+    /// remembered now, unless that was the last count.
+    pub(crate) fn make_room(&mut self, remembered: u64, need: u64) -> u64
+        requires kept { remembered ≡ remembers self.old.knows }
+        requires front { remembered ≤ length self.old.knows.sent.published }
+        requires least { IsSeenLeast self.old.knows remembered }
         ensures only { HasLoaded self.old self.new.knows self.new }
         ensures answer { Scans self.old.knows need self.new.knows result }
-        ensures rises { IfSome result (λ least. remembered ≤ least) }
+        ensures rises { remembered ≤ result }
     {
         if remembered >= need {
-            return Some(remembered);
+            return remembered;
         }
-        let mut least = published;
+        let mut least = u64::MAX;
         for place in 0..self.plan().finals().len() {
+            if least < need {
+                return remembered;
+            }
             let handler = self.plan().finals()[place];
             let count = self.look_at_count(handler);
-            if count < need {
-                return None;
-            }
             least = least.min(count);
         }
-        Some(least)
+        least
     }
 }

@@ -55,6 +55,7 @@ fn receivers(
 }
 
 // The ends of a ring for a plan.
+#[tactic(auto, using(dr_runs::proofs::Remembered::remembers_none))]
 fn ends(alloc: Global, plan: Plan) -> Result<(Sender, Vec<Receiver>, Halter), AllocError>
     requires { IsPlan plan }
     ensures { IfOk result (λ made. AreFreshEnds plan made.0 made.1.items made.2) }

@@ -62,10 +62,11 @@ impl Sender {
         let upto = lo + n;
         let need = upto.saturating_sub(size);
         let seen = self.gate.seen();
-        let Some(least) = self.station.make_room(self.published, seen, need) else {
-            return Err(Refusal::NoRoom);
-        };
+        let least = self.station.make_room(seen, need);
         self.gate.raise(least);
+        if least < need {
+            return Err(Refusal::NoRoom);
+        }
         if !self.station.claims(n) {
             return Err(Refusal::Halted);
         }

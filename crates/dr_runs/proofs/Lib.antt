@@ -15,6 +15,7 @@ pub mod Flags
 pub mod OneSender
 pub mod Completions
 pub mod Replies
+pub mod Remembered
 pub mod Scans
 pub mod Answering
 pub mod Entries

@@ -14,3 +14,4 @@ pub mod Unrefused
 pub mod Biding
 pub mod Lent
 pub mod Along
+pub mod InVain

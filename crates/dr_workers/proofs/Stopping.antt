@@ -1,6 +1,6 @@
 -- A worker that is stopped, passage by passage.
-use Rattle.std.proofs.Common.{◌≡◌, ◌≢◌, ◌⊎◌, ◌+◌, ◌-◌, ◌^◌, ◌<◌, ◌≤◌, ℕ, Bool, true, false, Option, Some, inl, inr, refl, sym, ap, ◌∙◌, subst, arith}
-use Rattle.std.proofs.Common.{add-zero, zero-add}
+use Rattle.std.proofs.Common.{◌≡◌, ◌≢◌, ◌⊎◌, ◌+◌, ◌-◌, ◌^◌, ◌<◌, ◌≤◌, ℕ, min, Bool, true, false, Option, Some, inl, inr, refl, sym, ap, ◌∙◌, subst, arith}
+use Rattle.std.proofs.Common.{zero-add}
 use Rattle.std.proofs.lemmas.Bool.{cases_lt, false≢true}
 use Rattle.std.proofs.lemmas.Option.{none-some}
 use Rattle.dr_meaning.specs.declared.ends.Trouble.{Trouble}
@@ -16,7 +16,7 @@ passes_none may_stop must_stop t = record {
   who = refl;
   may = λ is. inl is;
   stays = λ is. is;
-  passage = λ going fits. sym (add-zero t.passage);
+  passage = λ fits going. omega (arith, fits);
   must = λ k less fits stop. absurd (omega arith);
   most = omega arith;
 }
@@ -38,7 +38,8 @@ must_later may_stop must_stop n m k a b c h l late less fits stop =
     elim (stopped_or_not b.stopped) [
       | inl stopped ↦ l.stays stopped
       | inr going ↦
-          let at : b.passage ≡ a.passage + n = h.passage going (omega arith) in
+          let low : b.passage ≡ min (a.passage + n) 18446744073709551615 = h.passage (omega (arith, fits)) going in
+          let at : b.passage ≡ a.passage + n = omega (arith, low, late, fits) in
           let there : a.passage + k ≡ b.passage + (k - n) = omega arith in
           l.must (k - n) (omega arith) (omega arith) (subst (λ t. must_stop b.who t) there (subst (λ w. must_stop w (a.passage + k)) (sym h.who) stop))
     ]
@@ -58,10 +59,10 @@ passes_more may_stop must_stop n m a b c h l = record {
         inr (now.0, omega arith, subst (λ who. may_stop who now.0) h.who now.2))
   ];
   stays = λ is. l.stays (h.stays is);
-  passage = λ going fits.
-      let first : b.passage ≡ a.passage + n = h.passage (going_before b.stopped c.stopped l.stays going) (omega arith) in
-      let second : c.passage ≡ b.passage + m = l.passage going (omega arith) in
-      omega arith;
+  passage = λ fits going.
+      let first : b.passage ≡ min (a.passage + n) 18446744073709551615 = h.passage fits (going_before b.stopped c.stopped l.stays going) in
+      let second : c.passage ≡ min (b.passage + m) 18446744073709551615 = l.passage (omega (arith, first)) going in
+      omega (arith, first, second);
   must = λ k less fits stop. elim (cases_lt k n) [
     | inl early ↦ l.stays (h.must k early fits stop)
     | inr not ↦ must_later may_stop must_stop n m k a b c h l (omega arith) less fits stop
@@ -76,7 +77,7 @@ passes_stopped may_stop must_stop t is =
       who = refl;
       may = λ now. inl now;
       stays = λ now. now;
-      passage = λ going fits. absurd (false≢true (sym going ∙ is));
+      passage = λ fits going. absurd (false≢true (sym going ∙ is));
       must = λ k less fits stop. is;
       most = omega arith;
     }

@@ -3,4 +3,5 @@ pub mod Fault
 pub mod Stops
 pub mod Serving
 pub mod Waits
+pub mod InVain
 pub mod Strategies

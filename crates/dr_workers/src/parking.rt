@@ -1,6 +1,7 @@
 //! Waiting that costs nothing.
 
 ghost use Rattle.std.specs.Prelude.{◌≡◌, None};
+ghost use Rattle.dr_workers.specs.Calls.InVain.{SleepsInTheEnd};
 ghost use Rattle.dr_workers.specs.Calls.Waits.{HasFound, HasParked, begun, is_asleep_next};
 
 use crate::bell::Bell;
@@ -33,6 +34,8 @@ impl<'a, R: Wait> Parking<'a, R> {
         ensures waiting { result.waiting ≡ begun room }
         ensures looks { result.looks ≡ 0 }
         ensures heard { result.heard ≡ None }
+        // Whatever its looks find, it pauses and yields like one that does not sleep, and its next wait sleeps just where more than 200 in a row found nothing.
+        ensures law { SleepsInTheEnd result }
     {
         Parking {
             rt,

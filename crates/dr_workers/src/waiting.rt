@@ -1,6 +1,7 @@
 //! How a thread waits for others.
 
 ghost use Rattle.std.specs.Prelude.{◌≡◌, if◌then◌else◌};
+ghost use Rattle.dr_workers.specs.Calls.InVain.{PausesThenYields};
 ghost use Rattle.dr_workers.specs.Calls.Waits.{begun, found_from, longer as longer_of, pauses_after, shorter as shorter_of, tuned as tuned_of, waited_from};
 
 use crate::patience::Patience;
@@ -63,7 +64,10 @@ fn tuned(room: u64, count: u64, pauses: u32) -> u32
 impl Waiting {
     /// For a thread that has room for so many events at once. No look found nothing yet.
     pub fn new(room: u64) -> Waiting
-        ensures { result ≡ begun room }
+        // It takes one pause after a first look that finds nothing.
+        ensures start { result ≡ begun room }
+        // Whatever its looks find, it takes 1 to 1024 pauses, a power of two, after each of the first four in a row that find nothing, and yields after each further one.
+        ensures law { PausesThenYields result }
     {
         Waiting {
             room,

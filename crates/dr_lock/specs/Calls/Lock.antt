@@ -1,5 +1,6 @@
 -- A history behind a lock.
-use Rattle.std.specs.Prelude.{◌≡◌, ℕ, ◌+◌, ◌<◌, if◌then◌else◌, Option, None, Some, Result, Ok, Err, List, [], ◌∷◌, ◌++◌, drop, length, replicate, slice_get, take}
+use Rattle.std.specs.Prelude.{◌≡◌, ℕ, ◌+◌, ◌<◌, if◌then◌else◌, Option, None, Some, Result, Ok, Err, List, [], ◌∷◌, ◌++◌, drop, length, map, replicate, slice_get, take}
+use Rattle.std.specs.List.{enumerate_from}
 use Rattle.dr_meaning.specs.declared.command.Command.{Command}
 use Rattle.dr_meaning.specs.declared.command.Command.TheVariants.{Halt, Write}
 use Rattle.dr_meaning.specs.declared.command.Reply.{Reply}
@@ -113,8 +114,8 @@ pub record AreWritten {E : Type 0} (begun : History E) (p lo : ℕ) (events : Li
 
 -- a producer's writes of some events to the sequences from lo on, each answered `Written`
 abbrev pub writes_from : {E : Type 0} → ℕ → ℕ → List E → List (Call E)
-writes_from p lo [] = []
-writes_from p lo (event ∷ events) = record { command = Write p lo event; reply = Some Written } ∷ writes_from p (lo + 1) events
+writes_from {E} p lo events =
+    let written : ℕ × E → Call E = λ x. record { command = Write p x.0 x.1; reply = Some Written } in map written (enumerate_from lo events)
 
 -- the write of the first of some events, where it is in trouble
 abbrev pub write_in_trouble : {E : Type 0} → ℕ → ℕ → Option Trouble → List E → List (Call E)

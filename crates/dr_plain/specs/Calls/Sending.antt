@@ -16,7 +16,7 @@ use Rattle.dr_plain.specs.declared.record.Step.TheVariants.{SenderPublishes, Sen
 use Rattle.dr_runs.specs.Runs.{IsBeginning, StoresWhereOk}
 use Rattle.dr_runs.specs.OneSender.Replies.{claim_tests_of}
 use Rattle.dr_plain.specs.Calls.Ends.{SenderEnd, sender_place, sent_of}
-use Rattle.dr_plain.specs.Meaning.Records.{claimed, sender_halted, sender_closed, SeesRoom}
+use Rattle.dr_plain.specs.Meaning.Records.{claimed, remembers, sender_halted, sender_closed, SeesRoom}
 use Rattle.dr_lent.specs.Events.{events_of}
 use Rattle.dr_runs.specs.Looks.{look}
 use Rattle.dr_runs.specs.OneSender.Looks.{count_looks}
@@ -30,14 +30,15 @@ module _ {T : Type 0} where
   abbrev pub LeavesRoom : SenderRecord T → ℕ → ℕ → Type 0
   LeavesRoom r n count = claimed r + n ≤ r.plan.size + count
 
-  -- there is room for n more: the sender looked at no final, or at each of them, and each leaves room; and what it has now seen of each final, by this claim or before, leaves room within the limit
+  -- there is room for n more: the sender looked at no final where what it remembers leaves room, and else at each of them, and each leaves room; and what it has now seen of each final, by this claim or before, leaves room within the limit
   pub record FoundRoom (r : SenderRecord T) (n : ℕ) (counts : List ℕ) : Type 0 where
-    pub all : (counts ≡ []) ⊎ (length counts ≡ length (finals r.plan.upstreams))
+    pub all : (LeavesRoom r n (remembers r) × (counts ≡ [])) ⊎ ((r.plan.size + remembers r < claimed r + n) × (length counts ≡ length (finals r.plan.upstreams)))
     pub room : (i : ℕ) → i < length counts → LeavesRoom r n (slice_index counts i)
     pub sees : SeesRoom r.plan (record r { looks = r.looks ++ look halt_word 0 ∷ gate_looks r counts }) n
 
-  -- there is none: the last count at which the sender looked is the first that leaves no room
+  -- there is none: neither does what it remembers leave room, and the last count at which the sender looked is the first that leaves none
   pub record FoundNoRoom (r : SenderRecord T) (n : ℕ) (counts : List ℕ) : Type 0 where
+    pub remembered : r.plan.size + remembers r < claimed r + n
     pub before : ℕ
     pub last : length counts ≡ before + 1
     pub among : length counts ≤ length (finals r.plan.upstreams)

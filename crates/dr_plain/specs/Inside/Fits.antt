@@ -14,7 +14,7 @@ use Rattle.dr_plain.specs.Meaning.Shape.{Shape, handlers_of}
 use Rattle.dr_plain.specs.Meaning.Words.{cell_of}
 use Rattle.dr_runs.specs.OneSender.Words.{count_word}
 use Rattle.dr_plain.specs.Meaning.Lying.{part_of, placed}
-use Rattle.dr_plain.specs.Meaning.Records.{claimed, laid, Laid}
+use Rattle.dr_plain.specs.Meaning.Records.{claimed, laid, remembers, Laid}
 use Rattle.dr_runs.specs.Looks.{last_look}
 use Rattle.dr_plain.specs.Calls.Plans.{IsPlan}
 use Rattle.dr_plain.specs.Calls.Ends.{SenderStand, ReceiverStand}
@@ -68,6 +68,7 @@ module _ {T : Type 0} where
     pub near : f.claimed_to ≤ e.knows.plan.size + f.published_to
     pub least : f.remembered ≤ f.published_to
     pub seen : IsSeenLeast e.knows f.remembered
+    pub remembered : f.remembered ≡ remembers e.knows
     pub written : Noted e.knows.plan.size (claimed e.knows) f.written
     pub tokens : TokensFit e.knows f.tokens
     pub hand : e.hand ≡ open_slots e.knows

@@ -10,6 +10,7 @@ use Rattle.dr_plain.specs.declared.record.SenderRecord.{SenderRecord}
 use Rattle.dr_plain.specs.declared.record.ReceiverRecord.{ReceiverRecord}
 use Rattle.dr_plain.specs.declared.record.HalterRecord.{HalterRecord}
 use Rattle.dr_runs.specs.Looks.{look, last_look, offered_by}
+use Rattle.dr_runs.specs.OneSender.Looks.{remembered}
 
 -- up to where the barrier of a handler lets events through, as far as it saw
 abbrev pub barrier_seen : Shape → ℕ → List Look → ℕ
@@ -80,6 +81,10 @@ module _ {T : Type 0} where
   -- it has looked at a word
   abbrev pub halter_looked : HalterRecord T → ℕ → ℕ → HalterRecord T
   halter_looked r word found = record r { looks = r.looks ++ look word found ∷ [] }
+
+  -- how many events the sender remembers every final handler to have completed: as many as the least count says in the last row of looks at all of them
+  abbrev pub remembers : SenderRecord T → ℕ
+  remembers r = remembered (finals r.plan.upstreams) r.looks
 
   -- the sender has room for n more, as far as it saw: within the limit, and no slot is used again that some final handler has not completed
   pub record SeesRoom (k : Shape) (r : SenderRecord T) (n : ℕ) : Type 0 where

@@ -1,5 +1,5 @@
 -- What a look may find: no word that is looked at falls. And what an exchange comes to.
-use Rattle.std.specs.Prelude.{◌≡◌, ℕ, ◌+◌, ◌<◌, ◌≤◌, ◌==◌, if◌then◌else◌, true, length, None}
+use Rattle.std.specs.Prelude.{◌≡◌, ℕ, ◌+◌, ◌<◌, ◌≤◌, ◌==◌, if◌then◌else◌, true, List, length, None}
 use Rattle.dr_runs.specs.Looks.{last_look}
 use Rattle.dr_plain_senders.specs.Meaning.Shape.{Shape}
 use Rattle.dr_plain_senders.specs.Meaning.Words.{claim_word, claimed_in, is_halted}
@@ -36,5 +36,5 @@ module _ {T : Type 0} where
   IsEarlier k c n s t = (s < c) × (t.lent ≡ None → n ≤ s + k.size)
 
   -- a sender's exchange of c for c + n claims where it finds c, and is a look where it finds another number
-  abbrev pub after_exchange : SenderRecord T → ℕ → ℕ → ℕ → SenderRecord T
-  after_exchange r c n found = if found == c then claimed_from r c n else sender_looked r claim_word found
+  abbrev pub after_exchange : SenderRecord T → ℕ → ℕ → List T → ℕ → SenderRecord T
+  after_exchange r c n lay found = if found == c then claimed_from r c n lay else sender_looked r claim_word found

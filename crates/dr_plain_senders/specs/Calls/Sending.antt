@@ -12,7 +12,7 @@ use Rattle.dr_runs.specs.Looks.{look}
 use Rattle.dr_lent.specs.declared.lent.Lent.{Lent}
 use Rattle.dr_plain_senders.specs.Meaning.Shape.{Shape}
 use Rattle.dr_plain_senders.specs.Meaning.Words.{claim_word, is_halted, halted_from, cell_of}
-use Rattle.dr_plain_senders.specs.Meaning.Records.{fresh_own, sender_looked, Owns}
+use Rattle.dr_plain_senders.specs.Meaning.Records.{fresh_own, taken_from, sender_looked, Owns, Took}
 use Rattle.dr_plain_senders.specs.declared.record.Stage.{Stage}
 use Rattle.dr_plain_senders.specs.declared.record.SenderRecord.{SenderRecord}
 use Rattle.dr_plain_senders.specs.declared.record.Step.{Step}
@@ -79,10 +79,15 @@ module _ {T : Type 0} where
       (c found : ℕ) × (counts : List ℕ) × FoundRoom k c n counts × (found ≢ c) × (is_halted found ≡ false)
       × (seen ≡ look claim_word c ∷ gate_looks k counts ++ look claim_word found ∷ []) × (steps ≡ SenderClaims p c n ∷ [])
 
-  -- what a sender knows after a claim: its looks, and the stretch where it is given
-  abbrev pub knows_after : SenderRecord T → ℕ → List Look → Result Claimed ClaimFault → SenderRecord T
-  knows_after r n seen (Ok c) = record r { own = r.own ++ fresh_own r.number c.lo n; looks = r.looks ++ seen }
-  knows_after r n seen (Err fault) = record r { looks = r.looks ++ seen }
+  -- what a sender knows after a claim: its looks, and the stretch where it is given, with what lay in its cells
+  abbrev pub knows_after : SenderRecord T → ℕ → List Look → List T → Result Claimed ClaimFault → SenderRecord T
+  knows_after r n seen lay (Ok c) = record r { own = r.own ++ fresh_own r.number c.lo n; taken = r.taken ++ taken_from c.lo lay; looks = r.looks ++ seen }
+  knows_after r n seen lay (Err fault) = record r { looks = r.looks ++ seen }
+
+  -- how many sequences a claim of n gives
+  abbrev pub given : ℕ → Result Claimed ClaimFault → ℕ
+  given n (Ok c) = n
+  given n (Err fault) = 0
 
   pub record ClaimCall (e : SenderStand T) (n : ℕ) (e' : SenderStand T) (result : Result Claimed ClaimFault) : Type 0 where
     pub ring : e'.ring ≡ e.ring
@@ -90,7 +95,10 @@ module _ {T : Type 0} where
     pub seen : List Look
     pub steps : List (Step T)
     pub looks : LooksToClaim e.knows.plan e.knows.number n seen steps result
-    pub knows : e'.knows ≡ knows_after e.knows n seen result
+    -- what lay in the cells of the stretch
+    pub lay : List T
+    pub each : length lay ≡ given n result
+    pub knows : e'.knows ≡ knows_after e.knows n seen lay result
     pub stored : e'.stored ≡ e.stored ++ steps
     pub past : IsBeginning e.past e'.past
     -- so no sequence reaches 2^62, and no claim is of more than 65,536
@@ -98,14 +106,14 @@ module _ {T : Type 0} where
     pub size : IsSize e.knows.plan.size
 
   -- This lay in the cell of a sequence before: in the first round what the ring began with,
-  -- and what was published there last, where the sender published that itself. What another published it does not know.
+  -- and what was published there last, where the sender published that itself. That it is what another published, all ends together tell.
   abbrev pub LayThere : SenderRecord T → ℕ → T → Type 0
   LayThere r q x = (q < r.plan.size → get_elem? r.plan.begun q ≡ some x)
       × ((s : ℕ) (t : Stage T) (l : Lent T) → q ≡ r.plan.size + s → Owns r s t → t.lent ≡ Some l → x ≡ l.event)
 
-  -- in the cell of each sequence of a stretch lies what lay there, and what lies in all others is as before
-  pub record GainsCells (r : SenderRecord T) (lo n : ℕ) (cells cells' : List (Option T)) : Type 0 where
-    pub gained : (s : ℕ) → lo ≤ s → s < lo + n → (x : T) × (get_elem? cells' (cell_of r.plan s) ≡ some (Some x)) × LayThere r s x
+  -- in the cell of each sequence of a stretch lies what lay there, which the sender remembers, and what lies in all others is as before
+  pub record GainsCells (r r' : SenderRecord T) (lo n : ℕ) (cells cells' : List (Option T)) : Type 0 where
+    pub gained : (s : ℕ) → lo ≤ s → s < lo + n → (x : T) × (get_elem? cells' (cell_of r.plan s) ≡ some (Some x)) × LayThere r s x × Took r' s x
     pub others : (i : ℕ) → ((s : ℕ) → lo ≤ s → s < lo + n → cell_of r.plan s ≢ i) → get_elem? cells' i ≡ get_elem? cells i
 
   -- all that a sender has is below a sequence
@@ -114,7 +122,7 @@ module _ {T : Type 0} where
 
   -- nothing is written of what a claim adds, which is behind all that the sender had
   abbrev pub ClaimGains : SenderEnd T → ℕ → SenderEnd T → Result Claimed ClaimFault → Type 0
-  ClaimGains e n e' (Ok c) = (e'.writes ≡ e.writes ++ replicate n None) × GainsCells e.knows c.lo n e.cells e'.cells × IsBehind e.knows c.lo
+  ClaimGains e n e' (Ok c) = (e'.writes ≡ e.writes ++ replicate n None) × GainsCells e.knows e'.knows c.lo n e.cells e'.cells × IsBehind e.knows c.lo
   ClaimGains e n e' (Err fault) = (e'.writes ≡ e.writes) × (e'.cells ≡ e.cells)
 
   -- the call of a sender's end

@@ -13,7 +13,7 @@ use Rattle.dr_lent.specs.declared.lent.Lent.{Lent}
 use Rattle.dr_lent.specs.Slots.{is_in_hand}
 use Rattle.dr_plain_senders.specs.Meaning.Shape.{Shape, handlers_of}
 use Rattle.dr_plain_senders.specs.Meaning.Words.{claim_word, cell_of, keeping_lane, lane_of}
-use Rattle.dr_plain_senders.specs.Meaning.Lying.{Laid, unlent, lent, part_of, placed, IsLaid}
+use Rattle.dr_plain_senders.specs.Meaning.Lying.{Laid, unlent, lent, value_of, part_of, placed, IsLaid}
 use Rattle.dr_plain_senders.specs.declared.record.Stage.{Stage}
 use Rattle.dr_plain_senders.specs.declared.record.EndRecord.{EndRecord}
 use Rattle.dr_plain_senders.specs.declared.record.Step.{Step}
@@ -23,11 +23,6 @@ use Rattle.dr_plain_senders.specs.Inside.Seats.{Hand, Sitting, ring_ends, exchan
 use Rattle.dr_plain_senders.specs.Inside.Gathering.{sender_known, receiver_known, halter_known}
 
 module _ {T : Type 0} where
-  -- the event in a cell
-  abbrev pub value_of : Laid T → T
-  value_of (unlent x) = x
-  value_of (lent l) = l.event
-
   -- the parts of what lies lent in the cell that the sequence q takes next, from the handler h on: all but those that handlers have in hand
   abbrev pub parts_left : Shape T → ℕ → List HandlerCounts → ℕ → Lent T → Hand T
   parts_left k h [] q l = []

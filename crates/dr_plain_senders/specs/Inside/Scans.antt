@@ -1,13 +1,13 @@
 -- What the sender's looks come to, as a claim goes on.
-use Rattle.std.specs.Prelude.{◌≡◌, ℕ, ◌+◌, ◌<◌, ◌≤◌, Bool, true, false, List, ◌++◌, length, slice_index, Result, Ok, Err}
+use Rattle.std.specs.Prelude.{◌≡◌, ℕ, ◌+◌, ◌<◌, ◌≤◌, Bool, true, false, List, ◌++◌, map, length, slice_index, Result, Ok, Err}
 use Rattle.dr_meaning.specs.declared.command.Claimed.{Claimed}
 use Rattle.dr_meaning.specs.declared.claim_fault.ClaimFault.{ClaimFault}
 use Rattle.dr_graph.specs.Meaning.Graph.{finals}
 use Rattle.dr_runs.specs.declared.look.Look.{Look}
 use Rattle.dr_plain_senders.specs.declared.record.Stage.{Stage}
 use Rattle.dr_plain_senders.specs.declared.record.SenderRecord.{SenderRecord}
-use Rattle.dr_plain_senders.specs.Meaning.Records.{Owns}
-use Rattle.dr_plain_senders.specs.Meaning.Lying.{Laid}
+use Rattle.dr_plain_senders.specs.Meaning.Records.{Owns, taken_from}
+use Rattle.dr_plain_senders.specs.Meaning.Lying.{Laid, value_of}
 use Rattle.dr_plain_senders.specs.Calls.Ends.{SenderStand, count_looks}
 use Rattle.dr_plain_senders.specs.Calls.Finds.{IsEarlier}
 use Rattle.dr_plain_senders.specs.Inside.Seats.{LayIn, LayAsLent, taken_by_claim}
@@ -46,4 +46,5 @@ module _ {T : Type 0} where
   abbrev pub ClaimTakes : SenderStand T → ℕ → SenderStand T → Result Claimed ClaimFault → Type 0
   ClaimTakes e n e' (Ok c) =
       (laid : List (Laid T)) × LayIn e.knows.plan c.lo n laid × (e'.hand ≡ taken_by_claim e.knows.plan c.lo laid ++ e.hand) × LayAsLent e.knows c.lo laid
+      × (e'.knows.taken ≡ e.knows.taken ++ taken_from c.lo (map value_of laid))
   ClaimTakes e n e' (Err fault) = e'.hand ≡ e.hand

@@ -26,7 +26,7 @@ use Rattle.dr_plain_senders.specs.declared.record.Step.{Step}
 use Rattle.dr_plain_senders.specs.Meaning.Records.{Owns, has_published, sender_looked, mark_found, claims_looked, taken_at_mark, mark_looked}
 use Rattle.dr_plain_senders.specs.Meaning.Records.{taken_at, receiver_looked, completed_to, halter_halted, halter_looked}
 use Rattle.dr_plain_senders.specs.Meaning.Rule.{World}
-use Rattle.dr_plain_senders.specs.Meaning.Lying.{Laid, unlent, lent, placed, Lies}
+use Rattle.dr_plain_senders.specs.Meaning.Lying.{Laid, unlent, lent, value_of, placed, Lies}
 use Rattle.dr_plain_senders.specs.Meaning.Steps.{Happens}
 use Rattle.dr_plain_senders.specs.Meaning.Stores.{sender_number, receiver_number, is_store_of}
 use Rattle.dr_plain_senders.specs.Meaning.Moments.{fresh_sender, fresh_senders, fresh_receiver, fresh_receivers, fresh_halter, new_world, entries_of}
@@ -193,7 +193,7 @@ module _ {T : Type 0} where
   abbrev pub SenderClaimed : Tells T
   SenderClaimed s me n me' = let r : SenderRecord T = sender_of me.0 in let more : ℕ = s.second - s.first in
       (laid : List (Laid T)) × LayIn r.plan s.first (exchanged s.first more n) laid
-      × (me' ≡ as_sender (after_exchange r s.first more n) (taken_by_claim r.plan s.first laid ++ me.1))
+      × (me' ≡ as_sender (after_exchange r s.first more (map value_of laid) n) (taken_by_claim r.plan s.first laid ++ me.1))
       × FindsMore r.looks claim_word n × (n ≡ s.first → (z : ℕ) (t : Stage T) → Owns r z t → IsEarlier r.plan s.first s.second z t)
       × LayAsLent r s.first laid
 

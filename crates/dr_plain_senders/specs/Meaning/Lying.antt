@@ -18,6 +18,11 @@ pub data Laid (T : Type 0) : Type 0 where
   lent : Lent T → Laid T
 
 module _ {T : Type 0} where
+  -- the event in a cell
+  abbrev pub value_of : Laid T → T
+  value_of (unlent x) = x
+  value_of (lent l) = l.event
+
   -- what is kept of the cell of a sequence: all of it, or what all handlers have no part of
   abbrev pub kept_of : Shape T → ℕ → Laid T → Token T
   kept_of k s (unlent x) = token_at k.strip (cell_of k s) (whole x)

@@ -31,7 +31,7 @@ use Rattle.dr_plain_senders.specs.Meaning.Steps.{Happens}
 module _ {T : Type 0} where
   -- the ends of a new ring
   abbrev pub fresh_sender : Shape T → ℕ → SenderRecord T
-  fresh_sender k p = record { plan = k; number = p; own = []; marks = []; looks = [] }
+  fresh_sender k p = record { plan = k; number = p; own = []; taken = []; marks = []; looks = [] }
 
   -- n senders, from the number p on
   abbrev pub fresh_senders : Shape T → ℕ → ℕ → List (SenderRecord T)

@@ -12,6 +12,7 @@ use Rattle.dr_plain_senders.specs.Meaning.Words.{claim_word, claimed_in, is_halt
 use Rattle.dr_plain_senders.specs.declared.record.MarkLook.{MarkLook}
 use Rattle.dr_plain_senders.specs.declared.record.Stage.{Stage}
 use Rattle.dr_plain_senders.specs.declared.record.Own.{Own}
+use Rattle.dr_plain_senders.specs.declared.record.Taken.{Taken}
 use Rattle.dr_plain_senders.specs.declared.record.SenderRecord.{SenderRecord}
 use Rattle.dr_plain_senders.specs.declared.record.ReceiverRecord.{ReceiverRecord}
 use Rattle.dr_plain_senders.specs.declared.record.HalterRecord.{HalterRecord}
@@ -45,6 +46,15 @@ module _ {T : Type 0} where
   abbrev pub Owns : SenderRecord T → ℕ → Stage T → Type 0
   Owns r s t = (i : ℕ) × (get_elem? r.own i ≡ some record { sequence = s; stage = t })
 
+  -- what lay in the cells of sequences from c on
+  abbrev pub taken_from : ℕ → List T → List (Taken T)
+  taken_from c [] = []
+  taken_from c (x ∷ lay) = record { sequence = c; event = x } ∷ taken_from (suc c) lay
+
+  -- as a sender claimed a sequence, this lay in its cell
+  abbrev pub Took : SenderRecord T → ℕ → T → Type 0
+  Took r s x = (i : ℕ) × (get_elem? r.taken i ≡ some record { sequence = s; event = x })
+
   -- it has brought one of its sequences further
   abbrev pub own_after : ℕ → (Stage T → Stage T) → Own T → Own T
   own_after s further o = if o.sequence == s then record o { stage = further o.stage } else o
@@ -68,9 +78,10 @@ module _ {T : Type 0} where
   abbrev pub mark_found : SenderRecord T → ℕ → ℕ → SenderRecord T
   mark_found r s found = record r { marks = r.marks ++ mark_look r.looks s found ∷ [] }
 
-  -- it has claimed n sequences from c on
-  abbrev pub claimed_from : SenderRecord T → ℕ → ℕ → SenderRecord T
-  claimed_from r c n = record r { own = r.own ++ fresh_own r.number c n; looks = r.looks ++ look claim_word (c + n) ∷ [] }
+  -- it has claimed n sequences from c on, in whose cells this lay
+  abbrev pub claimed_from : SenderRecord T → ℕ → ℕ → List T → SenderRecord T
+  claimed_from r c n lay =
+      record r { own = r.own ++ fresh_own r.number c n; taken = r.taken ++ taken_from c lay; looks = r.looks ++ look claim_word (c + n) ∷ [] }
 
   -- one look at the claim word tells a receiver that the ring drained: it is halted, and what is claimed is what the receiver took
   abbrev pub tells_drained : ReceiverRecord T → ℕ → Bool

@@ -1,5 +1,5 @@
 -- The rule of a ring, which holds between any two steps.
-use Rattle.std.specs.Prelude.{◌≡◌, ℕ, ◌+◌, ◌≤◌, Bool, true, List, length, slice_index, Some, Contains}
+use Rattle.std.specs.Prelude.{◌≡◌, ℕ, ◌+◌, ◌<◌, ◌≤◌, ◌⊎◌, Bool, true, List, length, slice_index, Some, Contains}
 use mathlib.Core.Option.{some}
 use lib.ListN.{get_elem?}
 use Rattle.dr_graph.specs.Meaning.Graph.{upstreams_of, finals}
@@ -14,7 +14,7 @@ use Rattle.dr_plain_senders.specs.declared.record.Own.{Own}
 use Rattle.dr_plain_senders.specs.declared.record.SenderRecord.{SenderRecord}
 use Rattle.dr_plain_senders.specs.declared.record.ReceiverRecord.{ReceiverRecord}
 use Rattle.dr_plain_senders.specs.declared.record.HalterRecord.{HalterRecord}
-use Rattle.dr_plain_senders.specs.Meaning.Records.{Owns}
+use Rattle.dr_plain_senders.specs.Meaning.Records.{Owns, Took}
 
 -- the words of a ring, how far each claimed sequence has come, and what each end knows
 pub record World (T : Type 0) : Type 0 where
@@ -44,12 +44,18 @@ module _ {T : Type 0} where
   abbrev pub IsFree : Shape T → List (Stage T) → ℕ → Type 0
   IsFree k stages q = (s : ℕ) → q ≡ k.size + s → IsOut stages s
 
-  -- a sender: the sequences that it has are those that it claimed, each as far as it knows
+  -- this lies in the cell that the sequence q takes next: what the ring began with, or what the sequence before it there published
+  abbrev pub LiesBefore : Shape T → List (Stage T) → ℕ → T → Type 0
+  LiesBefore k stages q x =
+      ((q < k.size) × (get_elem? k.begun q ≡ some x)) ⊎ ((s : ℕ) × (l : Lent T) × (q ≡ k.size + s) × IsOutWith stages s l × (x ≡ l.event))
+
+  -- a sender: the sequences that it has are those that it claimed, each as far as it knows, and what it took from each cell lay there
   pub record SenderKept (k : Shape T) (words : List ℕ) (stages : List (Stage T)) (p : ℕ) (r : SenderRecord T) : Type 0 where
     pub plan : r.plan ≡ k
     pub number : r.number ≡ p
     pub own : (i : ℕ) (o : Own T) → get_elem? r.own i ≡ some o → (o.stage.owner ≡ p) × (get_elem? stages o.sequence ≡ some o.stage)
     pub all : (s : ℕ) (t : Stage T) → get_elem? stages s ≡ some t → t.owner ≡ p → Owns r s t
+    pub taken : (s : ℕ) (x : T) → Took r s x → LiesBefore k stages s x
     pub looks : ArePast k words r.looks
 
   -- a receiver: what it received are the first events, each published; it took no more than each upstream completed, and completed no more than it took

@@ -13,8 +13,8 @@ use Rattle.dr_plain_senders.specs.declared.record.Stage.{Stage}
 use Rattle.dr_plain_senders.specs.declared.record.Own.{Own}
 use Rattle.dr_plain_senders.specs.declared.record.SenderRecord.{SenderRecord}
 use Rattle.dr_plain_senders.specs.declared.record.ReceiverRecord.{ReceiverRecord}
-use Rattle.dr_plain_senders.specs.Meaning.Records.{Owns, is_published}
-use Rattle.dr_plain_senders.specs.Meaning.Rule.{World}
+use Rattle.dr_plain_senders.specs.Meaning.Records.{Owns, Took, is_published}
+use Rattle.dr_plain_senders.specs.Meaning.Rule.{World, LiesBefore}
 
 module _ {T : Type 0} where
   -- the published events in the order of their sequences, up to the first sequence that is not published
@@ -53,10 +53,12 @@ module _ {T : Type 0} where
   abbrev pub IsSent : World T → ℕ → Lent T → Type 0
   IsSent w s l = (r : SenderRecord T) × (t : Stage T) × (get_elem? w.senders t.owner ≡ some r) × Owns r s t × (t.lent ≡ Some l)
 
-  -- senders and receivers agree, and each claimed sequence is its sender's own, as far as it has come
+  -- senders and receivers agree, and each claimed sequence is its sender's own, as far as it has come.
+  -- What a sender found in a cell that it claimed is what was published there last, whoever did.
   pub record Settles (k : Shape T) (w : World T) : Type 0 where
     pub claimed : (s : ℕ) (t : Stage T) → get_elem? w.stages s ≡ some t → (r : SenderRecord T) × (get_elem? w.senders t.owner ≡ some r) × Owns r s t
     pub owned : (p i : ℕ) (r : SenderRecord T) (o : Own T) → get_elem? w.senders p ≡ some r → get_elem? r.own i ≡ some o → IsOwnOf w r o
+    pub taken : (p s : ℕ) (r : SenderRecord T) (x : T) → get_elem? w.senders p ≡ some r → Took r s x → LiesBefore k w.stages s x
     pub each : (h : ℕ) (r : ReceiverRecord T) → get_elem? w.receivers h ≡ some r → HasBeginning k w r
     pub sent : (h s : ℕ) (r : ReceiverRecord T) (l : Lent T) → get_elem? w.receivers h ≡ some r → get_elem? r.received s ≡ some l → IsSent w s l
     pub follow : (h j : ℕ) (r u : ReceiverRecord T) → get_elem? w.receivers h ≡ some r → get_elem? w.receivers j ≡ some u → FollowsUpstream r u

@@ -17,20 +17,25 @@ use Rattle.dr_plain_senders.specs.declared.record.ReceiverRecord.{ReceiverRecord
 use Rattle.dr_plain_senders.specs.Meaning.Records.{fresh_stage, published, Owns, brought, sender_looked, mark_found, claimed_from, receiver_looked}
 use Rattle.dr_plain_senders.specs.Meaning.Records.{claims_looked}
 use Rattle.dr_plain_senders.specs.Meaning.Records.{taken_at_mark, mark_looked, taken_at, completed_to, halter_halted, halter_looked, SeesRoom}
-use Rattle.dr_plain_senders.specs.Meaning.Rule.{World, IsOutWith}
+use Rattle.dr_plain_senders.specs.Meaning.Rule.{World, IsOutWith, LiesBefore}
 
 module _ {T : Type 0} where
   -- a sender's record changes, and no word
   abbrev pub sender_knows : World T → ℕ → SenderRecord T → World T
   sender_knows w p r = record w { senders = slice_set w.senders p r }
 
-  -- a sender exchanges the claim word c for c + n, and the n sequences from c on are its own
-  abbrev pub sender_claims : World T → ℕ → SenderRecord T → ℕ → ℕ → World T
-  sender_claims w p r c n =
+  -- in the cells of n sequences from c on this lies
+  pub record LieThere (k : Shape T) (stages : List (Stage T)) (c n : ℕ) (lay : List T) : Type 0 where
+    pub count : length lay ≡ n
+    pub each : (i : ℕ) (x : T) → get_elem? lay i ≡ some x → LiesBefore k stages (c + i) x
+
+  -- a sender exchanges the claim word c for c + n, and the n sequences from c on are its own, with what lay in their cells
+  abbrev pub sender_claims : World T → ℕ → SenderRecord T → ℕ → ℕ → List T → World T
+  sender_claims w p r c n lay =
       record w {
         words = slice_set w.words claim_word (c + n);
         stages = w.stages ++ replicate n (fresh_stage p);
-        senders = slice_set w.senders p (claimed_from r c n);
+        senders = slice_set w.senders p (claimed_from r c n lay);
       }
 
   -- a sender flips the mark of the sequence s, which is at the stage t, and so publishes what it lent
@@ -83,7 +88,8 @@ module _ {T : Type 0} where
   -- an exchange claims where it finds c, and is a look where it finds another number
   Happens k (SenderClaims p c n) w w' =
       BySender w p (λ r. (0 < n) × SeesRoom k r c n
-      × (w' ≡ (if slice_index w.words claim_word == c then sender_claims w p r c n
+      × (lay : List T) × (slice_index w.words claim_word ≡ c → LieThere k w.stages c n lay)
+      × (w' ≡ (if slice_index w.words claim_word == c then sender_claims w p r c n lay
       else sender_knows w p (sender_looked r claim_word (slice_index w.words claim_word)))))
   -- the marks of all these sequences are in one word
   Happens k (SenderPublishes p s events) w w' = (length events ≤ in_word k s) × PublishesAll k p s events w w'

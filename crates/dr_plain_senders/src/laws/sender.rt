@@ -1,6 +1,6 @@
 //! A sender's steps.
 
-ghost use Rattle.std.specs.Prelude.{◌≡◌, ◌+◌, ◌<◌, ◌≤◌, ◌++◌, None, List, ℕ, length, drop, Contains};
+ghost use Rattle.std.specs.Prelude.{◌≡◌, ◌+◌, ◌<◌, ◌≤◌, ◌++◌, None, List, ℕ, map, length, drop, Contains};
 ghost use Rattle.dr_graph.specs.Meaning.Graph.{finals};
 ghost use Rattle.dr_cells.specs.declared.token.Token.{Token};
 ghost use Rattle.dr_plain_senders.specs.Calls.Plans.{IsPlan};
@@ -8,7 +8,7 @@ ghost use Rattle.dr_plain_senders.specs.declared.record.Stage.{Stage};
 ghost use Rattle.dr_plain_senders.specs.Meaning.Words.{claim_word, halted_from, count_word as count_word_of, in_word};
 ghost use Rattle.dr_plain_senders.specs.Meaning.Records.{Owns, has_published, sender_looked, mark_found, SeesRoom};
 ghost use Rattle.dr_lent.specs.Events.{events_of};
-ghost use Rattle.dr_plain_senders.specs.Meaning.Lying.{Laid};
+ghost use Rattle.dr_plain_senders.specs.Meaning.Lying.{Laid, value_of};
 ghost use Rattle.dr_plain_senders.specs.declared.record.Step.TheVariants.{SenderClaims, SenderPublishes, SenderHalts};
 ghost use Rattle.dr_plain_senders.specs.Calls.Finds.{FindsOwn, IsEarlier, exchanged, after_exchange};
 ghost use Rattle.dr_runs.specs.Looks.{FindsMore};
@@ -89,7 +89,7 @@ impl<T> SenderStation<T> {
         requires some { 0 < count }
         requires room { SeesRoom self.old.knows.plan self.old.knows found count }
         // It claims if it finds `found`, and what lay in the slots is first in hand; else it has looked.
-        ensures step { (laid : List (Laid T)) × LayIn self.old.knows.plan found (exchanged found count result) laid × HasStored self.old (SenderClaims self.old.knows.number found count) (after_exchange self.old.knows found count result) (taken_by_claim self.old.knows.plan found laid ++ self.old.hand) self.new × LayAsLent self.old.knows found laid }
+        ensures step { (laid : List (Laid T)) × LayIn self.old.knows.plan found (exchanged found count result) laid × HasStored self.old (SenderClaims self.old.knows.number found count) (after_exchange self.old.knows found count (map value_of laid) result) (taken_by_claim self.old.knows.plan found laid ++ self.old.hand) self.new × LayAsLent self.old.knows found laid }
         // It finds no less than before.
         ensures finds { FindsMore self.old.knows.looks claim_word result }
         // If it claims, all that it had is earlier, and none that is not published loses its cell.

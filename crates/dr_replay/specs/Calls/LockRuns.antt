@@ -2,13 +2,14 @@
 use Rattle.std.specs.Prelude.{◌≡◌, ℕ, ◌+◌, ◌<◌, List, [], ◌∷◌, length, Option, None, Result, Ok, Err, slice_index_or}
 use Rattle.std.specs.Io.KnownBytes.{Appends}
 use Rattle.dr_seq.specs.declared.event.Event.{Event}
+use Rattle.dr_lock.specs.Calls.Ended.{GoesOnBy}
 use Rattle.dr_lock.specs.Calls.Lock.{EndView, no_calls}
 use Rattle.dr_workers.specs.Meaning.FirstFault.{first_fault}
 use Rattle.dr_lock.specs.Meaning.History.{History}
 use Rattle.dr_workers.specs.declared.ended.Ended.{Ended}
 use Rattle.dr_workers.specs.declared.fault.WorkFault.{WorkFault}
 use Rattle.dr_replay.specs.Calls.LockWorkers.{HasHandled, HasSent}
-use Rattle.dr_replay.specs.Meaning.Exchange.{GoesOnBy, IsHalters, lock_setup}
+use Rattle.dr_replay.specs.Meaning.Exchange.{IsHalters, lock_setup}
 use Rattle.dr_replay.specs.Meaning.Scripts.{producers_in, script_in, scripts_in}
 use Rattle.dr_replay.specs.Calls.Replayed.{IsReportOfMerge}
 use Rattle.dr_replay.specs.Calls.Workers.{AuditFinds, IsFirstOf, lock_endings}

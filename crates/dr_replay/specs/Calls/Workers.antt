@@ -15,6 +15,7 @@ use Rattle.dr_workers.specs.Meaning.FirstFault.{first_fault}
 use Rattle.dr_workers.specs.Meaning.Work.{LeavesNothingOpen}
 use Rattle.dr_lock.specs.declared.audit_fault.AuditFault.{AuditFault}
 use Rattle.dr_lock.specs.declared.audit_fault.AuditFault.TheVariants as audit
+use Rattle.dr_lock.specs.Calls.Ended.{endings_from}
 use Rattle.dr_lock.specs.Meaning.Audit.{Faults}
 use Rattle.dr_lock.specs.Meaning.History.{History, transcript}
 use Rattle.dr_meaning.specs.Meaning.Machine.{handlers}
@@ -104,6 +105,12 @@ endings_of ran =
     ∷ record { who = 16; fault = ran.produced.fault }
     ∷ []
 
+-- what is so of a fault, by its kind: of a file's, of a worker's with its number, and of an audit's
+abbrev pub OfKind : (FileFault Cause → Type 0) → (ℕ → WorkFault → Type 0) → (AuditFault → Type 0) → ReplayFault → Type 0
+OfKind OfFile OfWorker OfAudit (fault.File f) = OfFile f
+OfKind OfFile OfWorker OfAudit (fault.Worker who f) = OfWorker who f
+OfKind OfFile OfWorker OfAudit (fault.Audit f) = OfAudit f
+
 -- a worker that ran out of memory makes the replay answer so, and any other fault names the worker
 abbrev pub replay_fault : ℕ → WorkFault → ReplayFault
 replay_fault who work.Memory = fault.File file.Memory
@@ -143,28 +150,21 @@ AreServed endings = All (λ (e : Ended). (refusal : Refusal) → e.fault ≡ Som
 
 -- a lack of memory, or the first fault of those that workers of a ring with these numbers ended with
 abbrev pub IsOfWorkers : (ℕ → Type 0) → List ℕ → ReplayFault → Type 0
-IsOfWorkers may_stop whos (fault.File f) = IsMemory f
-IsOfWorkers may_stop whos (fault.Worker who f) =
-    (endings : List Ended) × (map (λ (e : Ended). e.who) endings ≡ whos) × AreServed endings × Ends may_stop endings (fault.Worker who f)
-IsOfWorkers may_stop whos (fault.Audit f) = ⊥
+IsOfWorkers may_stop whos =
+    OfKind IsMemory
+    (λ who f. (endings : List Ended) × (map (λ (e : Ended). e.who) endings ≡ whos) × AreServed endings × Ends may_stop endings (fault.Worker who f))
+    (λ f. ⊥)
 
 -- where a worker's fault is answered, it is the first of theirs; there is no audit
 abbrev pub IsFirstOfSome : (ℕ → Type 0) → List ℕ → ReplayFault → Type 0
-IsFirstOfSome may_stop whos (fault.Worker who f) = IsOfWorkers may_stop whos (fault.Worker who f)
-IsFirstOfSome may_stop whos (fault.Audit f) = ⊥
-IsFirstOfSome may_stop whos (fault.File f) = Unit {0}
+IsFirstOfSome may_stop whos = OfKind (λ f. Unit {0}) (λ who f. IsOfWorkers may_stop whos (fault.Worker who f)) (λ f. ⊥)
 
 -- Behind a lock.
-
--- how producers' workers ended, whose numbers rise from a first one
-abbrev pub numbered : ℕ → List (Option WorkFault) → List Ended
-numbered who [] = []
-numbered who (f ∷ faults) = record { who = who; fault = f } ∷ numbered (who + 1) faults
 
 -- how the workers ended: the three handlers', and the producers' from 16 on
 abbrev pub lock_endings : Option WorkFault → Option WorkFault → Option WorkFault → List (Option WorkFault) → List Ended
 lock_endings journal replica business producers =
-    record { who = 0; fault = journal } ∷ record { who = 1; fault = replica } ∷ record { who = 2; fault = business } ∷ numbered 16 producers
+    record { who = 0; fault = journal } ∷ record { who = 1; fault = replica } ∷ record { who = 2; fault = business } ∷ endings_from 16 producers
 
 -- no producer that has an event was one that its gate has to stop at its first passage
 abbrev pub NoProducerHadToStop : (ℕ → ℕ → Type 0) → List Event → Type 0
@@ -190,28 +190,16 @@ abbrev pub audit_fault : AuditFault → ReplayFault
 audit_fault audit.NoMemory = fault.File file.Memory
 audit_fault other = fault.Audit other
 
--- after workers that had no fault: a lack of memory, or what an audit finds
-abbrev pub IsOfAudit : (History Event → Type 0) → List (List Event) → ReplayFault → Type 0
-IsOfAudit IsSuch scripts (fault.File f) = IsMemory f
-IsOfAudit IsSuch scripts (fault.Worker who f) = ⊥
-IsOfAudit IsSuch scripts (fault.Audit f) = AuditFinds IsSuch scripts f
-
--- after the join, which some such history came of: a lack of memory, or the workers' first fault, and where none has a fault, what an audit finds
-abbrev pub IsOfLock : List Ended → (History Event → Type 0) → List (List Event) → ReplayFault → Type 0
-IsOfLock endings IsSuch scripts (fault.File f) = IsMemory f
-IsOfLock endings IsSuch scripts (fault.Worker who f) = IsFirstOf endings (fault.Worker who f) × (h : History Event) × IsSuch h
-IsOfLock endings IsSuch scripts (fault.Audit f) = (first_fault endings ≡ None) × AuditFinds IsSuch scripts f
-
 -- a lack of memory, or the first fault of such workers, one of each producer of these events, or what an audit finds of each producer's events
 abbrev pub IsOfMerge : (ℕ → Type 0) → (History Event → Type 0) → List Event → ReplayFault → Type 0
-IsOfMerge may_stop IsSuch events (fault.File f) = IsMemory f
-IsOfMerge may_stop IsSuch events (fault.Worker who f) =
-    (journal : Option WorkFault) × (replica : Option WorkFault) × (business : Option WorkFault) × (producers : List (Option WorkFault))
-    × (length producers ≡ producers_in events) × Ends may_stop (lock_endings journal replica business producers) (fault.Worker who f)
-IsOfMerge may_stop IsSuch events (fault.Audit f) = AuditFinds IsSuch (scripts_in events) f
+IsOfMerge may_stop IsSuch events =
+    OfKind IsMemory
+    (λ who f. (journal : Option WorkFault) × (replica : Option WorkFault) × (business : Option WorkFault) × (producers : List (Option WorkFault))
+    × (length producers ≡ producers_in events) × Ends may_stop (lock_endings journal replica business producers) (fault.Worker who f))
+    (AuditFinds IsSuch (scripts_in events))
 
 -- where a fault of the workers or of an audit is answered, it is one that comes first
 abbrev pub IsFirstOfLock : (ℕ → Type 0) → ℕ → ReplayFault → Type 0
-IsFirstOfLock may_stop size (fault.File f) = Unit {0}
-IsFirstOfLock may_stop size (fault.Worker who f) = (events : List Event) × IsOfMerge may_stop (IsOfReplay size events) events (fault.Worker who f)
-IsFirstOfLock may_stop size (fault.Audit f) = (events : List Event) × IsOfMerge may_stop (IsOfReplay size events) events (fault.Audit f)
+IsFirstOfLock may_stop size =
+    let IsOfSome : ReplayFault → Type 0 = λ e. (events : List Event) × IsOfMerge may_stop (IsOfReplay size events) events e in
+    OfKind (λ f. Unit {0}) (λ who f. IsOfSome (fault.Worker who f)) (λ f. IsOfSome (fault.Audit f))

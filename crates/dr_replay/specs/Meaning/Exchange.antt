@@ -1,13 +1,14 @@
 -- The exchange that a replay behind a lock opens, and what it goes through.
-use Rattle.std.specs.Prelude.{◌≡◌, ◌<◌, ℕ, ◌+◌, ◌^◌, List, [], ◌∷◌, length, slice_index_or, sum_by}
+use Rattle.std.specs.Prelude.{◌≡◌, ◌<◌, ℕ, ◌^◌, List, [], ◌∷◌, length, slice_index_or}
 use Rattle.dr_seq.specs.declared.event.Event.{Event}
 use Rattle.dr_meaning.specs.Calls.Calling.{SomeCalls}
 use Rattle.dr_meaning.specs.Meaning.Machine.{Setup, setup_of}
 use Rattle.dr_meaning.specs.declared.mode.Mode.TheVariants.{Multi}
 use Rattle.dr_reports.specs.Passing.{replay_graph}
 use Rattle.dr_lock.specs.Calls.Asking.{InletAsks, OutletAsks}
+use Rattle.dr_lock.specs.Calls.Ended.{GoesOnBy}
 use Rattle.dr_lock.specs.Calls.Lock.{EndView, HasHalted, no_calls}
-use Rattle.dr_lock.specs.Meaning.History.{GoesOn, History, IsRecorded, entries_since, halts_in}
+use Rattle.dr_lock.specs.Meaning.History.{History}
 use Rattle.dr_replay.specs.Meaning.Scripts.{producers_in}
 
 -- the graph of the accounts' handlers, some producers, and as many sequences as there may be
@@ -17,13 +18,6 @@ setup_for size producers = setup_of replay_graph size (Multi producers) (2 ^ 62)
 -- a producer for each that the events have
 abbrev pub lock_setup : ℕ → List Event → Setup
 lock_setup size events = setup_for size (producers_in events)
-
--- a history that goes on from one which had so many entries, by as many calls as these ends had kept, and as many halts among them
-pub record GoesOnBy (begun : History Event) (had : ℕ) (ends : List (EndView Event)) (h : History Event) : Type 0 where
-  pub recorded : IsRecorded h
-  pub goes_on : GoesOn begun h
-  pub calls : length h.entries ≡ had + sum_by (λ (end : EndView Event). end.calls) ends
-  pub halts : halts_in (entries_since begun h) ≡ sum_by (λ (end : EndView Event). end.halts) ends
 
 -- an end through which the handler h called, and nobody else
 abbrev pub IsHandlers : History Event → ℕ → EndView Event → Type 0

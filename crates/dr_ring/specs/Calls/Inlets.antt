@@ -1,5 +1,6 @@
 -- What each call of the sender tells, for who does not know which exchange it is of.
-use Rattle.std.specs.Prelude.{◌≡◌, ◌≢◌, ℕ, ◌+◌, List, [], ◌∷◌, ◌++◌, length, take, Some}
+use Rattle.std.specs.Prelude.{◌≡◌, ◌≢◌, ℕ, List, ◌++◌, flat_map, length, take, Some}
+use Rattle.std.specs.List.{enumerate_from}
 use Rattle.dr_seq.specs.declared.event.Event.{Event}
 use Rattle.dr_meaning.specs.declared.ends.Trouble.TheVariants.{Memory}
 use Rattle.dr_meaning.specs.declared.ends.Wrote.{Wrote}
@@ -7,14 +8,12 @@ use Rattle.dr_meaning.specs.Calls.Calling.{InletCall, TriesClaim, WritesOne, Wri
 use Rattle.dr_meaning.specs.Calls.Ends.{IsEndsAnswer, WriteAllAnswers, WritesAll}
 use Rattle.dr_runs.specs.Runs.{IsBeginning}
 use Rattle.dr_ring.specs.declared.record.Step.{Step}
-use Rattle.dr_ring.specs.declared.record.Step.TheVariants.{SenderStoresFirst, SenderStoresSecond}
 use Rattle.dr_ring.specs.Calls.Ends.{SenderEnd, sender_place}
-use Rattle.dr_ring.specs.Calls.Sending.{OnlySends, ClaimCall, WriteCall, PublishCall}
+use Rattle.dr_ring.specs.Calls.Sending.{OnlySends, ClaimCall, WriteCall, PublishCall, stores_of}
 
 -- the stores of events that are written one after another, to the sequences from lo on
 abbrev pub writes_from : ℕ → List Event → List Step
-writes_from lo [] = []
-writes_from lo (event ∷ events) = SenderStoresFirst lo event.first ∷ SenderStoresSecond event.second ∷ writes_from (lo + 1) events
+writes_from lo events = flat_map (λ (x : ℕ × Event). stores_of x.0 x.1) (enumerate_from lo events)
 
 -- many writes: each is answered by what the end knows, those events are stored that are written, and nothing else, and memory is never wanting
 pub record WriteAllCall (e : SenderEnd) (lo : ℕ) (events : List Event) (e' : SenderEnd) (answer : Wrote) : Type 0 where

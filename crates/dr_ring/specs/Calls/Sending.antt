@@ -12,10 +12,11 @@ use Rattle.dr_graph.specs.Meaning.Graph.{finals}
 use Rattle.dr_runs.specs.OneSender.Words.{halt_word}
 use Rattle.dr_runs.specs.declared.look.Look.{Look}
 use Rattle.dr_ring.specs.declared.record.SenderRecord.{SenderRecord}
+use Rattle.dr_ring.specs.declared.record.Step.{Step}
 use Rattle.dr_ring.specs.declared.record.Step.TheVariants.{SenderStoresFirst, SenderStoresSecond, SenderPublishes, SenderHalts, SenderCloses}
 use Rattle.dr_runs.specs.Runs.{IsBeginning, StoresWhereOk}
 use Rattle.dr_ring.specs.Calls.Ends.{SenderEnd, sender_place}
-use Rattle.dr_ring.specs.Meaning.Records.{claimed, seen_before, sender_halted, sender_closed, SeesRoom}
+use Rattle.dr_ring.specs.Meaning.Records.{claimed, remembers, seen_before, sender_halted, sender_closed, SeesRoom}
 use Rattle.dr_runs.specs.Looks.{look}
 use Rattle.dr_runs.specs.OneSender.Looks.{count_looks}
 use Rattle.dr_runs.specs.OneSender.Replies.{claim_tests_of}
@@ -28,14 +29,15 @@ gate_looks r counts = count_looks (finals r.plan.upstreams) counts
 abbrev pub LeavesRoom : SenderRecord → ℕ → ℕ → Type 0
 LeavesRoom r n count = claimed r + n ≤ r.plan.size + count
 
--- there is room for n more: the sender looked at no final, or at each of them, and each leaves room; and what it has now seen of each final, by this claim or before, leaves room within the limit
+-- there is room for n more: the sender looked at no final where what it remembers leaves room, and else at each of them, and each leaves room; and what it has now seen of each final, by this claim or before, leaves room within the limit
 pub record FoundRoom (r : SenderRecord) (n : ℕ) (counts : List ℕ) : Type 0 where
-  pub all : (counts ≡ []) ⊎ (length counts ≡ length (finals r.plan.upstreams))
+  pub all : (LeavesRoom r n (remembers r) × (counts ≡ [])) ⊎ ((r.plan.size + remembers r < claimed r + n) × (length counts ≡ length (finals r.plan.upstreams)))
   pub room : (i : ℕ) → i < length counts → LeavesRoom r n (slice_index counts i)
   pub sees : SeesRoom r.plan (record r { looks = r.looks ++ look halt_word 0 ∷ gate_looks r counts }) n
 
--- there is none: the last count at which the sender looked is the first that leaves no room
+-- there is none: neither does what it remembers leave room, and the last count at which the sender looked is the first that leaves none
 pub record FoundNoRoom (r : SenderRecord) (n : ℕ) (counts : List ℕ) : Type 0 where
+  pub remembered : r.plan.size + remembers r < claimed r + n
   pub before : ℕ
   pub last : length counts ≡ before + 1
   pub among : length counts ≤ length (finals r.plan.upstreams)
@@ -96,9 +98,13 @@ TriesToClose r r' (Err _) = ⊥
 abbrev pub ClaimCall : SenderEnd → ℕ → SenderEnd → Result Claimed Refusal → Type 0
 ClaimCall e n e' result = (sender_place e' ≡ sender_place e) × TriesToClaim e.knows n e'.knows result × (e'.stored ≡ e.stored) × IsBeginning e.past e'.past
 
+-- what the write of an event stores: its two words
+abbrev pub stores_of : ℕ → Event → List Step
+stores_of s event = SenderStoresFirst s event.first ∷ SenderStoresSecond event.second ∷ []
+
 abbrev pub WriteCall : SenderEnd → ℕ → Event → SenderEnd → Result (Unit {0}) Refusal → Type 0
 WriteCall e s event e' result =
-    (sender_place e' ≡ sender_place e) × TriesToWrite e.knows s event e'.knows result × StoresWhereOk e.stored (SenderStoresFirst s event.first ∷ SenderStoresSecond event.second ∷ []) e'.stored result × IsBeginning e.past e'.past
+    (sender_place e' ≡ sender_place e) × TriesToWrite e.knows s event e'.knows result × StoresWhereOk e.stored (stores_of s event) e'.stored result × IsBeginning e.past e'.past
 
 abbrev pub PublishCall : SenderEnd → ℕ → ℕ → SenderEnd → Result (Unit {0}) Refusal → Type 0
 PublishCall e lo hi e' result = (sender_place e' ≡ sender_place e) × TriesToPublish e.knows lo hi e'.knows result × StoresWhereOk e.stored (SenderPublishes (hi + 1) ∷ []) e'.stored result × IsBeginning e.past e'.past

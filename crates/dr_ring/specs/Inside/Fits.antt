@@ -8,7 +8,7 @@ use Rattle.dr_runs.specs.declared.written.Written.{Written}
 use Rattle.dr_runs.specs.declared.counts.HandlerCounts.{HandlerCounts}
 use Rattle.dr_ring.specs.declared.record.SenderRecord.{SenderRecord}
 use Rattle.dr_ring.specs.declared.record.ReceiverRecord.{ReceiverRecord}
-use Rattle.dr_ring.specs.Meaning.Records.{claimed}
+use Rattle.dr_ring.specs.Meaning.Records.{claimed, remembers}
 use Rattle.dr_runs.specs.Looks.{last_look}
 use Rattle.dr_ring.specs.Inside.Noted.{Noted}
 
@@ -33,6 +33,7 @@ pub record SenderFits (r : SenderRecord) (f : SenderFields) : Type 0 where
   pub near : f.claimed ≤ r.plan.size + f.published
   pub least : f.remembered ≤ f.published
   pub seen : IsSeenLeast r f.remembered
+  pub remembered : f.remembered ≡ remembers r
   pub written : Noted r f.written
   pub places : length f.rooms ≡ handlers_of r.plan
 

@@ -11,6 +11,7 @@ use Rattle.dr_ring.specs.declared.record.ReceiverRecord.{ReceiverRecord}
 use Rattle.dr_ring.specs.declared.record.HalterRecord.{HalterRecord}
 use Rattle.dr_runs.specs.declared.look.Look.{Look}
 use Rattle.dr_runs.specs.Looks.{look, last_look}
+use Rattle.dr_runs.specs.OneSender.Looks.{remembered}
 
 -- how many sequences the sender claimed
 abbrev pub claimed : SenderRecord → ℕ
@@ -74,6 +75,10 @@ completed_to r n = record r { completed = n }
 
 abbrev pub halter_halted : HalterRecord → HalterRecord
 halter_halted r = record r { halted = true }
+
+-- how many events the sender remembers every final handler to have completed: as many as the least count says in the last row of looks at all of them
+abbrev pub remembers : SenderRecord → ℕ
+remembers r = remembered (finals r.plan.upstreams) r.looks
 
 -- the sender has room for n more, as far as it saw: within the limit, and no slot is used again that some final handler has not completed
 pub record SeesRoom (k : Shape) (r : SenderRecord) (n : ℕ) : Type 0 where

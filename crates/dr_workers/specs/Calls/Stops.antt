@@ -1,5 +1,5 @@
 -- How a gate stops a worker.
-use Rattle.std.specs.Prelude.{◌≡◌, ◌⊎◌, ℕ, ◌+◌, ◌^◌, ◌<◌, ◌≤◌, Bool, true, false, Option, None, Some}
+use Rattle.std.specs.Prelude.{◌≡◌, ◌⊎◌, ℕ, ◌+◌, ◌^◌, ◌<◌, ◌≤◌, min, Bool, true, false, Option, None, Some}
 use Rattle.dr_meaning.specs.declared.ends.Trouble.{Trouble}
 use Rattle.dr_meaning.specs.declared.ends.Trouble.TheVariants as trouble
 use Rattle.dr_workers.specs.declared.fault.WorkFault.{WorkFault}
@@ -25,12 +25,12 @@ begins who = record { who = who; passage = 0; stopped = false }
 abbrev pub MayStop : {G : Type 0} → (G → ℕ → ℕ → Type 0) → G → ℕ → Type 0
 MayStop may_stop gate who = (passage : ℕ) × may_stop gate who passage
 
--- a worker comes to its gate so many times, and passes it at one passage after another unless it is stopped: where it was, at a passage to which it came where its gate may stop it, and at each of these passages where its gate must
+-- a worker comes to its gate so many times, and passes it at one passage after another, up to the greatest number, unless it is stopped: where it was, at a passage to which it came where its gate may stop it, and at each of these passages where its gate must
 pub record Passes (may_stop must_stop : ℕ → ℕ → Type 0) (times : ℕ) (old new : Passages) : Type 0 where
   pub who : new.who ≡ old.who
   pub may : new.stopped ≡ true → (old.stopped ≡ true) ⊎ ((passage : ℕ) × (passage < old.passage + times) × may_stop old.who passage)
   pub stays : old.stopped ≡ true → new.stopped ≡ true
-  pub passage : new.stopped ≡ false → old.passage + times < 2 ^ 64 → new.passage ≡ old.passage + times
+  pub passage : old.passage < 2 ^ 64 → new.stopped ≡ false → new.passage ≡ min (old.passage + times) 18446744073709551615
   pub must : (k : ℕ) → k < times → old.passage + k < 2 ^ 64 → must_stop old.who (old.passage + k) → new.stopped ≡ true
   pub most : new.passage ≤ old.passage + times
 

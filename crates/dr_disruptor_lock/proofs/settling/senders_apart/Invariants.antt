@@ -1,5 +1,5 @@
 use Rattle.std.proofs.Common.{◌≡◌, ◌+◌, ◌++◌, length, map}
-use Rattle.dr_disruptor_lock.specs.Joining.{endings_from}
+use Rattle.dr_lock.specs.Calls.Ended.{endings_from}
 use Rattle.dr_disruptor_lock.proofs.settling.senders_apart.Given as goal
 
 abbrev pub invariant-loop-one : goal.invariant-loop-one

@@ -4,14 +4,14 @@ use Rattle.std.specs.Global.{Vec}
 use Rattle.dr_seq.specs.declared.event.Event.{Event}
 use Rattle.dr_meaning.specs.Meaning.Machine.{handlers}
 use Rattle.dr_workers.specs.declared.ended.Ended.{Ended}
+use Rattle.dr_lock.specs.Calls.Ended.{GoesOnBy, endings_from}
 use Rattle.dr_lock.specs.Calls.Lock.{EndView}
 use Rattle.dr_lock.specs.Meaning.Audit.{IsAudited}
 use Rattle.dr_lock.specs.Meaning.History.{transcript}
 use Rattle.dr_disruptor_lock.specs.declared.sending.Delivered.{Delivered}
 use Rattle.dr_disruptor_lock.specs.declared.serving.Served.{Served}
 use Rattle.dr_disruptor_lock.specs.declared.watching.Watching.{Watching}
-use Rattle.dr_disruptor_lock.specs.Joining.{endings_from}
-use Rattle.dr_disruptor_lock.specs.Running.{IsAmiss, IsHistoryOf}
+use Rattle.dr_disruptor_lock.specs.Running.{IsAmiss}
 use Rattle.dr_disruptor_lock.specs.Watching.{HasListed, IsFirstUnlike}
 use Rattle.dr_disruptor_lock.proofs.Listing.{map_map}
 use Rattle.dr_disruptor_lock.proofs.settling.settled.Goals as goal
@@ -37,7 +37,7 @@ returns g c =
     let watchings : c.as_slice-2.result.now ≡ map (λ (s : Served g.row.L.Denot g.row.H.Denot). s.watching) served =
     c.as_slice-2.ensures.value ∙ c.in_ok-watchings.ensures.watchings in
     record {
-      history = subst (λ (l : List (EndView Event)). IsHistoryOf g.L.Exchange.begun c.args.shared.begun l history) ends c.taken_out-recorded.ensures;
+      history = subst (λ (l : List (EndView Event)). GoesOnBy g.L.Exchange.begun c.args.shared.begun l history) ends c.taken_out-recorded.ensures;
       afters = c.in_ok-handlers.ensures ∙ ap (map (λ (w : Watching g.row.H.Denot). w.handler)) c.in_ok-watchings.ensures.watchings
           ∙ map_map (λ (w : Watching g.row.H.Denot). w.handler) (λ (s : Served g.row.L.Denot g.row.H.Denot). s.watching) served;
       endings = c.in_ok-scripts.ensures.endings

@@ -2,7 +2,7 @@ use Rattle.std.proofs.Common.{◌∙◌, ◌≡◌, All, Err, None, Ok, OnOk, Re
 use Rattle.std.proofs.lemmas.Result.{err_from_is_err_and}
 use Rattle.dr_accounts.specs.Parts.{text_of}
 use Rattle.dr_replay.specs.Inside.LockWorkers.{endings_in, ends_of}
-use Rattle.dr_replay.specs.Meaning.Exchange.{GoesOnBy}
+use Rattle.dr_lock.specs.Calls.Ended.{GoesOnBy}
 use Rattle.dr_replay.proofs.Endings.{audit_names_none, ends_of_audit, first_of_parts, none_of_parts, reports_more}
 use Rattle.dr_replay.proofs.lock.settled.Goals as goal
 

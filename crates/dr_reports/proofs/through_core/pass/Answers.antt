@@ -1,7 +1,8 @@
 use Rattle.std.proofs.Common.{◌+◌, ◌≡◌, ap, arith, subst}
 use Rattle.dr_seq.proofs.Sizes.{size_positive}
 use Rattle.dr_reports.specs.Passing.{each}
-use Rattle.dr_reports.specs.Turns.{AreOffered, Rests}
+use Rattle.dr_reports.specs.Inside.Turns.{AreOffered}
+use Rattle.dr_reports.specs.Through.{Rests}
 use Rattle.dr_reports.proofs.through_core.pass.Goals as goal
 use Rattle.dr_reports.proofs.through_core.pass.Goals.{In_ok-send}
 

@@ -1,6 +1,6 @@
 use Rattle.std.proofs.Common.{◌≤◌, ◌-◌, length, take}
 use Rattle.dr_reports.specs.Passing.{each}
-use Rattle.dr_reports.specs.Turns.{AreShown, Rests}
+use Rattle.dr_reports.specs.Through.{AreShown, Rests}
 use Rattle.dr_reports.proofs.through_core.pass.Given as goal
 
 abbrev pub decreases-loop-at : goal.decreases-loop-at

@@ -1,7 +1,7 @@
 use Rattle.std.proofs.Common.{◌≡◌, Result, Ok, Err, IfOk, ap, length, subst}
 use Rattle.dr_meaning.specs.Meaning.Machine.{Setup}
 use Rattle.dr_reports.specs.Passing.{each}
-use Rattle.dr_reports.specs.Turns.{Rests}
+use Rattle.dr_reports.specs.Through.{Rests}
 use Rattle.dr_reports.proofs.through_core.report_by_core.Goals as goal
 
 -- what holds holds where a report is given

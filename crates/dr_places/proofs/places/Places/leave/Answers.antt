@@ -1,7 +1,11 @@
 use Rattle.std.proofs.Common.{ap, sym, subst, arith, ◌∙◌}
 use Rattle.dr_places.specs.Rule.{PlacesOf}
-use Rattle.dr_places.proofs.Steps.{takes_place, leaves_it}
+use Rattle.dr_places.proofs.Steps.{enters, leaves_it, takes_place}
 use Rattle.dr_places.proofs.places.Places.leave.Goals as goal
+
+pub load_new_seat-seat-requires : goal.load_new_seat-seat-requires
+load_new_seat-seat-requires g c =
+    let many = ap (λ (p : PlacesOf g.row.K.Denot). p.count) c.self.view_is in let lt = c.requires.place in (omega arith, enters _ _ _)
 
 pub compare_exchange-requires : goal.compare_exchange-requires
 compare_exchange-requires g c =

@@ -1,25 +1,27 @@
-use Rattle.std.proofs.Common.{ap, sym, ◌∙◌}
-use Rattle.dr_plain.specs.Meaning.Shape.{handlers_of}
-use Rattle.dr_plain.specs.Calls.Ends.{HalterEnd}
-use Rattle.dr_plain.specs.Inside.Leaving.{BelongsHalter}
-use Rattle.dr_plain.proofs.Departed.{last_one, last_sender}
+use Rattle.std.proofs.Common.{subst, ◌∙◌}
+use Rattle.atomic_table.specs.Seated.{TableId}
+use Rattle.dr_places.proofs.Lying.{each_some}
+use Rattle.dr_plain.specs.Meaning.Shape.{Shape}
+use Rattle.dr_plain.specs.Inside.Leaving.{AreReceiversLeft, BelongsSender, IsHalterLeft, IsSenderLeft}
 use Rattle.dr_plain.proofs.body.RingBody.drop.Goals as goal
 
-pub end-requires-clause-sender : goal.end-requires-clause-sender
-end-requires-clause-sender g c =
+pub end_left-requires-clause-senders : goal.end_left-requires-clause-senders
+end_left-requires-clause-senders g c =
     let told = c.args.self.told in
-    last_sender _ _ _ _ _ _ c.in-Some-pop.sender c.in-Some.ensures.1 c.in-Some-pop.ensures
-    (λ i. (told.0 i).table_id) ((λ i. (told.0 i).key) ∙ c.args.self.made)
+    each_some _ (IsSenderLeft c.args.self.table.shared.table_id c.args.self.plan)
+    (λ all it. (
+      it.0 ∙ c.args.self.many.0,
+      λ i e at. subst (λ (x : TableId × Shape). BelongsSender x.0 x.1 e) (λ j. ((told.0 j).table_id, ((λ m. (told.0 m).key) ∙ c.args.self.made) j)) (it.1 i e at),
+    )) _ c.close.ensures
 
-pub end-requires-clause-ends : goal.end-requires-clause-ends
-end-requires-clause-ends g c =
-    let told = c.args.self.told in let all = c.in-Some-close.ensures in
-    let B = last_sender _ _ _ _ _ _ c.in-Some-pop.sender c.in-Some.ensures.1 c.in-Some-pop.ensures
-    (λ i. (told.0 i).table_id) ((λ i. (told.0 i).key) ∙ c.args.self.made) in record {
-      receivers = record {
-        all = all.0 ∙ c.args.self.many.1 ∙ ap handlers_of (sym B.1);
-        each = λ h e at. (let of = all.1 h e at in (of.0 ∙ (λ i. (told.1 i).table_id) ∙ sym B.0.0, of.1));
-      };
-      halter = last_one (λ _ (t : HalterEnd g.row.T.Denot). BelongsHalter c.args.self.halters.key.table_id t) _ _ _ c.in-Some-close-2.ensures.1 c.in-Some-pop-2.ensures
-          ∙ (λ i. (told.2 i).table_id) ∙ sym B.0.0;
-    }
+pub end_left-requires-clause-receivers : goal.end_left-requires-clause-receivers
+end_left-requires-clause-receivers g c =
+    let told = c.args.self.told in
+    each_some _ (AreReceiversLeft c.args.self.table.shared.table_id c.args.self.plan)
+    (λ all it. (it.0 ∙ c.args.self.many.1, λ i e at. (let of = it.1 i e at in (of.0 ∙ (λ j. (told.1 j).table_id), of.1)))) _ c.close-2.ensures
+
+pub end_left-requires-clause-halters : goal.end_left-requires-clause-halters
+end_left-requires-clause-halters g c =
+    let told = c.args.self.told in
+    each_some _ (IsHalterLeft c.args.self.table.shared.table_id)
+    (λ all it. (it.0 ∙ c.args.self.many.2, λ i e at. it.1 i e at ∙ (λ j. (told.2 j).table_id))) _ c.close-3.ensures

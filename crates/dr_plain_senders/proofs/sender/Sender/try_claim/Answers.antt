@@ -5,7 +5,8 @@ use Rattle.dr_plain_senders.specs.Meaning.Words.{lanes_of}
 use Rattle.dr_plain_senders.specs.Inside.Owned.{Owned, after_claim}
 use Rattle.dr_plain_senders.specs.declared.record.SenderRecord.{SenderRecord}
 use Rattle.dr_plain_senders.specs.Calls.Ends.{SenderStand, SenderEnd}
-use Rattle.dr_plain_senders.specs.Calls.Sending.{SenderClaimCall}
+use Rattle.dr_plain_senders.specs.Calls.Sending.{SenderClaimCall, GainsCells}
+use Rattle.dr_lent.specs.Rows.{cells_of}
 use Rattle.dr_plain_senders.specs.Inside.Fits.{writes_of}
 use Rattle.dr_plain_senders.specs.Inside.Rows.{blank_rows, AreCollected, HaveThoseOf}
 use Rattle.dr_plain_senders.specs.Inside.Seats.{LayIn, taken_by_claim}
@@ -84,7 +85,9 @@ returns-in-Ok g c =
         writes_stay e o _ lo n _ _ F collected E.fits.1.0 E.fits.1.1 E.own e1.knows
             grown _ _ _ (ap (λ (x : SenderStand g.row.T.Denot). x.knows.plan) step ∙ (ap (λ (r : SenderRecord g.row.T.Denot). r.plan) C.knows))
             marks (ap (λ (x : SenderStand g.row.T.Denot). x.knows.own) step ∙ grown),
-        gains_cells e o _ lo n _ _ F collected E.fits.1.0 E.fits.1.1 E.own e1.knows grown H.0 H.1 H.3 laid,
+        subst (λ (r : SenderRecord g.row.T.Denot). GainsCells e.plan e.knows r lo n (cells_of c.self.inside.tokens.items) (cells_of c.collect.new.tokens.items))
+            (sym (ap (λ (x : SenderStand g.row.T.Denot). x.knows) step))
+            (gains_cells e o _ lo n _ _ F collected E.fits.1.0 E.fits.1.1 E.own e1.knows grown H.0 H.1 H.3 laid H.4),
         λ s t owns. (E.own s t owns).0,
       ),
     )

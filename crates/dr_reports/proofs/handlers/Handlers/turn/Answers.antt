@@ -7,7 +7,8 @@ use Rattle.dr_accounts.specs.Handlers.{Books, Copies, IsBusinessOf, IsJournalOf,
 use Rattle.dr_meaning.specs.declared.handler.ByValue.{ByValue}
 use Rattle.dr_core.proofs.Rounds.{CanTurn, TookTurn, no_refusal, took_turn}
 use Rattle.dr_reports.specs.Passing.{each, replay_graph}
-use Rattle.dr_reports.specs.Turns.{AreOffered, Rests}
+use Rattle.dr_reports.specs.Inside.Turns.{AreOffered}
+use Rattle.dr_reports.specs.Through.{Rests}
 use Rattle.dr_reports.proofs.Rounds.{business_can, journal_can, replica_can, shown_more}
 use Rattle.dr_accounts.proofs.Shown.{business_goes, journal_goes, replica_goes}
 use Rattle.dr_reports.proofs.handlers.Handlers.turn.Goals as goal

@@ -28,6 +28,7 @@ tried_now g c =
     let limit = c.limit-limit.ensures.limit ∙ ap (λ (k : Shape g.row.T.Denot). k.limit) c.plan-2.ensures.plan in
     let small = c.limit-limit.ensures.small in let below = c.if-upto-limit.false in let need = c.saturating_sub.ensures in
     tried c.args.self.now _ _ _ _ c.args.n c.look_at_claims-lo.result c.saturating_sub.result c.claim-found.result
+    c.claim-found.ensures.step.0 c.claim-found.ensures.step.1
     c.look_at_claims-lo.ensures.step c.has_room.ensures.only scan c.claim-found.ensures.step.2
     (omega arith, omega arith) c.if-lo-ge-HALT_BIT.false (omega arith) (omega arith) (omega arith)
     (subst (λ (k : Shape g.row.T.Denot). IsSize k.size) c.plan.ensures.plan c.plan.ensures.made.size)
@@ -49,7 +50,7 @@ returns-then-found-lo-clause-hand g c =
     claim_taken c.args.self.now c.look_at_claims-lo.new.self c.has_room.new.self
     c.claim-found.new.self c.args.n c.look_at_claims-lo.result c.saturating_sub.result
     c.claim-found.result record { lo = c.look_at_claims-lo.result; hi = 0 } c.look_at_claims-lo.ensures.step c.has_room.ensures.only scan
-    step.0 step.1 step.2.2 step.3 c.if-found-lo.true refl
+    step.0 step.1 step.2.2 step.3 step.2.1 c.if-found-lo.true refl
 
 pub returns-then-found-lo-clause-call : goal.returns-then-found-lo-clause-call
 returns-then-found-lo-clause-call g c =

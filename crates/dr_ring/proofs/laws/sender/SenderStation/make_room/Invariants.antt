@@ -6,4 +6,4 @@ use Rattle.dr_ring.proofs.laws.sender.SenderStation.make_room.Given as goal
 abbrev pub invariant-loop-place : goal.invariant-loop-place
 invariant-loop-place l = HasLoaded l.fn.self l.self.knows l.self
     × (l.self.knows.plan ≡ l.fn.self.knows.plan)
-    × Scanned l.fn.self.knows l.need l.least l.place l.self.knows
+    × Scanned l.fn.self.knows l.remembered l.need l.least l.place l.self.knows

@@ -1,33 +1,16 @@
--- What the calls of the replay do to its exchange and its handlers.
-use Rattle.std.specs.Prelude.{◌≡◌, ◌<◌, ◌≤◌, ◌+◌, ℕ, false, List, take, length, Result, Ok, Err}
+-- What came of the calls by which events go through a core, stretch after stretch.
+use Rattle.std.specs.Prelude.{◌<◌, ◌≤◌, ◌+◌, ℕ, List, take, length, Result, Ok, Err}
 use Rattle.dr_seq.specs.declared.event.Event.{Event}
 use Rattle.dr_core.specs.Calls.CoreView.{CoreView}
-use Rattle.dr_core.specs.Calls.Passing.{Holds}
 use Rattle.dr_meaning.specs.declared.refusal.Refusal.{Refusal}
 use Rattle.dr_reports.specs.declared.handlers.Handlers.{Handlers}
-use Rattle.dr_accounts.specs.Handlers.{IsBusinessOf, IsJournalOf, IsReplicaOf}
-use Rattle.dr_reports.specs.Passing.{each, replay_graph}
-
--- the first events of a list went into an exchange, and each handler is done with as many of them as it took
-abbrev pub Rests : ℕ → List Event → ℕ → List ℕ → CoreView Event → Type 0
-Rests size events sent counts v = Holds replay_graph size events sent sent sent counts counts v
+use Rattle.dr_reports.specs.Passing.{each}
+use Rattle.dr_reports.specs.Through.{AreShown, Rests}
 
 -- no call is refused, and the next events are in the exchange
 abbrev pub SendsStretch : {A : Type 0} → Result A Refusal → ℕ → List Event → ℕ → ℕ → CoreView Event → Type 0
 SendsStretch (Ok done) size events at n v = Rests size events (at + n) (each at) v
 SendsStretch (Err refusal) size events at n v = ⊥
-
--- the three handlers were shown these events
-pub record AreShown (h : Handlers) (events : List Event) : Type 0 where
-  pub journal : IsJournalOf h.journal.handler events
-  pub replica : IsReplicaOf h.replica.handler events
-  pub business : IsBusinessOf h.business.handler events
-
--- none of them has failed
-pub record AreWell (h : Handlers) : Type 0 where
-  pub journal : h.journal.handler.failed ≡ false
-  pub replica : h.replica.handler.failed ≡ false
-  pub business : h.business.handler.failed ≡ false
 
 -- some events are in an exchange that no handler took, and there is room for them
 pub record AreOffered (size : ℕ) (events : List Event) (at sent : ℕ) (v : CoreView Event) : Type 0 where
@@ -49,11 +32,3 @@ Turns (Err refusal) size events sent v h = ⊥
 abbrev pub ShowsAll : {A : Type 0} → Result A Refusal → ℕ → List Event → CoreView Event → Handlers → Type 0
 ShowsAll (Ok done) size events v h = Rests size events (length events) (each (length events)) v × AreShown h events
 ShowsAll (Err refusal) size events v h = ⊥
-
--- some events, and no others, went through an exchange of this size to three handlers, none of which failed
-pub record WentThrough (size : ℕ) (events : List Event) : Type 0 where
-  pub core : CoreView Event
-  pub handlers : Handlers
-  pub rests : Rests size events (length events) (each (length events)) core
-  pub shown : AreShown handlers events
-  pub well : AreWell handlers
