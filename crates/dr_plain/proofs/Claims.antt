@@ -322,8 +322,8 @@ module _ {T : Type 0} (e : SenderStand T) (w : Written) (cells : List (Option T)
       let low = subst (λ (x : SenderRecord T). IsSeenLeast x found) saw seen in
       let next = S.next in let need = S.need in let same = remembers_still in record {
         all = elim E.all [
-          | inl serves ↦ (let a = serves.0 in inl (omega arith, serves.1))
-          | inr looked ↦ (let a = looked.0 in
+          | inl serves ↦ (let a : needed ≤ remembers s = serves.0 in inl (omega arith, serves.1))
+          | inr looked ↦ (let a : remembers s < needed = looked.0 in
               inr (omega arith, subst (λ (k : Shape). length E.counts ≡ length (finals k.upstreams)) plan looked.1))
         ];
         room = λ i lt. (let high = E.high i lt in omega arith);
@@ -341,7 +341,7 @@ module _ {T : Type 0} (e : SenderStand T) (w : Written) (cells : List (Option T)
       (inr (refl, inr (bad_count_fails q began.plan.size S.size, inr (refl, inr (within, inl (tt, refl)))))) (
         H.counts,
         record {
-          remembered = let low = H.few in let same = remembers_still in let next = S.next in let need = S.need in omega arith;
+          remembered = let low : remembers s < needed = H.few in let same = remembers_still in let next = S.next in let need = S.need in omega arith;
           before = H.before;
           last = H.last;
           among = subst (λ (k : Shape). length H.counts ≤ length (finals k.upstreams)) plan H.among;

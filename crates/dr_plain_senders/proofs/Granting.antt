@@ -218,8 +218,7 @@ module _ {T : Type 0} (e : SenderStand T) (o : Owned) (end lo n : ℕ) (tokens t
       (λ i. writes_of (plan i) (is i) tokens' (longer i)) ∙ map-append (λ (x : Own T). written_in e.knows.plan now tokens' x.sequence) e.knows.own fresh
       ∙ (λ i. old_writes e.knows.own i ++ new_writes e.knows.number lo n (omega arith) i)
 
-  -- in the cell of each sequence of the stretch lies what lay there
-  -- and the sender remembers it
+  -- what lay in the cell of each sequence of the stretch the sender remembers
   took_there : (laid : List (Laid T)) (s : ℕ) (a : Laid T) (x : T) → q.taken ≡ e.knows.taken ++ taken_from lo (map value_of laid) → lo ≤ s
       → get_elem? laid (s - lo) ≡ some a → value_of a ≡ x → Took q s x
   took_there laid s a x more low at same =
@@ -231,6 +230,7 @@ module _ {T : Type 0} (e : SenderStand T) (o : Owned) (end lo n : ℕ) (tokens t
             ∙ (λ j. let o : Taken T = record { sequence = place j; event = same j } in some o),
       )
 
+  -- and it lies there
   pub gains_cells : (laid : List (Laid T)) → LayIn e.knows.plan lo n laid → LayAsLent e.knows lo laid → HaveLaid e.knows.plan lo (lo + n) laid tokens'
       → q.taken ≡ e.knows.taken ++ taken_from lo (map value_of laid) → GainsCells e.knows q lo n (cells_of tokens) (cells_of tokens')
   gains_cells laid L O H more_taken = let f : Token T → Option T = λ x. held x.hold in record {

@@ -91,16 +91,16 @@ module _ {T : Type 0} where
       fresh_there p (suc c) n i (omega arith) ∙ ap (λ (s : ℕ). let o : Own T = record { sequence = s; stage = fresh_stage p } in some o) z
 
   -- what is taken from each cell
-  pub taken_at : (c : ℕ) (lay : List T) (i : ℕ) (o : Taken T) → get_elem? (taken_from c lay) i ≡ some o
+  pub each_taken : (c : ℕ) (lay : List T) (i : ℕ) (o : Taken T) → get_elem? (taken_from c lay) i ≡ some o
       → (x : T) × (get_elem? lay i ≡ some x) × (record { sequence = c + i; event = x } ≡ o)
-  taken_at c [] i o at = absurd (some-ne-none o (sym at))
-  taken_at c (x ∷ lay) zero o at = (
+  each_taken c [] i o at = absurd (some-ne-none o (sym at))
+  each_taken c (x ∷ lay) zero o at = (
     x,
     refl,
     (let z : c + 0 ≡ c = omega arith in ap (λ (s : ℕ). let y : Taken T = record { sequence = s; event = x } in y) z) ∙ some-injective _ o at,
   )
-  taken_at c (x ∷ lay) (suc i) o at =
-      let d = taken_at (suc c) lay i o at in (
+  each_taken c (x ∷ lay) (suc i) o at =
+      let d = each_taken (suc c) lay i o at in (
         d.0,
         d.1,
         (let z : c + suc i ≡ suc c + i = omega arith in ap (λ (s : ℕ). let y : Taken T = record { sequence = s; event = d.0 } in y) z) ∙ d.2,
@@ -174,7 +174,7 @@ module _ {T : Type 0} where
               ];
               taken = λ s x took. (let o : Taken T = record { sequence = s; event = x } in elim (more_cases r.taken (taken_from c lay) took.0 o took.1) [
                 | inl old ↦ lay_lasts k w.stages more s x lasts (was.taken s x (took.0, old))
-                | inr y ↦ (let d = taken_at c lay y.0 o y.2 in
+                | inr y ↦ (let d = each_taken c lay y.0 o y.2 in
                     subst (λ (z : Taken T). LiesBefore k more z.sequence z.event) d.2
                     (lay_lasts k w.stages more (c + y.0) d.0 lasts (lie.each y.0 d.0 d.1)))
               ]);

@@ -140,8 +140,8 @@ module _ {r s t e : SenderRecord} {xs : List Look} {n q needed : ℕ} (S : Scann
       let low = subst (λ (x : SenderRecord). IsSeenLeast x found) saw seen in
       let next = S.next in let need = S.need in let same = remembers_still in record {
         all = elim E.all [
-          | inl serves ↦ (let a = serves.0 in inl (omega arith, serves.1))
-          | inr looked ↦ (let a = looked.0 in
+          | inl serves ↦ (let a : needed ≤ remembers s = serves.0 in inl (omega arith, serves.1))
+          | inr looked ↦ (let a : remembers s < needed = looked.0 in
               inr (omega arith, subst (λ (k : Shape). length E.counts ≡ length (finals k.upstreams)) plan looked.1))
         ];
         room = λ i lt. (let high = E.high i lt in omega arith);
@@ -165,7 +165,7 @@ module _ {r s t e : SenderRecord} {xs : List Look} {n q needed : ℕ} (S : Scann
         looks = (
           H.counts,
           record {
-            remembered = let low = H.few in let same = remembers_still in let next = S.next in let need = S.need in omega arith;
+            remembered = let low : remembers s < needed = H.few in let same = remembers_still in let next = S.next in let need = S.need in omega arith;
             before = H.before;
             last = H.last;
             among = subst (λ (k : Shape). length H.counts ≤ length (finals k.upstreams)) plan H.among;

@@ -158,7 +158,7 @@ module _ (fs : List ℕ) (looks : List Look) (published needed : ℕ) where
           counts = S.counts;
           are = are;
           all = inr (few, S.each ∙ all);
-          high = λ j lt. (let each = S.each in let a = S.all j (omega arith) in omega arith);
+          high = λ j lt. (let each = S.each in let a = S.all j (omega arith) in let high : needed ≤ get_or S.counts j 0 = omega arith in high);
         };
         short = λ low. scanned_low xs least i S (omega arith) low few;
       }

@@ -85,7 +85,7 @@ returns-in-Ok g c =
         writes_stay e o _ lo n _ _ F collected E.fits.1.0 E.fits.1.1 E.own e1.knows
             grown _ _ _ (ap (λ (x : SenderStand g.row.T.Denot). x.knows.plan) step ∙ (ap (λ (r : SenderRecord g.row.T.Denot). r.plan) C.knows))
             marks (ap (λ (x : SenderStand g.row.T.Denot). x.knows.own) step ∙ grown),
-        subst (λ (r : SenderRecord g.row.T.Denot). GainsCells e.plan e.knows r lo n (cells_of c.self.inside.tokens.items) (cells_of c.collect.new.tokens.items))
+        subst (λ (r : SenderRecord g.row.T.Denot). GainsCells e.knows r lo n (cells_of c.self.inside.tokens.items) (cells_of c.collect.new.tokens.items))
             (sym (ap (λ (x : SenderStand g.row.T.Denot). x.knows) step))
             (gains_cells e o _ lo n _ _ F collected E.fits.1.0 E.fits.1.1 E.own e1.knows grown H.0 H.1 H.3 laid H.4),
         λ s t owns. (E.own s t owns).0,
