@@ -95,14 +95,14 @@ class Disk:
 
 class Cut:
     def __init__(self, program, shim, folder, rng):
-        self.program, self.shim, self.rng, self.folder = program, shim, rng, folder
+        self.program, self.shim, self.rng, self.folder, self.by = program, shim, rng, folder, "plain"
         self.cases, self.failures = 0, []
 
     def path(self, name):
         return os.path.join(self.folder, name)
 
     def fail(self, why):
-        self.failures.append(f"FAILED: {why}")
+        self.failures.append(f"FAILED: by {self.by}: {why}")
 
     def lay(self, files):
         """Makes the journal and the replica anew, of these bytes, where there are any; and there is no log."""
@@ -117,7 +117,7 @@ class Cut:
         return [records_of(bytes_of(self.path(name))) or [] for name in NAMES]
 
     def start(self, shim):
-        words = [self.program, "ledger", "--journal", self.path("journal"), "--replica", self.path("replica")]
+        words = [self.program, "ledger", "--by", self.by, "--journal", self.path("journal"), "--replica", self.path("replica")]
         around = dict(os.environ, LD_PRELOAD=self.shim, **shim) if shim else None
         return subprocess.Popen(words, env=around, stdin=subprocess.PIPE, stdout=subprocess.PIPE, stderr=subprocess.PIPE)
 
@@ -251,12 +251,13 @@ def main():
         shim = os.path.join(folder, "shim.so")
         subprocess.run(["cc", "-O2", "-shared", "-fPIC", "-o", shim, os.path.join(HERE, "shim.c"), "-ldl"], check=True)
         cut = Cut(os.path.abspath(asked.program), shim, folder, random.Random(asked.seed))
-        for run in range(asked.runs):
-            cut.cut(run)
-        for kind, error, before in itertools.product("ws", (errno.EIO, errno.ENOSPC), ((0, 0), (3, 1), (1, 3))):
-            cut.refuse(kind, error, before)
-        for name in NAMES:
-            cut.hold(name)
+        for cut.by in ("plain", "ring"):
+            for run in range(asked.runs):
+                cut.cut(run)
+            for kind, error, before in itertools.product("ws", (errno.EIO, errno.ENOSPC), ((0, 0), (3, 1), (1, 3))):
+                cut.refuse(kind, error, before)
+            for name in NAMES:
+                cut.hold(name)
     print("\n".join([*cut.failures[:20], f"{asked.program}: {cut.cases} cuts of power and failures of a disk, {len(cut.failures)} failed"]))
     return 1 if cut.failures else 0
 

@@ -59,7 +59,7 @@ class Killed:
                 os.truncate(path, length + 1)
 
     def start(self):
-        words = [self.program, "ledger", "--journal", self.journal, "--replica", self.replica]
+        words = [self.program, "ledger", "--by", self.rng.choice(("plain", "ring")), "--journal", self.journal, "--replica", self.replica]
         return subprocess.Popen(words, stdin=subprocess.PIPE, stdout=subprocess.PIPE, stderr=subprocess.PIPE)
 
     def fail(self, why):

@@ -1,0 +1,5 @@
+pub mod Crossing
+mod Tellings
+mod Sendings
+mod Storings
+mod Runs

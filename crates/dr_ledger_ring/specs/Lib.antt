@@ -1,0 +1,6 @@
+pub mod Answering
+pub mod Tellers
+pub mod Feeding
+pub mod Outcomes
+pub mod Storing
+pub mod Ending
