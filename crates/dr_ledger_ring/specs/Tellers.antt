@@ -5,4 +5,10 @@ use Rattle.dr_ledger_ring.specs.Answering.{Teller}
 use Rattle.dr_ledger_ring.specs.declared.answering.Answering.{Answering}
 
 abbrev pub teller_of : {W : Type 0} → (W → Option (List ℕ)) → Answering W → Teller
-teller_of contents a = record { responder = a.responder; written = contents (inner_of a.output); stop = a.stop }
+teller_of contents a = record {
+  responder = a.responder;
+  written = contents (inner_of a.output);
+  stop = a.stop;
+  journal = a.journal;
+  replica = a.replica;
+}
