@@ -116,7 +116,8 @@ pub(crate) fn answer_by_ring<T: Threads + Wait + Copy + Send + 'static>(
     }) else {
         return Err(Fault::Memory);
     };
-    match stopped.wait(&workers) {
+    let told = stopped.wait(&workers);
+    match stopped.breakdown(&told) {
         Some(breakdown) => Err(Fault::Ledger(LedgerFault::from(breakdown))),
         None => run.join(&workers).map_err(Fault::Ledger),
     }

@@ -3,15 +3,16 @@ use denote.RattleType.{RattleType}
 use denote.Param.Send.{IsSend, IsSync, sendable}
 use Rattle.std.proofs.Crossing as std
 use Rattle.std.proofs.MapsCrossing as maps
-use Rattle.std.proofs.sync.atomic.AtomicU64.TheSendSync.{the_send as atomic_send, the_sync as atomic_sync}
+use Rattle.std.proofs.sync.OnceLock.TheSendSync.{the_send as once_send, the_sync as once_sync}
 use Rattle.dr_accounts.specs.contracts.responder.Responder as Responder
 use Rattle.dr_journal.specs.declared.device.Device.{Ghosts}
 use Rattle.dr_journal.proofs.Crossing.{journaling_send}
+use Rattle.dr_signals.proofs.Crossing.{setter_send, watcher_send}
 use Rattle.dr_ledger_ring.specs.contracts.alarm.Alarm as Alarm
 use Rattle.dr_ledger_ring.specs.contracts.answering.Answering as Answering
 use Rattle.dr_ledger_ring.specs.contracts.storing.Storing as Storing
 
-ruleset words = (sendable, std.crosses, atomic_send, atomic_sync)
+ruleset words = (sendable, std.crosses, once_send, once_sync)
 
 pub alarm_send : IsSend Alarm.the_row
 alarm_send = search words depth 30
@@ -24,7 +25,7 @@ ruleset books = (sendable, std.crosses, maps.crosses)
 pub responder_send : IsSend Responder.the_row
 responder_send = search books depth 60 fits 20000
 
-ruleset handlers = (sendable, std.crosses, journaling_send, alarm_send, alarm_sync, responder_send)
+ruleset handlers = (sendable, std.crosses, journaling_send, setter_send, watcher_send, alarm_send, alarm_sync, responder_send)
 
 pub storing_send : (D : RattleType) (g : Ghosts D.Denot) → IsSend D → IsSend (Storing.the_row D g)
 storing_send D g s = search handlers depth 60 fits 20000

@@ -1,6 +1,6 @@
 -- What a sender sent of its input.
-use Rattle.std.proofs.Common.{◌≡◌, ℕ, ◌+◌, Bool, true, false, List, [], ◌∷◌, ◌++◌, length, drop, Option, None, Some, Result, Ok, Err, sym, ◌∙◌, ap, arith, append-nil, append_assoc}
-use Rattle.std.specs.Prelude.{IfErr, OnOk, is_err}
+use Rattle.std.proofs.Common.{◌≡◌, ℕ, ◌+◌, Bool, true, false, List, [], ◌∷◌, ◌++◌, length, drop, Option, None, Some, Result, Ok, Err, refl, sym, ◌∙◌, ap, subst, arith, append-nil, append_assoc}
+use Rattle.std.specs.Prelude.{◌==◌, IfErr, OnOk, is_err}
 use Rattle.std.proofs.lemmas.Bool.{false≢true}
 use Rattle.dr_seq.specs.declared.event.Event.{Event}
 use Rattle.dr_meaning.specs.Calls.Calling.{InPlaceInletCall}
@@ -13,7 +13,7 @@ use Rattle.dr_ledger.specs.Batches.{CountsReads, TurnCame}
 use Rattle.dr_ledger.specs.declared.fault.LedgerFault.{LedgerFault}
 use Rattle.dr_ledger.specs.declared.fault.LedgerFault.TheVariants as fault
 use Rattle.dr_ledger.proofs.Runs.{batch_failed, comes_on, comes_so_far, comes_to_a_fault, comes_to_its_end, nothing_came}
-use Rattle.dr_ledger_ring.specs.Feeding.{Feeds, FeedsOnce}
+use Rattle.dr_ledger_ring.specs.Feeding.{Feeds, FeedsOnce, IsOfFeed, TellsReads}
 
 -- what was filled by the events of a list is its beginning
 filled : (all part : List Event) (k : ℕ) → Fills (IsNth all) k part → drop k all ≡ part ++ drop (k + length part) all
@@ -58,10 +58,55 @@ pub sent_whole : (claims : Result (Unit {0}) Refusal) (r : Result Bool LedgerFau
 sent_whole (Ok done) r stream after known left came old new well sent comes = record { came = came; sent = sent; comes = comes }
 sent_whole (Err refusal) r stream after known left came old new well sent comes = absurd (false≢true (sym well))
 
--- a read that did not fail
-pub counted_ok : (r : Result Bool LedgerFault) (reads reads2 : ℕ) → CountsReads r reads reads2 → OnOk r (reads2 ≡ reads)
-counted_ok (Ok more) reads reads2 counts = counts
-counted_ok (Err e) reads reads2 counts = tt
+-- a read that failed is told as such
+pub tells_reads : (r : Result Bool LedgerFault) (reads reads2 : ℕ) → CountsReads r reads reads2 → TellsReads r reads reads2
+tells_reads (Ok more) reads reads2 counts = counts
+tells_reads (Err fault.Read) reads reads2 counts = counts
+tells_reads (Err fault.Memory) reads reads2 counts = counts
+tells_reads (Err (fault.BadRecord k)) reads reads2 counts = counts
+tells_reads (Err fault.Write) reads reads2 counts = absurd counts
+tells_reads (Err fault.Disk) reads reads2 counts = absurd counts
+tells_reads (Err fault.Full) reads reads2 counts = absurd counts
+
+-- one that brought something did not fail
+pub some_read : (r : Result Bool LedgerFault) (came : List Event) (reads reads2 : ℕ) → CountsReads r reads reads2 → (r ≡ Err fault.Read → came ≡ [])
+    → (came ≡ [] → ⊥) → reads2 ≡ reads
+some_read (Ok more) came reads reads2 counts none some = counts
+some_read (Err fault.Read) came reads reads2 counts none some = absurd (some (none refl))
+some_read (Err fault.Memory) came reads reads2 counts none some = counts
+some_read (Err (fault.BadRecord k)) came reads reads2 counts none some = counts
+some_read (Err fault.Write) came reads reads2 counts none some = absurd counts
+some_read (Err fault.Disk) came reads reads2 counts none some = absurd counts
+some_read (Err fault.Full) came reads reads2 counts none some = absurd counts
+
+-- what is told by a read is of who feeds
+pub of_feed : (r : Result Bool LedgerFault) (reads reads2 : ℕ) → CountsReads r reads reads2 → IfErr r IsOfFeed
+of_feed (Ok more) reads reads2 counts = tt
+of_feed (Err fault.Read) reads reads2 counts = tt
+of_feed (Err fault.Memory) reads reads2 counts = tt
+of_feed (Err (fault.BadRecord k)) reads reads2 counts = tt
+of_feed (Err fault.Write) reads reads2 counts = absurd counts
+of_feed (Err fault.Disk) reads reads2 counts = absurd counts
+of_feed (Err fault.Full) reads reads2 counts = absurd counts
+
+-- behind reads of which none failed
+pub behind_reads : (e : LedgerFault) (before reads reads2 : ℕ) → reads ≡ before → TellsReads {A = Bool} (Err e) reads reads2
+    → TellsReads {A = Unit {0}} (Err e) before reads2
+behind_reads fault.Read before reads reads2 same tells = tells ∙ ap (λ (n : ℕ). n + 1) same
+behind_reads fault.Memory before reads reads2 same tells = tells ∙ same
+behind_reads (fault.BadRecord k) before reads reads2 same tells = tells ∙ same
+behind_reads fault.Write before reads reads2 same tells = tells ∙ same
+behind_reads fault.Disk before reads reads2 same tells = tells ∙ same
+behind_reads fault.Full before reads reads2 same tells = tells ∙ same
+
+-- a read that brought nothing
+pub nothing_sent : (r : Result Bool LedgerFault) (stream after : EventStream) (known left : Option (List ℕ)) (came old : List Event) → came ≡ []
+    → TurnCame r stream after known left came → FeedsOnce r stream after known left old old
+nothing_sent r stream after known left came old none comes = record {
+  came = [];
+  sent = sym (append-nil old);
+  comes = subst (λ (l : List Event). TurnCame r stream after known left l) none comes;
+}
 
 -- before the first read
 pub none_sent : (stream : EventStream) (known : Option (List ℕ)) (old : List Event) → FeedsOnce (Ok true) stream stream known known old old
@@ -101,3 +146,7 @@ pub sent_so_far : (stream after : EventStream) (known left : Option (List ℕ)) 
     → Feeds (Err fault.Memory) stream known old new
 sent_so_far stream after known left old new is =
     record { came = is.came; sent = is.sent; comes = comes_so_far (Unit {0}) stream after known left is.came is.comes }
+
+-- what is not empty by its length is not empty
+pub empty_not : (came : List Event) → came ≡ [] → (length came == 0) ≡ false → ⊥
+empty_not came none some = false≢true (sym some ∙ ap (λ (l : List Event). length l == 0) none)

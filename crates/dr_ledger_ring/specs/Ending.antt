@@ -1,5 +1,5 @@
 -- What a run of a ledger over the ring stores and answers: `seen` and the others are its devices'.
-use Rattle.std.specs.Prelude.{◌≡◌, ◌<◌, ℕ, List, ◌++◌, length, map, Option, None, Some, Result}
+use Rattle.std.specs.Prelude.{◌≡◌, ◌<◌, ℕ, List, ◌++◌, length, map, Option, None, Some, Result, IfErr}
 use Rattle.dr_seq.specs.declared.event.Event.{Event}
 use Rattle.dr_meaning.specs.Calls.Handling.{Relation}
 use Rattle.dr_workers.specs.Meaning.Work.{Dealt, dealt_events}
@@ -21,7 +21,7 @@ use Rattle.dr_ledger.specs.Answering.{Came}
 use Rattle.dr_ledger.specs.Standing.{Copies, HasBooked, Holds, IsBeginning}
 use Rattle.dr_ledger.specs.declared.fault.LedgerFault.{LedgerFault}
 use Rattle.dr_ledger_ring.specs.Answering.{CountsStop}
-use Rattle.dr_ledger_ring.specs.Feeding.{TellsReads}
+use Rattle.dr_ledger_ring.specs.Feeding.{IsOfFeed, TellsReads}
 use Rattle.dr_ledger_ring.specs.Outcomes.{AnsweredBy, StopsBy, outcome}
 use Rattle.dr_ledger_ring.specs.Storing.{fault_in}
 use Rattle.dr_ledger_ring.specs.declared.alarm.Breakdown.{Breakdown}
@@ -107,3 +107,4 @@ module _ {D : Type 0} (seen : D → List ℕ) (may_leave : D → List ℕ → Ty
       pub stops : StopsBy stop (fault_in ended.journal) (fault_in ended.replica)
       pub writes : CountsStop stop (failed_calls ended.output)
       pub reads : TellsReads read (failed_calls source.input) (failed_calls ended.source.input)
+      pub of_feed : IfErr read IsOfFeed

@@ -1,3 +1,4 @@
+pub mod Alarms
 pub mod Answering
 pub mod Tellers
 pub mod Feeding

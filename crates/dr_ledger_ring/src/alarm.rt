@@ -1,26 +1,14 @@
 //! What one thread tells others, once and for all: that something broke down, or that all is over.
 
-ghost use Rattle.std.specs.Prelude.{◌≡◌};
+ghost use Rattle.std.specs.Prelude.{◌≡◌, IfSome, None, Some};
+ghost use Rattle.dr_ledger_ring.specs.Alarms.{alarm_id};
 ghost use Rattle.dr_ledger_ring.specs.Outcomes.{breakdown_of, fault_of};
 ghost use Rattle.dr_ledger_ring.specs.declared.alarm.Breakdown.TheVariants as breakdown;
 
 use dr_files::WriteFault;
 use dr_journal::JournalFault;
 use dr_ledger::LedgerFault;
-use std::sync::Wait;
-use std::sync::atomic::{AtomicU64, Ordering};
-
-const QUIET: u64 = 0;
-
-const OVER: u64 = 1;
-
-const MEMORY: u64 = 2;
-
-const DISK: u64 = 3;
-
-const FULL: u64 = 4;
-
-const WRITE: u64 = 5;
+use std::sync::{OnceLock, OnceToken, Wait};
 
 /// Why a handler of a ledger goes on no more.
 #[derive(Clone, Copy, Debug, PartialEq, Eq)]
@@ -33,27 +21,6 @@ pub enum Breakdown {
     Full,
     /// An answer cannot be written.
     Write,
-}
-
-impl Breakdown {
-    fn number(self) -> u64 {
-        match self {
-            Breakdown::Memory => MEMORY,
-            Breakdown::Disk => DISK,
-            Breakdown::Full => FULL,
-            Breakdown::Write => WRITE,
-        }
-    }
-
-    fn of_number(number: u64) -> Option<Breakdown> {
-        match number {
-            MEMORY => Some(Breakdown::Memory),
-            DISK => Some(Breakdown::Disk),
-            FULL => Some(Breakdown::Full),
-            WRITE => Some(Breakdown::Write),
-            _ => None,
-        }
-    }
 }
 
 impl From<JournalFault> for Breakdown {
@@ -89,54 +56,59 @@ impl From<Breakdown> for LedgerFault {
     }
 }
 
-/// What threads share to tell of a breakdown. The first that is told stays. What a thread did before it told is done for
-/// whoever sees it told, since all steps are sequentially consistent.
+/// What shows what an alarm told: a breakdown, or that all is over. All of one alarm show the same.
+pub type Told<'a> = OnceToken<'a, Option<Breakdown>>;
+
+/// What threads share to tell of a breakdown, or that all is over. What is told first stays.
 #[derive(Drop)]
 pub struct Alarm {
-    word: AtomicU64,
+    told: OnceLock<Option<Breakdown>>,
 }
 
 impl Alarm {
     /// Nothing is told yet.
     pub fn new() -> Alarm {
         Alarm {
-            word: AtomicU64::new(QUIET),
+            told: OnceLock::new(),
         }
     }
 
-    fn tell(&self, number: u64) {
-        let told = self
-            .word
-            .compare_exchange(QUIET, number, Ordering::SeqCst, Ordering::SeqCst);
-        if told.is_ok() {
-            self.word.wake_all();
-        }
+    /// Tells of a breakdown, where nothing was told yet.
+    pub fn raise(&self, breakdown: Breakdown) -> Option<Told<'_>>
+        // If it gives something, that shows that this alarm told this breakdown.
+        ensures { IfSome result (λ told. (told.of ≡ alarm_id self.now) × (told.value ≡ Some breakdown)) }
+    {
+        self.told.try_set(Some(breakdown)).ok()
     }
 
-    /// Tells of a breakdown.
-    pub fn raise(&self, breakdown: Breakdown) {
-        self.tell(breakdown.number());
+    /// Tells that all is over, where nothing was told yet.
+    pub fn end(&self) -> Option<Told<'_>>
+        // If it gives something, that shows that this alarm told that all is over.
+        ensures { IfSome result (λ told. (told.of ≡ alarm_id self.now) × (told.value ≡ None)) }
+    {
+        self.told.try_set(None).ok()
     }
 
-    /// Tells that all is over.
-    pub fn end(&self) {
-        self.tell(OVER);
-    }
-
-    /// The breakdown that was told, if one was.
-    pub fn breakdown(&self) -> Option<Breakdown> {
-        Breakdown::of_number(self.word.load(Ordering::SeqCst))
-    }
-
-    /// Waits until something is told: a breakdown, or else that all is over.
-    pub fn wait<R: Wait>(&self, rt: &R) -> Option<Breakdown> {
+    /// Waits until something is told.
+    pub fn wait<R: Wait>(&self, rt: &R) -> Told<'_>
+        // It shows what this alarm told.
+        ensures { result.of ≡ alarm_id self.now }
+    {
         for _ in rt.forever() {
-            let told = self.word.load(Ordering::SeqCst);
-            if told != QUIET {
-                return Breakdown::of_number(told);
+            self.told.wait(rt);
+            if let Some(told) = self.told.witness() {
+                return told;
             }
-            self.word.park(rt, QUIET as u32);
         }
         unreachable!()
+    }
+
+    /// The breakdown that was told, or `None` where all is over.
+    pub fn breakdown<'a>(&'a self, told: &Told<'a>) -> Option<Breakdown>
+        requires { told.now.of ≡ alarm_id self.now }
+        // It is what was told, and no later raise changes it.
+        ensures { result ≡ told.now.value }
+    {
+        *self.told.value(told)
     }
 }

@@ -8,11 +8,11 @@ use Rattle.dr_ledger_ring.proofs.answering.AnsweringInPlaceHandlerEvent.on_event
 
 pub returns-then-is_some : goal.returns-then-is_some
 returns-then-is_some g c =
-    does_nothing (teller_of g.W.Write.contents c.args.self.now) c.args.event.now c.args.end (sym c.is_some.ensures ∙ c.if-is_some.true)
+    does_nothing (teller_of g.W.Write.contents c.args.self.now) c.args.event.now c.args.s c.args.end (sym c.is_some.ensures ∙ c.if-is_some.true)
 
 pub returns-then-not-end : goal.returns-then-not-end
 returns-then-not-end g c =
-    books_one (teller_of g.W.Write.contents c.args.self.now) c.args.event.now c.args.end c.on_event.new.self
+    books_one (teller_of g.W.Write.contents c.args.self.now) c.args.event.now c.args.s c.args.end c.on_event.new.self
     (sym c.is_some.ensures ∙ c.if-is_some.false) c.if-not-end.true c.on_event.ensures
 
 pub returns-in-Ok : goal.returns-in-Ok
@@ -20,14 +20,20 @@ returns-in-Ok g c =
     let con = g.W.Write.contents in
     let was = c.args.self.now in
     let left = c.answer.new.responder in
-    answers_one (teller_of con was) (record { responder = left; written = con (inner_of c.answer.new.output); stop = was.stop }) c.args.event.now
-    c.args.end c.on_event.new.self (sym c.is_some.ensures ∙ c.if-is_some.false) c.if-not-end.false c.on_event.ensures
-    (λ none. subst (λ (s : Option Breakdown). Writes (by_stop s) c.on_event.new.self left (con (inner_of was.output)) (con (inner_of c.answer.new.output)))
-    (sym none) c.in-Ok.ensures.writes)
+    answers_one (teller_of con was)
+    (record { responder = left; written = con (inner_of c.answer.new.output); stop = was.stop; journal = c.answer.new.journal; replica = c.answer.new.replica })
+    c.args.event.now c.args.s c.args.end c.on_event.new.self (sym c.is_some.ensures ∙ c.if-is_some.false) c.if-not-end.false c.on_event.ensures
+    (λ none. record {
+      journal = c.in-Ok.ensures.journal;
+      replica = c.in-Ok.ensures.replica;
+      writes = subst (λ (o : Option Breakdown). Writes (by_stop o) c.args.s c.on_event.new.self left (con (inner_of was.output)) (con (inner_of c.answer.new.output)) c.answer.new.journal c.answer.new.replica)
+          (sym none) c.in-Ok.ensures.writes;
+    })
 
 pub returns-in-Err : goal.returns-in-Err
 returns-in-Err g c =
     let con = g.W.Write.contents in
     let was = c.args.self.now in
-    answers_one (teller_of con was) _ c.args.event.now c.args.end c.on_event.new.self (sym c.is_some.ensures ∙ c.if-is_some.false) c.if-not-end.false
-    c.on_event.ensures (λ none. c.in-Err.ensures.writes)
+    answers_one (teller_of con was) _ c.args.event.now c.args.s c.args.end c.on_event.new.self (sym c.is_some.ensures ∙ c.if-is_some.false)
+    c.if-not-end.false c.on_event.ensures
+    (λ none. record { journal = c.in-Err.ensures.journal; replica = c.in-Err.ensures.replica; writes = c.in-Err.ensures.writes })

@@ -3,7 +3,7 @@ use Rattle.dr_files.specs.Counting.{faults_of, inner_of}
 use Rattle.dr_plain.specs.Calls.Ends.{sender_place}
 use Rattle.dr_lent.specs.Events.{events_of}
 use Rattle.dr_ledger_ring.specs.Feeding.{FeedsOnce}
-use Rattle.dr_ledger_ring.proofs.feeding.feed.Given as goal
+use Rattle.dr_ledger_ring.proofs.feeding.feed_all.Given as goal
 
 abbrev pub invariant-loop : goal.invariant-loop
 invariant-loop g l = record {
