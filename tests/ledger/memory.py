@@ -1,11 +1,12 @@
 #!/usr/bin/env python3
-"""Looks at the memory that a ledger takes as it starts: it does not grow with the operations that are stored.
+"""Looks at the memory that a ledger takes as it starts and as it answers: it does not grow with the operations that are stored, or come.
 
     tests/ledger/memory.py PROGRAM [--most N]
 
 Two journals are written, one with a hundred times as many operations as the other, of the same accounts. On each a ledger is started,
 by each way: alone, with a replica that has the same, with one that is missing, and with one that has half of them. The most memory that
-it had by the time it says what it recovered may differ by a few pieces of a file. The script prints a line for each failure, and then a
+it had by the time it says what it recovered may differ by a few pieces of a file. So may what it had once it answered as many
+operations of these accounts, which come as fast as it takes them. The script prints a line for each failure, and then a
 count; its status is 0 where none failed.
 """
 
@@ -14,6 +15,7 @@ import os
 import subprocess
 import sys
 import tempfile
+import threading
 
 sys.dont_write_bytecode = True
 from bank import HEADER, record_of  # noqa: E402
@@ -73,8 +75,43 @@ def starts(program, by, folder, count):
         yield f"a {('journal', 'replica')[role]} that has half of it", start(program, by, folder, both)
 
 
+def feed(stream, count):
+    """Sends so many deposits."""
+    lines = [f"0,deposit,{account},1\n".encode() for account in range(ACCOUNTS)]
+    piece = b"".join(lines[at % ACCOUNTS] for at in range(1000))
+    for _ in range(count // 1000):
+        stream.write(piece)
+    stream.flush()
+
+
+def answers(program, by, folder, count):
+    """A run over so many operations, by its name: how many it answered, as a start would say it, and its memory by then."""
+    for name in ("journal", "replica"):
+        if os.path.exists(os.path.join(folder, name)):
+            os.remove(os.path.join(folder, name))
+    words = [program, "ledger", "--by", by, "--journal", "journal", "--replica", "replica"]
+    ran = subprocess.Popen(words, cwd=folder, stdin=subprocess.PIPE, stdout=subprocess.PIPE, stderr=subprocess.DEVNULL)
+    feeding = threading.Thread(target=feed, args=(ran.stdin, count))
+    feeding.start()
+    answered, piece = 0, b"\n"
+    while answered < count and piece:
+        piece = os.read(ran.stdout.fileno(), 1 << 16)
+        answered += piece.count(b"\n")
+    peak = peak_of(ran.pid)
+    feeding.join()
+    ran.stdin.close()
+    ran.stdout.close()
+    yield "operations that come", (f"recovered {answered}\n", peak, ran.wait(120))
+
+
+def looks_of(program, by, folder, count):
+    """Each start on so many operations, and a run over so many."""
+    yield from starts(program, by, folder, count)
+    yield from answers(program, by, folder, count)
+
+
 def main():
-    parser = argparse.ArgumentParser(description="Looks at the memory that a ledger takes as it starts.")
+    parser = argparse.ArgumentParser(description="Looks at the memory that a ledger takes.")
     parser.add_argument("program")
     parser.add_argument("--most", type=int, default=1_000_000, help="how many operations the larger journal has")
     words = parser.parse_args()
@@ -85,7 +122,7 @@ def main():
     with tempfile.TemporaryDirectory(prefix="ledger-memory-") as folder:
         program = os.path.abspath(words.program)
         few, many = words.most // 100, words.most
-        pairs = [(by, *pair) for by in WAYS for pair in zip(list(starts(program, by, folder, few)), starts(program, by, folder, many))]
+        pairs = [(by, *pair) for by in WAYS for pair in zip(list(looks_of(program, by, folder, few)), looks_of(program, by, folder, many))]
         for by, (name, small), (_, large) in pairs:
             looks += 1
             wanted = [(f"recovered {count}\n", 0) for count in (few, many)]
