@@ -216,15 +216,14 @@ pub fn answer_all<
     requires reads { faults_of source.input < 2 ^ 64 - 1 }
     requires writes { faults_of output ≡ 0 }
     ensures memory { IfErr result (λ fault. fault ≡ Memory) }
-    // Some operations came, and the first ones are answered: all of them, if no handler stopped. Whatever failed, the journal and any replica
-    // had stored what is answered, and each crash since then leaves it. How each of them ended is told, and why the run ended: a failed disk, read
-    // or write only where one failed.
+    // Some operations came, and the first ones are answered: all, if no handler stopped. Whatever failed, the journal and any replica had stored
+    // what is answered, and each crash since leaves it. It is told how both ended, and why the run did: a failure only where one was.
     ensures answers { IfOk result (λ ended. (past : List Event) → AreAtWork D.seen D.may_leave parts past → IsOutcome D.seen D.may_leave D.moment D.left_since D.faults ⟦<Journaling<D> as InPlaceHandler<Event>>⟧.goes W.contents I.remaining parts ended source (W.contents (inner_of output)) past) }
 {
     let handlers = handlers_of(alloc, parts, output, stopped)?;
     let slots = new_events(alloc, size, || Ok(Event::NONE))?;
     let cut = (size.get() / 4).max(1);
-    let ran = run(
+    match run(
         rt,
         alloc,
         &graph_of(alloc)?,
@@ -233,8 +232,7 @@ pub fn answer_all<
         handlers,
         Way::by(WaitStrategy::Parking),
         move |sender| { feed(sender, alloc, source, cut) },
-    );
-    match ran {
+    ) {
         Ok(ran) => Ok(handed_back(ran.settled.published(), ran.handlers, ran.sent)),
         Err(_) => Err(LedgerFault::Memory),
     }
