@@ -10,7 +10,7 @@ brought, which a crash may cut anywhere. They book in memory, as ours does, and 
 pipes (bench/ledger/feed.c) for `--seconds S`, in turns, `--turns N` times (three without it), of which the one with the middle rate
 counts. The files lie in `--folder DIR`, on the disk that is to be measured; without it in the folder for temporary files.
 
-`--by ring` measures ours over the ring, and not on one thread. `--count N` is another number of operations, `--program PATH` another
+`--by plain` measures ours on one thread, and not over the ring. `--count N` is another number of operations, `--program PATH` another
 program than ./disruptor, and `--record FILE` also writes the figures to a file, as those of bench/measured. It needs a C compiler, and
 SQLite's own library (Debian's libsqlite3-dev), without which its rows are left out.
 """
@@ -141,7 +141,7 @@ def main():
     parser = argparse.ArgumentParser(description=__doc__, formatter_class=argparse.RawDescriptionHelpFormatter)
     parser.add_argument("what", choices=["answers", "recovery"])
     parser.add_argument("--program", default=os.path.join(TOP, "disruptor"))
-    parser.add_argument("--by", choices=["plain", "ring"], default="plain")
+    parser.add_argument("--by", choices=["plain", "ring"], default="ring")
     parser.add_argument("--seconds", type=float, default=3)
     parser.add_argument("--turns", type=int, default=3)
     parser.add_argument("--count", type=int, default=10_000_000)
