@@ -21,13 +21,13 @@ use std::sync::Arc;
 /// that they have stored it. Where they do not it stops, and answers no more. It tells who waits that it stopped.
 #[derive(Drop)]
 pub struct Answering<W> {
-    pub(crate) responder: Responder,
-    pub(crate) output: Counted<W>,
-    pub(crate) stop: Option<Breakdown>,
+    responder: Responder,
+    output: Counted<W>,
+    stop: Option<Breakdown>,
     // What those before it in the graph tell, and what it tells.
-    pub(crate) journal: Watcher,
-    pub(crate) replica: Watcher,
-    pub(crate) stopped: Arc<Alarm, Global>,
+    journal: Watcher,
+    replica: Watcher,
+    stopped: Arc<Alarm, Global>,
     // A call on the output fails once, and so it stops.
     ghost writes: { CountsStop stop (faults_of output) },
 }
@@ -95,6 +95,22 @@ impl<W: Write> Answering<W> {
             replica,
             stopped,
         }
+    }
+
+    /// What is booked, the output, why it stopped, if it has, and what sees both that journal.
+    pub(crate) fn into_parts(
+        self,
+    ) -> (Responder, Counted<W>, Option<Breakdown>, Watcher, Watcher)
+        ensures parts { record { responder = result.0; written = W.contents (inner_of result.1); stop = result.2; journal = result.3; replica = result.4 } ≡ teller_of W.contents self }
+        ensures writes { CountsStop result.2 (faults_of result.1) }
+    {
+        (
+            self.responder,
+            self.output,
+            self.stop,
+            self.journal,
+            self.replica,
+        )
     }
 }
 

@@ -170,14 +170,7 @@ fn handed_back<D: Device + Drop, W: Write + Drop, I: Read + Drop>(
     ensures also_told { IsBeginning (teller_of W.contents handlers.2).replica.seen (signal_of handlers.1).set }
 {
     let (journal, replica, answering) = handlers;
-    let Answering {
-        responder,
-        output,
-        stop,
-        journal: sees,
-        replica: also_sees,
-        stopped: _,
-    } = answering;
+    let (responder, output, stop, sees, also_sees) = answering.into_parts();
     let journal = taken_back(journal, sees);
     let replica = taken_back(replica, also_sees);
     LedgerOutcome {
