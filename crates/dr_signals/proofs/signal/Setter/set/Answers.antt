@@ -3,7 +3,7 @@ use Rattle.dr_signals.proofs.Steps.{sets_one}
 use Rattle.dr_signals.proofs.signal.Setter.set.Goals as goal
 
 pub store-requires : goal.store-requires
-store-requires g c =
+store-requires c =
     let sits = c.self.invariant in
     let one = sits.1 in (
       sits.0 ∙ ap (λ r. r.table.shared.table_id) (sym c.deref.ensures),

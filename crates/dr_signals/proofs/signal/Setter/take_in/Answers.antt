@@ -6,7 +6,7 @@ use Rattle.dr_signals.proofs.Steps.{compares_all, joins_in}
 use Rattle.dr_signals.proofs.signal.Setter.take_in.Goals as goal
 
 pub join_seat-requires : goal.join_seat-requires
-join_seat-requires g c =
+join_seat-requires c =
     let sits = c.self.invariant in
     let one = sits.1 in
     let here = sits.0 ∙ ap (λ r. r.table.shared.table_id) (sym c.deref.ensures) in (
@@ -18,7 +18,7 @@ join_seat-requires g c =
     )
 
 pub load-requires : goal.load-requires
-load-requires g c =
+load-requires c =
     let sits = c.self.invariant in
     let one = sits.1 in (
       c.join_seat.ensures.0 ∙ sits.0 ∙ ap (λ r. r.table.shared.table_id) (sym c.deref.ensures),

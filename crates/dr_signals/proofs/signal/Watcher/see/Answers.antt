@@ -3,7 +3,7 @@ use Rattle.dr_signals.proofs.Steps.{sees_all}
 use Rattle.dr_signals.proofs.signal.Watcher.see.Goals as goal
 
 pub load-requires : goal.load-requires
-load-requires g c =
+load-requires c =
     let sits = c.self.invariant in
     let one = sits.1 in (
       sits.0 ∙ ap (λ r. r.table.shared.table_id) (sym c.deref.ensures),
