@@ -60,9 +60,9 @@ books_one old event s end booked goes_on more goes =
     (sym more) (
     record {
       takes = λ none. (
-          booked,
-          goes,
-          ap (λ (o : Option Breakdown). record { responder = booked; written = old.written; stop = o; journal = old.journal; replica = old.replica }) none,
+        booked,
+        goes,
+        ap (λ (o : Option Breakdown). record { responder = booked; written = old.written; stop = o; journal = old.journal; replica = old.replica }) none,
       );
       silent = λ some. absurd (false≢true (sym goes_on ∙ some));
     }

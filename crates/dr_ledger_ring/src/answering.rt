@@ -98,9 +98,7 @@ impl<W: Write> Answering<W> {
     }
 
     /// What is booked, the output, why it stopped, if it has, and what sees both that journal.
-    pub(crate) fn into_parts(
-        self,
-    ) -> (Responder, Counted<W>, Option<Breakdown>, Watcher, Watcher)
+    pub(crate) fn into_parts(self) -> (Responder, Counted<W>, Option<Breakdown>, Watcher, Watcher)
         ensures parts { record { responder = result.0; written = W.contents (inner_of result.1); stop = result.2; journal = result.3; replica = result.4 } ≡ teller_of W.contents self }
         ensures writes { CountsStop result.2 (faults_of result.1) }
     {

@@ -24,9 +24,9 @@ handed_back-requires g c =
     let watch = one_watch con c.by.result.batch first.2 ran.handlers.2 (events_of is.back.knows.published) is.through.2 in
     let before = teller_of con first.2 in (
       watch.0 ∙ sym (one_signal d.seen d.may_leave d.moment d.left_since d.faults c.by.result.batch (Some c.args.parts.journal) first.0 ran.handlers.0
-      before.journal (events_of is.back.knows.published) made.journal is.through.0),
+          before.journal (events_of is.back.knows.published) made.journal is.through.0),
       watch.1 ∙ sym (one_signal d.seen d.may_leave d.moment d.left_since d.faults c.by.result.batch c.args.parts.replica first.1 ran.handlers.1
-      before.replica (events_of is.back.knows.published) made.replica is.through.1),
+          before.replica (events_of is.back.knows.published) made.replica is.through.1),
     )
 
 pub returns-in-Ok-clause-answers : goal.returns-in-Ok-clause-answers
