@@ -10,23 +10,23 @@ use Rattle.dr_ledger_ring.specs.Telling.{Covers, Sees, number_of, number_told, s
 
 same_fault : (a b : JournalFault) → number_of a ≡ number_of b → a ≡ b
 same_fault NoMemory NoMemory e = refl
-same_fault NoMemory Failed e = let no : 1 ≡ 2 = e in absurd (omega arith)
-same_fault NoMemory Full e = let no : 1 ≡ 3 = e in absurd (omega arith)
-same_fault Failed NoMemory e = let no : 2 ≡ 1 = e in absurd (omega arith)
+same_fault NoMemory Failed e = let never : 1 ≡ 2 = e in absurd (omega arith)
+same_fault NoMemory Full e = let never : 1 ≡ 3 = e in absurd (omega arith)
+same_fault Failed NoMemory e = let never : 2 ≡ 1 = e in absurd (omega arith)
 same_fault Failed Failed e = refl
-same_fault Failed Full e = let no : 2 ≡ 3 = e in absurd (omega arith)
-same_fault Full NoMemory e = let no : 3 ≡ 1 = e in absurd (omega arith)
-same_fault Full Failed e = let no : 3 ≡ 2 = e in absurd (omega arith)
+same_fault Failed Full e = let never : 2 ≡ 3 = e in absurd (omega arith)
+same_fault Full NoMemory e = let never : 3 ≡ 1 = e in absurd (omega arith)
+same_fault Full Failed e = let never : 3 ≡ 2 = e in absurd (omega arith)
 same_fault Full Full e = refl
 
 -- a number of operations is no fault's
 not_a_fault : (b : Bool) (s : ℕ) (f : JournalFault) → (if b then s + 4 else 0) ≡ number_of f → ⊥
-not_a_fault true s NoMemory e = let no : s + 4 ≡ 1 = e in absurd (omega arith)
-not_a_fault true s Failed e = let no : s + 4 ≡ 2 = e in absurd (omega arith)
-not_a_fault true s Full e = let no : s + 4 ≡ 3 = e in absurd (omega arith)
-not_a_fault false s NoMemory e = let no : 0 ≡ 1 = e in absurd (omega arith)
-not_a_fault false s Failed e = let no : 0 ≡ 2 = e in absurd (omega arith)
-not_a_fault false s Full e = let no : 0 ≡ 3 = e in absurd (omega arith)
+not_a_fault true s NoMemory e = let never : s + 4 ≡ 1 = e in absurd (omega arith)
+not_a_fault true s Failed e = let never : s + 4 ≡ 2 = e in absurd (omega arith)
+not_a_fault true s Full e = let never : s + 4 ≡ 3 = e in absurd (omega arith)
+not_a_fault false s NoMemory e = let never : 0 ≡ 1 = e in absurd (omega arith)
+not_a_fault false s Failed e = let never : 0 ≡ 2 = e in absurd (omega arith)
+not_a_fault false s Full e = let never : 0 ≡ 3 = e in absurd (omega arith)
 
 -- who tells a fault's number has that fault
 pub told_fault : (o : Option JournalFault) (s : ℕ) (f : JournalFault) → number_told o s ≡ number_of f → o ≡ Some f
@@ -49,10 +49,10 @@ told_count None s = some_stored (nat_lt s (2 ^ 64 - 4)) s
 
 only_one : (n m : ℕ) → Contains (n ∷ []) m → n ≡ m
 only_one n m (zero, lt, e) = e
-only_one n m (suc k, lt, e) = let no : suc k < 1 = lt in absurd (omega arith)
+only_one n m (suc k, lt, e) = let never : suc k < 1 = lt in absurd (omega arith)
 
 pub none_in : (n : ℕ) → Contains [] n → ⊥
-none_in n (k, lt, e) = let no : k < 0 = lt in absurd (omega arith)
+none_in n (k, lt, e) = let never : k < 0 = lt in absurd (omega arith)
 
 -- what was told after an operation was told before, or with it
 pub told_more : (told : List ℕ) (o : Option JournalFault) (s : ℕ) (end : Bool) (n : ℕ) → Contains (told_after told o s end) n
@@ -63,7 +63,7 @@ told_more told o s true n has =
 
 -- the last number of a list that is not 0 is in it
 last_in : (l : List ℕ) → 0 < last_of l → Contains l (last_of l)
-last_in [] some = let no : 0 < 0 = some in absurd (omega arith)
+last_in [] some = let never : 0 < 0 = some in absurd (omega arith)
 last_in (n ∷ []) some = (0, omega arith, refl)
 last_in (n ∷ m ∷ l) some = Contains-append_right (n ∷ []) (m ∷ l) (last_of (m ∷ l)) (last_in (m ∷ l) some)
 

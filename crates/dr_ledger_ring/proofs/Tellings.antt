@@ -30,16 +30,16 @@ use Rattle.dr_ledger_ring.proofs.Numbers.{IsCovered, covered_more, covered_now}
 -- an answer that is withheld is not written, and no call on the output failed
 pub withheld : (cause : Breakdown) (s : ℕ) (booked : Responder) (before : Option (List ℕ)) (journal replica : WatchEnd)
     → IsWithheld cause s journal ⊎ IsWithheld cause s replica → Writes (Err cause) s booked booked before before journal replica
-withheld breakdown.Write s booked before journal replica (inl no) = absurd no
-withheld breakdown.Write s booked before journal replica (inr no) = absurd no
+withheld breakdown.Write s booked before journal replica (inl never) = absurd never
+withheld breakdown.Write s booked before journal replica (inr never) = absurd never
 withheld breakdown.Memory s booked before journal replica why = (Keeps-refl before, tt)
 withheld breakdown.Disk s booked before journal replica why = (Keeps-refl before, why)
 withheld breakdown.Full s booked before journal replica why = (Keeps-refl before, why)
 
 pub withheld_counts : (cause : Breakdown) (s faults : ℕ) (journal replica : WatchEnd) → IsWithheld cause s journal ⊎ IsWithheld cause s replica
     → faults ≡ 0 → CountsStop (Some cause) faults
-withheld_counts breakdown.Write s faults journal replica (inl no) none = absurd no
-withheld_counts breakdown.Write s faults journal replica (inr no) none = absurd no
+withheld_counts breakdown.Write s faults journal replica (inl never) none = absurd never
+withheld_counts breakdown.Write s faults journal replica (inr never) none = absurd never
 withheld_counts breakdown.Memory s faults journal replica why none = none
 withheld_counts breakdown.Disk s faults journal replica why none = none
 withheld_counts breakdown.Full s faults journal replica why none = none

@@ -65,6 +65,9 @@ pub record TakesOperation (old : Teller) (event : Event) (s : ℕ) (end : Bool) 
   pub silent : IsSome old.stop → new ≡ old
 
 -- how often the output failed: once, where that stopped the handler
+abbrev pub failed_writes : Option Breakdown → ℕ
+failed_writes (Some breakdown.Write) = 1
+failed_writes other = 0
+
 abbrev pub CountsStop : Option Breakdown → ℕ → Type 0
-CountsStop (Some breakdown.Write) faults = faults ≡ 1
-CountsStop other faults = faults ≡ 0
+CountsStop stop faults = faults ≡ failed_writes stop
