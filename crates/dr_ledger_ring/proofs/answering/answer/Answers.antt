@@ -10,13 +10,13 @@ use Rattle.dr_ledger_ring.proofs.answering.answer.Goals as goal
 
 pub returns-in_err-see_both-clause-writes : goal.returns-in_err-see_both-clause-writes
 returns-in_err-see_both-clause-writes g c =
-    let p = err_from_is_err_and c.from_residual-in_err-see_both.result c.from_residual-in_err-see_both.ensures.1 in
+    let p = err_from_is_err_and c.from_residual.result c.from_residual.ensures.1 in
     rw (p.1, p.2) (withheld c.in_err-see_both.field-0.0 c.args.s c.args.responder.now (g.W.Write.contents (inner_of c.args.output.now))
     c.see_both.new.journal c.see_both.new.replica c.in_err-see_both.ensures.withheld)
 
 pub returns-in_err-see_both-clause-failed : goal.returns-in_err-see_both-clause-failed
 returns-in_err-see_both-clause-failed g c =
-    let p = err_from_is_err_and c.from_residual-in_err-see_both.result c.from_residual-in_err-see_both.ensures.1 in
+    let p = err_from_is_err_and c.from_residual.result c.from_residual.ensures.1 in
     rw (p.1, p.2) (withheld_counts c.in_err-see_both.field-0.0 c.args.s (faults_of c.args.output.now) c.see_both.new.journal c.see_both.new.replica
     c.in_err-see_both.ensures.withheld c.requires)
 
