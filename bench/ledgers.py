@@ -10,9 +10,9 @@ brought, which a crash may cut anywhere. They book in memory, as ours does, and 
 pipes (bench/ledger/feed.c) for `--seconds S`, in turns, `--turns N` times (three without it), of which the one with the middle rate
 counts. The files lie in `--folder DIR`, on the disk that is to be measured; without it in the folder for temporary files.
 
-`--count N` is another number of operations, `--program PATH` another program than ./disruptor, and `--record FILE` also writes the figures to
-a file, as those of bench/measured. It needs a C compiler, and SQLite's own library (Debian's libsqlite3-dev), without which its rows are
-left out.
+`--by plain` measures ours on one thread, and not over the ring. `--count N` is another number of operations, `--program PATH` another
+program than ./disruptor, and `--record FILE` also writes the figures to a file, as those of bench/measured. It needs a C compiler, and
+SQLite's own library (Debian's libsqlite3-dev), without which its rows are left out.
 """
 
 import argparse
@@ -56,7 +56,7 @@ class Ledgers:
         if not name.startswith("ours"):
             return [self.stores, name, path]
         replica = ["--replica", f"{path}.replica"] if name == "ours-replica" else []
-        return [self.given.program, "ledger", "--journal", path, *replica]
+        return [self.given.program, "ledger", "--by", self.given.by, "--journal", path, *replica]
 
     def clear(self):
         """Takes away the files of the last one."""
@@ -89,7 +89,7 @@ def figures(feed, ledgers, name, in_flight):
 
 
 def answers(given, folder):
-    manner = f"{given.seconds:g} seconds a run, the middle of {given.turns} turns"
+    manner = f"ours by {given.by}, {given.seconds:g} seconds a run, the middle of {given.turns} turns"
     records = Records(given.record, ANSWERS, manner)
     feed, ledgers = compiled(FEED, folder), Ledgers(given, folder)
     check_equal(ledgers)
@@ -117,12 +117,12 @@ def timed(words, given_file, note):
 
 
 def recovery(given, folder):
-    records = Records(given.record, RECOVERIES, f"by the clock, the median of {given.turns} runs; filled by one")
+    records = Records(given.record, RECOVERIES, f"by {given.by}, by the clock, the median of {given.turns} runs; filled by one")
     note, journal = os.path.join(folder, "peak"), os.path.join(folder, "journal")
     million = [f"0,{line.split(',', 1)[1]}" for line in events(min(given.count, 1_000_000))]
     source = write_file(folder, "events.csv", (line for _ in range(given.count // len(million)) for line in million))
     count = given.count // len(million) * len(million)
-    ledger = [given.program, "ledger", "--journal", journal]
+    ledger = [given.program, "ledger", "--by", given.by, "--journal", journal]
     steps = {
         "filled from a file": [timed(ledger, source, note)],
         "started again": [timed(ledger, os.devnull, note) for _ in range(given.turns)],
@@ -141,6 +141,7 @@ def main():
     parser = argparse.ArgumentParser(description=__doc__, formatter_class=argparse.RawDescriptionHelpFormatter)
     parser.add_argument("what", choices=["answers", "recovery"])
     parser.add_argument("--program", default=os.path.join(TOP, "disruptor"))
+    parser.add_argument("--by", choices=["plain", "ring"], default="ring")
     parser.add_argument("--seconds", type=float, default=3)
     parser.add_argument("--turns", type=int, default=3)
     parser.add_argument("--count", type=int, default=10_000_000)

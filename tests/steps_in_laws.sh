@@ -41,7 +41,7 @@ if [ -n "$others" ]; then
     exit 1
 fi
 # Any other crate that names the table of words could step for a ring, and its calls do just what stands here: a token of
-# plain memory comes out of a slot that its end has in hand, which is no word, and places have words of a table of their own.
+# plain memory comes out of a slot that its end has in hand, which is no word, and places and signals have words of tables of their own.
 allowed=$(
     cat << 'END'
 crates/dr_lent/src/slots.rt: let token = words.exchange(seat, slot, Token::blank());
@@ -50,6 +50,11 @@ crates/dr_places/src/places.rt: let (_, mut seat) = shared.load_new_seat::<Tells
 crates/dr_places/src/places.rt: let was = shared.exchange(&mut seat, place, Some(left));
 crates/dr_places/src/places.rt: self.table.shared.join_seat::<Both>(&mut seat, other);
 crates/dr_places/src/places.rt: shared.store::<Leaves>(&mut seat, place, LEFT);
+crates/dr_signals/src/signal.rt: let watching = table.shared.split_seat::<Watches>(&mut seat);
+crates/dr_signals/src/signal.rt: words.join_seat::<Watches>(&mut self.seat, watcher.seat);
+crates/dr_signals/src/signal.rt: words.load::<Compares>(&mut self.seat, 0);
+crates/dr_signals/src/signal.rt: words.load::<Sees>(&mut self.seat, 0)
+crates/dr_signals/src/signal.rt: words.store::<Sets>(&mut self.seat, 0, number);
 END
 )
 named=$(awk -F: '$2 ~ /(^| )atomic_table( |$)/ { split($1, it, " "); print it[1] }' crates.txt | grep -vE '_tests$|^dr_(ring|plain|plain_senders)$')

@@ -79,6 +79,8 @@ OF_ONE = OPERATIONS.replace("2,transfer", "0,transfer")
 THREADS = {"ring": 3, "lock": 6}
 # And how many each run in one call does: one for each of two handlers, and one for each of several senders.
 THREADS_OF_RUNS = {"run-one": 2, "run-senders": 4, "run-locked": 4}
+# And a ledger over the ring: one that serves, and one for each handler.
+THREADS_OF_LEDGER = 4
 
 Met = namedtuple("Met", "ran requests refused synced")
 
@@ -164,6 +166,10 @@ def kind_of_replay(ran, whole):
     return "whole" if ran == whole else ran == NO_MEMORY and "no-memory"
 
 
+def kind_of_ledger(ran, whole):
+    return "whole" if ran == whole else ran == NO_MEMORY._replace(err=whole.err + NO_MEMORY.err) and "no-memory"
+
+
 def kind_by_lock(ran, _whole):
     """By lock the report is that of some order of the events that keeps each producer's."""
     return kind_of_replay(ran, merged_like(ran, OPERATIONS.encode()))
@@ -227,6 +233,9 @@ def refuse_threads(refusing, program, calls):
         refusing.judge(f"calls of case {case}, how many threads", kinds == {"made again": threads}, kinds)
     met = refusing.run([calls, "run-here"], at=1, threads=1)
     refusing.judge("calls of case run-here, no thread", met.ran.status == 0 and not met.requests, met)
+    words = [program, "ledger", "--journal", refusing.path("threads.journal")]
+    kinds = refusing.refuse_each("a ledger, a thread", words, kind_of_ledger, threads=1)
+    refusing.judge("a ledger, how many threads", kinds == {"no-memory": THREADS_OF_LEDGER}, kinds)
 
 
 def refuse_in_calls(refusing, calls):
@@ -245,10 +254,10 @@ def refuse_all_once_open(refusing, calls):
         refusing.judge(f"calls of case {case}, all memory refused once it is open", holds, (met, whole))
 
 
-def refuse_in_ledger(refusing, program):
+def refuse_in_ledger(refusing, program, by):
     """A ledger that finds no memory has stored what it answered, and goes on from that when it is started again."""
     files = [refusing.path(name) for name in ("journal", "replica")]
-    words = [program, "ledger", "--journal", files[0], "--replica", files[1]]
+    words = [program, "ledger", "--by", by, "--journal", files[0], "--replica", files[1]]
     kinds, whole = Counter(), None
     for at in itertools.count(0):
         for file in files:
@@ -257,7 +266,7 @@ def refuse_in_ledger(refusing, program):
         met = refusing.run(words, OPERATIONS.encode(), **({"at": at} if at else {}))
         if not at:
             whole = met.ran
-            refusing.judge("a ledger with ample memory", whole.status == 0 and whole.out.count(b"\n") == 4, met)
+            refusing.judge(f"a ledger by {by} with ample memory", whole.status == 0 and whole.out.count(b"\n") == 4, met)
             continue
         if met.ran == whole and not met.refused:
             break
@@ -269,9 +278,9 @@ def refuse_in_ledger(refusing, program):
         stops = met.ran == whole or met.ran.status == 3 and ends
         holds = met.refused == 1 and stops and began and stored >= met.ran.out.count(b"\n")
         if not holds:
-            return refusing.judge(f"a ledger, request {at} refused", False, (met, again))
+            return refusing.judge(f"a ledger by {by}, request {at} refused", False, (met, again))
         kinds[stored] += 1
-    refusing.judge("a ledger, out of memory before and after it stored", kinds[0] and kinds[4], kinds)
+    refusing.judge(f"a ledger by {by}, out of memory before and after it stored", kinds[0] and kinds[4], kinds)
 
 
 def write_to_the_disk(refusing, program):
@@ -289,7 +298,8 @@ def main():
         refuse_in_drive(refusing, program)
         refuse_in_show(refusing, program)
         refuse_in_replays(refusing, program)
-        refuse_in_ledger(refusing, program)
+        for by in ("plain", "ring"):
+            refuse_in_ledger(refusing, program, by)
         refuse_in_replay_of_one(refusing, program)
         refuse_threads(refusing, program, calls)
         refuse_in_calls(refusing, calls)

@@ -10,7 +10,8 @@ answered by then. Some of these starts are cut too, at each of their moments.
 
 Then runs, on new files and on torn ones, have the n-th write or sync fail, and all later ones. They have to end with 4, though their
 input stays open, and with no answer that is not in both files. At last a sync of either file takes long: nothing is answered until
-it is done. The script prints a line for each failure, and then a count; its status is 0 where none failed.
+it is done. And the thread that stores either file stops in mid-run, in a sync, and then the ledger is killed: what was answered is in
+both. The script prints a line for each failure, and then a count; its status is 0 where none failed.
 """
 
 import argparse
@@ -36,6 +37,8 @@ IMAGES, AGAIN = 3, 40
 NAMES = ("journal", "replica")
 # A run that has not ended by then hangs.
 SECONDS = 60
+# How often each file's sync stops in mid-run, and for how many seconds at most.
+STOPS, STOPPED = 4, 0.2
 
 
 def bytes_of(path):
@@ -95,14 +98,14 @@ class Disk:
 
 class Cut:
     def __init__(self, program, shim, folder, rng):
-        self.program, self.shim, self.rng, self.folder = program, shim, rng, folder
+        self.program, self.shim, self.rng, self.folder, self.by = program, shim, rng, folder, "plain"
         self.cases, self.failures = 0, []
 
     def path(self, name):
         return os.path.join(self.folder, name)
 
     def fail(self, why):
-        self.failures.append(f"FAILED: {why}")
+        self.failures.append(f"FAILED: by {self.by}: {why}")
 
     def lay(self, files):
         """Makes the journal and the replica anew, of these bytes, where there are any; and there is no log."""
@@ -117,7 +120,7 @@ class Cut:
         return [records_of(bytes_of(self.path(name))) or [] for name in NAMES]
 
     def start(self, shim):
-        words = [self.program, "ledger", "--journal", self.path("journal"), "--replica", self.path("replica")]
+        words = [self.program, "ledger", "--by", self.by, "--journal", self.path("journal"), "--replica", self.path("replica")]
         around = dict(os.environ, LD_PRELOAD=self.shim, **shim) if shim else None
         return subprocess.Popen(words, env=around, stdin=subprocess.PIPE, stdout=subprocess.PIPE, stderr=subprocess.PIPE)
 
@@ -237,6 +240,34 @@ class Cut:
         if early or not late or ran.returncode != 0:
             self.fail(f"a sync of the {name} that takes long: answered {'before' if early else 'after' if late else 'never'}")
 
+    def stop(self, name):
+        """In mid-run who stores this file stops, and then the ledger is killed."""
+        self.cases += 1
+        self.lay({})
+        operations, held = [any_operation(self.rng) for _ in range(60)], self.path("held")
+        wanted, first = [record_of(line) for line in operations], self.rng.randrange(1, 30)
+        self.ask(operations[:1])
+        ran = self.start({"HOLD": held, "HELD": str(os.stat(self.path(name)).st_ino)})
+        ran.stderr.readline()
+        for part in (operations[1 : 1 + first], operations[1 + first :]):
+            ran.stdin.write("".join(line + "\n" for line in part).encode())
+            ran.stdin.flush()
+            if os.path.exists(held):
+                break
+            for _ in part:
+                ran.stdout.readline()
+            with open(held, "wb"):
+                pass
+        early = select.select([ran.stdout], [], [], self.rng.random() * STOPPED)[0]
+        ran.kill()
+        said = ran.communicate()[0]
+        os.remove(held)
+        found = self.stored()
+        if early or said or any(it != wanted[: len(it)] or len(it) < 1 + first for it in found):
+            self.fail(f"who stores the {name} stops after {1 + first}: then answered {said}, and the files have {[*map(len, found)]}")
+        elif self.ask([])[1:] != (f"recovered {max(map(len, found))}\n", 0):
+            self.fail(f"who stores the {name} stops: no start after it")
+
 
 def main():
     words = argparse.ArgumentParser()
@@ -251,12 +282,15 @@ def main():
         shim = os.path.join(folder, "shim.so")
         subprocess.run(["cc", "-O2", "-shared", "-fPIC", "-o", shim, os.path.join(HERE, "shim.c"), "-ldl"], check=True)
         cut = Cut(os.path.abspath(asked.program), shim, folder, random.Random(asked.seed))
-        for run in range(asked.runs):
-            cut.cut(run)
-        for kind, error, before in itertools.product("ws", (errno.EIO, errno.ENOSPC), ((0, 0), (3, 1), (1, 3))):
-            cut.refuse(kind, error, before)
-        for name in NAMES:
-            cut.hold(name)
+        for cut.by in ("plain", "ring"):
+            for run in range(asked.runs):
+                cut.cut(run)
+            for kind, error, before in itertools.product("ws", (errno.EIO, errno.ENOSPC), ((0, 0), (3, 1), (1, 3))):
+                cut.refuse(kind, error, before)
+            for name in NAMES:
+                cut.hold(name)
+                for _ in range(STOPS):
+                    cut.stop(name)
     print("\n".join([*cut.failures[:20], f"{asked.program}: {cut.cases} cuts of power and failures of a disk, {len(cut.failures)} failed"]))
     return 1 if cut.failures else 0
 

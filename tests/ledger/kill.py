@@ -4,7 +4,8 @@
     tests/ledger/kill.py PROGRAM [--kills N] [--seed WORD]
 
 A run sends operations at random in bursts, and ends by SIGKILL: some while it answers, some before it says what it recovered, some
-while its files grow, for which they were cut behind their last batch. Then the journal and the replica, read by a second reading, each
+while its files grow, for which they were cut behind their last batch. At random moments before that it is stopped for a while, and
+some are killed while they are. Then the journal and the replica, read by a second reading, each
 have exactly the first operations that were sent, at least as many as were answered; each answer is that of a bank of its own; and the
 next run recovers what the longer of them has. The script prints a line for each failure, and then a count; its status is 0 where none
 failed.
@@ -13,6 +14,7 @@ failed.
 import argparse
 import os
 import random
+import signal
 import subprocess
 import sys
 import tempfile
@@ -26,6 +28,8 @@ ANEW = 10
 # In which moment a run is killed, and how often: an answering one after up to so many seconds, and the others sooner.
 MOMENTS = ("answering",) * 6 + ("recovering",) * 2 + ("growing",) * 2
 LONGEST, SHORT = 0.2, 0.02
+# How often a run is stopped after a burst, and for how many seconds at most; and how often it is killed while it is.
+STOPS, STOPPED, DIES_STOPPED = 0.1, 0.01, 0.3
 
 
 def bytes_of(path):
@@ -59,11 +63,16 @@ class Killed:
                 os.truncate(path, length + 1)
 
     def start(self):
-        words = [self.program, "ledger", "--journal", self.journal, "--replica", self.replica]
+        words = [self.program, "ledger", "--by", self.rng.choice(("plain", "ring")), "--journal", self.journal, "--replica", self.replica]
         return subprocess.Popen(words, stdin=subprocess.PIPE, stdout=subprocess.PIPE, stderr=subprocess.PIPE)
 
     def fail(self, why):
         self.failures.append(f"FAILED: kill {self.kill}: {why}")
+
+    def stop(self, ran):
+        """Stops it for a while, its threads wherever they are."""
+        ran.send_signal(signal.SIGSTOP)
+        time.sleep(self.rng.random() * STOPPED)
 
     def ask(self, ran, until):
         """Sends operations until a moment, and gives those that were sent, and the lines that came whole."""
@@ -76,10 +85,15 @@ class Killed:
                 sent += batch
                 ran.stdin.write(("\n".join(batch) + "\n").encode())
                 ran.stdin.flush()
-                if self.rng.random() < 0.5:
+                if self.rng.random() < STOPS:
+                    self.stop(ran)
+                    ran.send_signal(signal.SIGCONT)
+                elif self.rng.random() < 0.5:
                     time.sleep(self.rng.random() * 0.003)
         except BrokenPipeError:
             self.fail("it ended by itself")
+        if self.rng.random() < DIES_STOPPED:
+            self.stop(ran)
         ran.kill()
         reader.join()
         return sent, lines

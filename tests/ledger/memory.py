@@ -1,12 +1,13 @@
 #!/usr/bin/env python3
-"""Looks at the memory that a ledger takes as it starts: it does not grow with the operations that are stored.
+"""Looks at the memory that a ledger takes as it starts and as it answers: it does not grow with the operations that are stored, or come.
 
     tests/ledger/memory.py PROGRAM [--most N]
 
-Two journals are written, one with a hundred times as many operations as the other, of the same accounts. On each a ledger is started:
-alone, with a replica that has the same, with one that is missing, and with one that has half of them. The most memory that it had by
-the time it says what it recovered may differ by a few pieces of a file. The script prints a line for each failure, and then a count;
-its status is 0 where none failed.
+Two journals are written, one with a hundred times as many operations as the other, of the same accounts. On each a ledger is started,
+by each way: alone, with a replica that has the same, with one that is missing, and with one that has half of them. The most memory that
+it had by the time it says what it recovered may differ by a few pieces of a file. So may what it had once it answered as many
+operations of these accounts, which come as fast as it takes them. The script prints a line for each failure, and then a
+count; its status is 0 where none failed.
 """
 
 import argparse
@@ -14,11 +15,12 @@ import os
 import subprocess
 import sys
 import tempfile
+import threading
 
 sys.dont_write_bytecode = True
 from bank import HEADER, record_of  # noqa: E402
 
-ACCOUNTS = 50
+ACCOUNTS, WAYS = 50, ("plain", "ring")
 # How many operations a batch has, and how many batches are written at once.
 BATCH, BATCHES = 10, 500
 # How many kB more a ledger may take over the larger journal.
@@ -47,9 +49,9 @@ def peak_of(pid):
         return next((int(line.split()[1]) for line in status if line.startswith("VmHWM:")), 0)
 
 
-def start(program, folder, words):
+def start(program, by, folder, words):
     """What a ledger says as it starts, and its memory by then."""
-    ran = subprocess.Popen([program, "ledger", *words], cwd=folder, stdin=subprocess.PIPE, stdout=subprocess.DEVNULL, stderr=subprocess.PIPE)
+    ran = subprocess.Popen([program, "ledger", "--by", by, *words], cwd=folder, stdin=subprocess.PIPE, stdout=subprocess.DEVNULL, stderr=subprocess.PIPE)
     said = ran.stderr.readline().decode()
     peak = peak_of(ran.pid)
     ran.stdin.close()
@@ -57,24 +59,59 @@ def start(program, folder, words):
     return said, peak, ran.wait(120)
 
 
-def starts(program, folder, count):
-    """Each way to start on so many operations, by its name."""
+def starts(program, by, folder, count):
+    """Each start on so many operations, by its name."""
     path = os.path.join(folder, "journal"), os.path.join(folder, "replica")
     both = ["--journal", "journal", "--replica", "replica"]
     write_journal(path[0], count)
-    yield "a journal alone", start(program, folder, both[:2])
+    yield "a journal alone", start(program, by, folder, both[:2])
     write_journal(path[1], count)
-    yield "a replica that has the same", start(program, folder, both)
+    yield "a replica that has the same", start(program, by, folder, both)
     os.remove(path[1])
-    yield "a replica that is missing", start(program, folder, both)
+    yield "a replica that is missing", start(program, by, folder, both)
     for role in (0, 1):
         os.remove(path[role])
         write_journal(path[role], count // 2)
-        yield f"a {('journal', 'replica')[role]} that has half of it", start(program, folder, both)
+        yield f"a {('journal', 'replica')[role]} that has half of it", start(program, by, folder, both)
+
+
+def feed(stream, count):
+    """Sends so many deposits."""
+    lines = [f"0,deposit,{account},1\n".encode() for account in range(ACCOUNTS)]
+    piece = b"".join(lines[at % ACCOUNTS] for at in range(1000))
+    for _ in range(count // 1000):
+        stream.write(piece)
+    stream.flush()
+
+
+def answers(program, by, folder, count):
+    """A run over so many operations, by its name: how many it answered, as a start would say it, and its memory by then."""
+    for name in ("journal", "replica"):
+        if os.path.exists(os.path.join(folder, name)):
+            os.remove(os.path.join(folder, name))
+    words = [program, "ledger", "--by", by, "--journal", "journal", "--replica", "replica"]
+    ran = subprocess.Popen(words, cwd=folder, stdin=subprocess.PIPE, stdout=subprocess.PIPE, stderr=subprocess.DEVNULL)
+    feeding = threading.Thread(target=feed, args=(ran.stdin, count))
+    feeding.start()
+    answered, piece = 0, b"\n"
+    while answered < count and piece:
+        piece = os.read(ran.stdout.fileno(), 1 << 16)
+        answered += piece.count(b"\n")
+    peak = peak_of(ran.pid)
+    feeding.join()
+    ran.stdin.close()
+    ran.stdout.close()
+    yield "operations that come", (f"recovered {answered}\n", peak, ran.wait(120))
+
+
+def looks_of(program, by, folder, count):
+    """Each start on so many operations, and a run over so many."""
+    yield from starts(program, by, folder, count)
+    yield from answers(program, by, folder, count)
 
 
 def main():
-    parser = argparse.ArgumentParser(description="Looks at the memory that a ledger takes as it starts.")
+    parser = argparse.ArgumentParser(description="Looks at the memory that a ledger takes.")
     parser.add_argument("program")
     parser.add_argument("--most", type=int, default=1_000_000, help="how many operations the larger journal has")
     words = parser.parse_args()
@@ -85,15 +122,16 @@ def main():
     with tempfile.TemporaryDirectory(prefix="ledger-memory-") as folder:
         program = os.path.abspath(words.program)
         few, many = words.most // 100, words.most
-        for (name, small), (_, large) in zip(list(starts(program, folder, few)), starts(program, folder, many)):
+        pairs = [(by, *pair) for by in WAYS for pair in zip(list(looks_of(program, by, folder, few)), looks_of(program, by, folder, many))]
+        for by, (name, small), (_, large) in pairs:
             looks += 1
             wanted = [(f"recovered {count}\n", 0) for count in (few, many)]
             if [(said, status) for said, _, status in (small, large)] != wanted:
                 failed += 1
-                print(f"FAILED: {name}: {small}, {large}")
+                print(f"FAILED: by {by}: {name}: {small}, {large}")
             elif large[1] > small[1] + LEEWAY:
                 failed += 1
-                print(f"FAILED: {name}: {small[1]} kB over {few} operations, {large[1]} kB over {many}")
+                print(f"FAILED: by {by}: {name}: {small[1]} kB over {few} operations, {large[1]} kB over {many}")
     print(f"{words.program}: {looks} looks at a ledger's memory, {failed} failed")
     return 1 if failed else 0
 

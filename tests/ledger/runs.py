@@ -5,7 +5,8 @@
 
 Each file of operations of `rows/replay` is answered whole, and then once more; the answers are those of a bank of its own, and what
 `journal` prints replays to the report of the file itself. Then come files that are none of a ledger's, a journal cut at each byte,
-outputs that fail, and signals. The script prints a line for each failure, and then a count; its status is 0 where none failed.
+outputs that fail, and signals. All of it is done by each way. The script prints a line for each failure, and then a count; its status
+is 0 where none failed.
 """
 
 import os
@@ -26,8 +27,8 @@ ROWS = os.path.join(os.path.dirname(HERE), "rows", "replay")
 
 
 class Runs:
-    def __init__(self, program, folder):
-        self.program, self.folder, self.cases, self.failed = program, folder, 0, 0
+    def __init__(self, program, folder, by):
+        self.program, self.folder, self.by, self.cases, self.failed = program, folder, by, 0, 0
 
     def path(self, name):
         return os.path.join(self.folder, name)
@@ -41,7 +42,10 @@ class Runs:
         self.cases += 1
         if found != wanted:
             self.failed += 1
-            print(f"FAILED: {name}: {str(found)[:300]}, not {str(wanted)[:300]}")
+            print(f"FAILED: by {self.by}: {name}: {str(found)[:300]}, not {str(wanted)[:300]}")
+
+    def words(self):
+        return "ledger", "--by", self.by, "--journal", self.path("journal")
 
     def run(self, *words, text=b""):
         ran = subprocess.run([self.program, *words], input=text, capture_output=True, timeout=60, check=False)
@@ -50,12 +54,12 @@ class Runs:
     def started(self, **streams):
         """A ledger that goes on, and has said what it recovered."""
         streams = {"stdin": subprocess.PIPE, "stdout": subprocess.PIPE, "stderr": subprocess.PIPE, **streams}
-        ran = subprocess.Popen([self.program, "ledger", "--journal", self.path("journal")], **streams)
+        ran = subprocess.Popen([self.program, *self.words()], **streams)
         ran.stderr.readline()
         return ran
 
     def ask(self, text, *more):
-        return self.run("ledger", "--journal", self.path("journal"), *more, text=text)
+        return self.run(*self.words(), *more, text=text)
 
     def both(self, text):
         return self.ask(text, "--replica", self.path("replica"))
@@ -195,7 +199,7 @@ def fail_outputs(runs):
     text = b"0,deposit,1,5\n0,withdraw,1,1\n"
     runs.fresh()
     with open("/dev/full", "wb") as full:
-        words = [runs.program, "ledger", "--journal", runs.path("journal")]
+        words = [runs.program, *runs.words()]
         ran = subprocess.run(words, input=text, stdout=full, stderr=subprocess.PIPE, timeout=60, check=False)
     runs.judge("an output that is full", (ran.returncode, ran.stderr), (4, b"recovered 0\ncannot write\n"))
     runs.judge("what is stored then", runs.ask(b""), (0, "", "recovered 2\n"))
@@ -256,12 +260,15 @@ def answer_many(runs):
 def main():
     # What a background job of a shell ignores its programs would ignore too.
     signal.signal(signal.SIGINT, signal.default_int_handler)
-    with tempfile.TemporaryDirectory(prefix="ledger-") as folder:
-        runs = Runs(os.path.abspath(sys.argv[1]), folder)
-        for part in (answer_rows, refuse_rows, refuse_files, cut_files, level_files, level_long_files, fail_outputs, interrupt, refuse_second, answer_many):
-            part(runs)
-    print(f"{sys.argv[1]}: {runs.cases} looks at a ledger, {runs.failed} failed")
-    return 1 if runs.failed else 0
+    cases = failed = 0
+    for by in ("plain", "ring"):
+        with tempfile.TemporaryDirectory(prefix="ledger-") as folder:
+            runs = Runs(os.path.abspath(sys.argv[1]), folder, by)
+            for part in (answer_rows, refuse_rows, refuse_files, cut_files, level_files, level_long_files, fail_outputs, interrupt, refuse_second, answer_many):
+                part(runs)
+        cases, failed = cases + runs.cases, failed + runs.failed
+    print(f"{sys.argv[1]}: {cases} looks at a ledger, {failed} failed")
+    return 1 if failed else 0
 
 
 if __name__ == "__main__":

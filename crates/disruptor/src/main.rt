@@ -19,7 +19,7 @@ use crate::page::{AFTER, BEFORE};
 use crate::progress::Progress;
 use crate::watched::{Input, Output};
 use dr_check::{CheckFault, check_drive, check_replay};
-use dr_command_line::{By, Errand, LineFault, Tool, errand};
+use dr_command_line::{By, Errand, LedgerBy, LineFault, Tool, errand};
 use dr_drive::{DriveFault, drive_telling};
 use dr_files::FileFault;
 use dr_ledger::{LedgerFault, StartFault};
@@ -313,15 +313,34 @@ fn check_file(rt: &HostRuntime, tool: Tool, file: &str) -> Result<(), Fault> {
     }
 }
 
-fn run<T: Threads + Wait + Sync>(rt: &HostRuntime, workers: &T) -> Result<(), Fault> {
+// Answers the operations of a ledger.
+fn ledger<T: Threads + Wait + Copy + Send + 'static>(
+    rt: &HostRuntime,
+    workers: T,
+    journal: &str,
+    replica: Option<String>,
+    size: Size,
+    by: LedgerBy,
+) -> Result<(), Fault> {
+    match by {
+        LedgerBy::Plain => live::answer_all(rt, journal, replica),
+        LedgerBy::Ring => live::answer_by_ring(rt, workers, size, journal, replica),
+    }
+}
+
+fn run<T: Threads + Wait + Sync + Copy + Send + 'static>(
+    rt: &HostRuntime,
+    workers: &T,
+) -> Result<(), Fault> {
     let (file, output, task) = match read_errand(rt).map_err(Fault::Line)? {
         Errand::Help(text) => return print(rt, text),
         Errand::Check { tool, file } => return check_file(rt, tool, file.as_str()),
-        Errand::Ledger { journal, replica } => return live::answer_all(
-            rt,
-            journal.as_str(),
+        Errand::Ledger {
+            journal,
             replica,
-        ),
+            size,
+            by,
+        } => return ledger(rt, *workers, journal.as_str(), replica, size, by),
         Errand::Journal { file } => return live::print(rt, file.as_str()),
         Errand::Drive {
             file,

@@ -20,6 +20,15 @@ pub enum By {
     Ring,
 }
 
+/// By which exchange a ledger goes.
+#[derive(Clone, Copy, Debug, PartialEq, Eq)]
+pub enum LedgerBy {
+    /// None: each turn of one thread stores, books and answers.
+    Plain,
+    /// The ring, with a thread for each handler, and one that reads.
+    Ring,
+}
+
 /// For which tool a file is.
 #[derive(Clone, Copy, Debug, PartialEq, Eq)]
 pub enum Tool {
@@ -61,10 +70,13 @@ pub enum Errand {
         by: By,
         output: Option<String>,
     },
-    /// Answer operations from standard input, with the named journal, and maybe a replica of it.
+    /// Answer operations from standard input, with the named journal, and maybe a replica of it, through a
+    /// ring of this size.
     Ledger {
         journal: String,
         replica: Option<String>,
+        size: Size,
+        by: LedgerBy,
     },
     /// Print what a journal stands for, as an event file.
     Journal {

@@ -5,5 +5,5 @@ mod errands;
 mod show;
 mod words;
 
-pub use errands::{By, Errand, LineFault, Tool};
+pub use errands::{By, Errand, LedgerBy, LineFault, Tool};
 pub use words::errand;

@@ -1,6 +1,6 @@
 //! The words of a command line, read.
 
-use crate::errands::{By, Errand, LineFault, Tool};
+use crate::errands::{By, Errand, LedgerBy, LineFault, Tool};
 use crate::show::{show_command, show_errand};
 use clap::error::ErrorKind;
 use clap::{Arg, ArgAction, ArgMatches, Command, Error, value_parser};
@@ -167,15 +167,16 @@ const JOURNAL_OPTION: &str = "The journal of all movements, which is made where 
 
 const REPLICA_OPTION: &str = "A second file, on another disk, that is kept like the journal";
 
-const LEDGER_BY: &str = "By which exchange: plain is one thread";
+const LEDGER_BY: &str =
+    "By which exchange: plain is one thread, ring has a thread for each handler";
 
 /// The ways of a ledger.
-const LEDGER_WAYS: &[&str] = &["plain"];
+const LEDGER_WAYS: &[&str] = &["plain", "ring"];
 
 const LEDGER_EXAMPLE: &str = "\
 It reads movements from standard input, one record a line, as replay has them in
-a file. Whole lines are taken as they come: they go into the journal, then into
-the replica, and once they are on the disk they are booked and answered. Of
+a file. Whole lines are taken as they come: they go into the journal and into the
+replica, and once they are on the disk they are booked and answered. Of
 
 0,deposit,1,100
 0,withdraw,1,140
@@ -297,7 +298,7 @@ fn ledger_by_option<'a>(alloc: Global) -> Arg<'a> {
         .value_name("WAY")
         .help(LEDGER_BY)
         .value_parser(LEDGER_WAYS)
-        .default_value("plain")
+        .default_value("ring")
 }
 
 fn ledger_command<'a>(alloc: Global) -> Result<Command<'a>, AllocError> {
@@ -306,6 +307,7 @@ fn ledger_command<'a>(alloc: Global) -> Result<Command<'a>, AllocError> {
         .after_help(LEDGER_EXAMPLE)
         .arg(journal_option(alloc))?
         .arg(replica_option(alloc))?
+        .arg(size_option(alloc))?
         .arg(ledger_by_option(alloc))
 }
 
@@ -419,13 +421,23 @@ fn drive_errand(alloc: Global, matches: &ArgMatches<'_>) -> Result<Errand, Alloc
     })
 }
 
-fn ledger_errand(alloc: Global, matches: &ArgMatches<'_>) -> Result<Errand, AllocError> {
+fn ledger_errand(alloc: Global, matches: &ArgMatches<'_>) -> Result<Errand, LineFault> {
+    let size = size_of(matches)?;
     let journal = match word_of(alloc, matches, "journal")? {
         Some(journal) => journal,
         None => String::new(alloc),
     };
     let replica = word_of(alloc, matches, "replica")?;
-    Ok(Errand::Ledger { journal, replica })
+    let by = match matches.get_str("by") {
+        Some("plain") => LedgerBy::Plain,
+        _ => LedgerBy::Ring,
+    };
+    Ok(Errand::Ledger {
+        journal,
+        replica,
+        size,
+        by,
+    })
 }
 
 fn journal_errand(alloc: Global, matches: &ArgMatches<'_>) -> Result<Errand, AllocError> {
@@ -444,7 +456,7 @@ fn errand_of(alloc: Global, matches: &ArgMatches<'_>) -> Result<Errand, LineFaul
         return Ok(show_errand(alloc, matches)?);
     }
     if let Some(matches) = matches.subcommand_matches("ledger") {
-        return Ok(ledger_errand(alloc, matches)?);
+        return ledger_errand(alloc, matches);
     }
     if let Some(matches) = matches.subcommand_matches("journal") {
         return Ok(journal_errand(alloc, matches)?);

@@ -1,14 +1,14 @@
 mod Agreeing
-mod Answers
-mod Batches
+pub mod Answers
+pub mod Batches
 mod Comings
 mod Counts
 mod Evens
-mod Kept
+pub mod Kept
 mod Levels
 mod Moments
 mod Printings
 mod Refusals
-mod Runs
+pub mod Runs
 mod Starts
 mod Turns

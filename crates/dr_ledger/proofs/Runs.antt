@@ -142,7 +142,7 @@ answered_on (Some x) (Some y) None past first more was is = absurd is
 answered_on (Some x) (Some y) (Some z) past first more was is =
     is ∙ ap (λ l. l ++ answers_to (past ++ first) more) was ∙ append_assoc x (answers_to past first) (answers_to (past ++ first) more) ∙ ap (λ l. x ++ l) (answers-append past first more)
 
-cut_on : (old mid new : Option (List ℕ)) (past first more : List Event) → AreAnswered (record { before = old; after = mid }) past first
+pub cut_on : (old mid new : Option (List ℕ)) (past first more : List Event) → AreAnswered (record { before = old; after = mid }) past first
     → AppendsFront mid new (answers_to (past ++ first) more)
     → AppendsFront old new (answers_to past (first ++ more))
 cut_on old mid new past first more was is = (

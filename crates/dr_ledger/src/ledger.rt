@@ -77,6 +77,16 @@ impl<D: Device> Ledger<D> {
         }
     }
 
+    /// Its journal, its replica, if it has one, and its business handler, to go on by other means.
+    pub fn into_parts(self) -> (Journal<D>, Option<Journal<D>>, Responder)
+        // They are as they were in the ledger.
+        ensures journal { result.0 ≡ journal_of self }
+        ensures replica { result.1 ≡ replica_of self }
+        ensures business { result.2 ≡ business_of self }
+    {
+        (self.journal, self.replica, self.responder)
+    }
+
     // Puts a batch into the journal, and then into the replica.
     fn store(&mut self, events: &[Event]) -> Result<(), LedgerFault>
         requires { AreAtRest D.seen D.may_leave self.old }

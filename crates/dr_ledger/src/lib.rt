@@ -22,5 +22,6 @@ pub use coming::{Coming, Role};
 pub use fault::LedgerFault;
 pub use ledger::Ledger;
 pub use printing::print_journal;
+pub use reading::{Batch, read_batch};
 pub use start::{agree, begin, begin_with_replica, level};
 pub use start_fault::StartFault;

@@ -14,20 +14,20 @@ use std::io::Read;
 
 /// The operations that a read brought, and what comes after them: whether more may come, or a fault.
 #[derive(Drop)]
-pub(crate) struct Batch {
-    pub(crate) events: Vec<Event>,
-    pub(crate) then: Result<bool, LedgerFault>,
+pub struct Batch {
+    pub events: Vec<Event>,
+    pub then: Result<bool, LedgerFault>,
 }
 
-/// Reads once. A read that fails brings nothing.
-pub(crate) fn read_batch<R: Read>(
-    alloc: Global,
-    stream: &mut EventStream,
-    input: &mut Counted<R>,
-) -> Batch
+/// Reads once, and gives the operations of the records that are whole now.
+pub fn read_batch<R: Read>(alloc: Global, stream: &mut EventStream, input: &mut Counted<R>) -> Batch
     requires { faults_of input.old < 2 ^ 64 - 1 }
+    // If the input's bytes are known, these operations come next in it, and it is told right whether more may come, it has ended, or
+    // which record behind them is bad. At another fault they are the first of those that it has.
     ensures came { TurnCame result.then stream.old stream.new (R.remaining (inner_of input.old)) (R.remaining (inner_of input.new)) result.events.items }
+    // A read that fails brings nothing.
     ensures none { result.then ≡ Err ReadFailed → result.events.items ≡ [] }
+    // A failed read is told where one failed, and nowhere else.
     ensures counted { CountsReads result.then (faults_of input.old) (faults_of input.new) }
 {
     let mut events = Vec::new(alloc);
