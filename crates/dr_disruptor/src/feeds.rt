@@ -6,10 +6,11 @@ ghost use Rattle.dr_plain_senders.specs.Calls.Ends.{SenderEnd};
 ghost use Rattle.dr_disruptor.specs.Feeding.{AreGiven, IsUnsent, LeavesClosed, fed_sender, given_feed};
 ghost use Rattle.dr_plain_senders.specs.Calls.InPlace.{sending_of};
 
+use crate::attended::Attended;
 use crate::sender::LiveSender;
 use crate::workers::wait_for;
 use dr_plain_senders::Sender;
-use dr_workers::{Bell, WaitStrategy};
+use dr_workers::Bell;
 use std::alloc::{AllocError, Global};
 use std::marker::PhantomData;
 use std::snapshot::Snapshot;
@@ -88,13 +89,13 @@ fn feed_one<R: Wait + Copy, E, A, F: SendsBy<R, E, A>>(
     sender: Sender<E>,
     feed: F,
     bell: Arc<Bell, Global>,
-    strategy: WaitStrategy,
+    attended: Attended,
 ) -> Delivered<E, A>
     requires callable { F.callable feed }
     requires unsent { IsUnsent sender }
     ensures { LeavesClosed F.gives feed sender result }
 {
-    let mut live = LiveSender::new(rt, sender, bell, strategy);
+    let mut live = LiveSender::new(rt, sender, bell, attended);
     let answer = feed.send_by(&mut live);
     let (sender, _bell) = live.into_end();
     Delivered { sender, answer }
@@ -112,7 +113,7 @@ fn start_feeds<
     senders: Vec<Sender<E>>,
     feeds: Vec<F>,
     bell: &Arc<Bell, Global>,
-    strategy: WaitStrategy,
+    attended: Attended,
 ) -> Result<(), AllocError>
     requires none { started.old.items ≡ [] }
     requires many { length senders.items ≡ length feeds.items }
@@ -132,7 +133,7 @@ fn start_feeds<
             FeedsPromise::of(&sender, &feed),
             move ||
                 requires { F.callable feed × IsUnsent sender }
-            { feed_one(rt, sender, feed, bell, strategy) },
+            { feed_one(rt, sender, feed, bell, attended) },
         ) else {
             return Err(AllocError);
         };
@@ -170,7 +171,7 @@ pub(crate) fn feed_all<
     senders: Vec<Sender<E>>,
     feeds: Vec<F>,
     bell: &Arc<Bell, Global>,
-    strategy: WaitStrategy,
+    attended: Attended,
 ) -> Result<Vec<Feeder<R, E, A, F>>, Vec<Feeder<R, E, A, F>>>
     requires many { length senders.items ≡ length feeds.items }
     requires callable { All (λ f. F.callable f) feeds.items }
@@ -178,7 +179,7 @@ pub(crate) fn feed_all<
     ensures { IfOk result (λ feeders. (map fed_sender feeders.items ≡ senders.items) × (map given_feed feeders.items ≡ feeds.items)) }
 {
     let mut started = Vec::new(alloc);
-    match start_feeds(rt, &mut started, senders, feeds, bell, strategy) {
+    match start_feeds(rt, &mut started, senders, feeds, bell, attended) {
         Ok(()) => Ok(started),
         Err(_) => Err(started),
     }

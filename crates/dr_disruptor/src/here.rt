@@ -1,9 +1,9 @@
 //! A ring's sender with its handlers on one thread.
 
-ghost use Rattle.std.specs.Prelude.{◌≡◌, ◌<◌, [], All, IfErr, IfOk, length};
+ghost use Rattle.std.specs.Prelude.{◌≡◌, ◌<◌, [], All, IfErr, IfOk, Ok, length};
 ghost use Rattle.std.specs.Fn.{FnOnceReturnsAtMut};
 ghost use Rattle.dr_plain.specs.Calls.Ends.{receiver_place, received_of};
-ghost use Rattle.dr_plain.specs.Calls.Sending.{CloseCall};
+ghost use Rattle.dr_plain.specs.Calls.Sending.{CloseCall, UpdateCall};
 ghost use Rattle.dr_meaning.specs.Calls.Calling.{ChangesEvent, ClaimsStretch, PublishesFilled};
 ghost use Rattle.dr_meaning.specs.Calls.Ends.{IsStretch};
 ghost use Rattle.dr_meaning.specs.Calls.Filling.{FillsFrom, FillsOne};
@@ -194,6 +194,8 @@ impl<E, H: InPlaceHandler<E>> InPlaceInlet for Here<E, H> {
         ensures kept { here_place self.new ≡ here_place self.old }
         ensures changes { Changes (FillsOne F.Fn fill.now number) s (sending_here self.old) (sending_here self.new) }
         ensures called { does_here H.goes self.old (ChangesEvent s) self.new }
+        // What `fill` found there is what lay in the cell: it is called once.
+        ensures once { UpdateCall (FillsOne F.Fn fill.now number) self.old.sender s self.new.sender (Ok tt) }
         // No handler has a turn.
         ensures turns { (self.new.receivers ≡ self.old.receivers) × (self.new.handlers ≡ self.old.handlers) }
     {

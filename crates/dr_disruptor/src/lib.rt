@@ -6,6 +6,7 @@
 //! closure on a thread of its own sends by, and [`run_here`] has all on the calling thread. Begin with `specs/Running`.
 #![tactic(auto)]
 
+mod attended;
 mod events;
 mod fault;
 mod feed;

@@ -14,6 +14,7 @@ ghost use Rattle.dr_disruptor.specs.Handlers.{AllWentThrough};
 ghost use Rattle.dr_disruptor.specs.Serving.{AreInBatches, IsIdle, given_end, given_handler};
 ghost use Rattle.dr_disruptor.specs.Running.{AreServedBack, AreSettled, IsOutcomeBy, refusal_of, shape_of};
 
+use crate::attended::Attended;
 use crate::fault::RunFault;
 use crate::sender::LiveSender;
 use crate::team::Team;
@@ -25,7 +26,7 @@ use dr_meaning::{InPlaceHandler, MAX_LIMIT};
 use dr_plain::{Halter, Receiver, Sender, Settled, ring, settle_all};
 use dr_seq::Size;
 use dr_workers::Bell;
-use std::alloc::{AllocError, Global};
+use std::alloc::{AllocError, AllocFailed, Global};
 use std::sync::{Arc, Wait};
 use std::thread::Threads;
 
@@ -87,7 +88,7 @@ fn begin<
     handlers: Vec<H>,
     bell: &Arc<Bell, Global>,
     way: Way,
-) -> Result<(Sender<E>, Vec<Worker<Receiver<E>, H>>), AllocError>
+) -> Result<(Sender<E>, Vec<Worker<Receiver<E>, H>>), AllocFailed<Sender<E>>>
     requires many { length receivers.items ≡ length handlers.items }
     requires idle { All (λ e. IsIdle (received_of e.knows)) receivers.items }
     requires batch { 0 < way.batch }
@@ -95,6 +96,8 @@ fn begin<
     ensures ends { IfOk result (λ r. map given_end r.1.items ≡ receivers.items) }
     ensures starts { IfOk result (λ r. map given_handler r.1.items ≡ handlers.items) }
     ensures batches { IfOk result (λ r. AreInBatches way.batch r.1.items) }
+    // Else nothing was done to the sender but its close.
+    ensures unsent { IfErr result (λ failed. (answer : _) × CloseCall sender failed.value answer) }
 {
     match start(rt, alloc, receivers, handlers, bell, way) {
         Ok(workers) => Ok((sender, workers)),
@@ -102,7 +105,7 @@ fn begin<
             let _closed = sender.close();
             bell.ring();
             wait_for(&rt, started);
-            Err(AllocError)
+            Err(AllocFailed { value: sender })
         }
     }
 }
@@ -175,11 +178,11 @@ pub fn run<
     ensures many { IfOk result (λ _. length (T.listed handlers) ≡ length graph.now.upstreams) }
     ensures refused { IfErr result (λ e. e ≡ refusal_of (length graph.now.upstreams) (length (T.listed handlers)) RunFault.Memory) }
 {
-    let given = handlers.many();
-    let (fresh, receivers, halter, bell) = open(alloc, graph, size, events, given)?;
+    let (fresh, receivers, halter, bell) = open(alloc, graph, size, events, handlers.many())?;
     let list = handlers.into_list(alloc)?;
     let (sender, workers) = begin(rt, alloc, fresh, receivers, list, &bell, way)?;
-    let mut live = LiveSender::new(rt, sender, bell, way.strategy);
+    let attended = Attended::by_threads(&sender, &workers, &halter, way.strategy);
+    let mut live = LiveSender::new(rt, sender, bell, attended);
     let sent = send(&mut live);
     let (list, settled, events) = wind_up(rt, alloc, live, workers, halter, way.batch)?;
     Ok(RunOutcome {

@@ -10,6 +10,7 @@ ghost use Rattle.dr_disruptor.specs.Handlers.{AllWentThrough};
 ghost use Rattle.dr_disruptor.specs.Here.{HereEnd, sending_here};
 ghost use Rattle.dr_disruptor.specs.Running.{AreServedBack, AreSettled, IsOutcomeBy, refusal_of, shape_of};
 
+use crate::attended::Attended;
 use crate::fault::RunFault;
 use crate::feed::Feed;
 use crate::here::Here;
@@ -23,7 +24,6 @@ use dr_graph::Graph;
 use dr_meaning::InPlaceHandler;
 use dr_plain::{Halter, Settled, settle_all};
 use dr_seq::Size;
-use dr_workers::WaitStrategy;
 use std::alloc::{AllocError, Global};
 use std::sync::Wait;
 
@@ -79,11 +79,11 @@ pub fn run_here<
     ensures many { IfOk result (λ _. length (T.listed handlers) ≡ length graph.now.upstreams) }
     ensures refused { IfErr result (λ e. e ≡ refusal_of (length graph.now.upstreams) (length (T.listed handlers)) RunFault.Memory) }
 {
-    let given = handlers.many();
-    let (sender, receivers, halter, bell) = open(alloc, graph, size, events, given)?;
+    let (sender, receivers, halter, bell) = open(alloc, graph, size, events, handlers.many())?;
     let list = handlers.into_list(alloc)?;
     let here = Here::new(sender, receivers, list, way);
-    let mut live = LiveSender::new(rt, here, bell, WaitStrategy::Spinning);
+    let attended = Attended::here(&here, &halter);
+    let mut live = LiveSender::new(rt, here, bell, attended);
     let sent = send.feed(&mut live);
     let (list, settled, events) = wind_up_here(rt, alloc, live, halter)?;
     Ok(RunOutcome {

@@ -14,6 +14,7 @@ ghost use Rattle.dr_disruptor.specs.Merging.{IsOutcomeByAll, IsWoundUp, LeavesSe
 ghost use Rattle.dr_disruptor.specs.Running.{refusal_of};
 ghost use Rattle.dr_disruptor.specs.Serving.{AreInBatches, IsIdle, given_end, given_handler};
 
+use crate::attended::Attended;
 use crate::fault::RunFault;
 use crate::feeds::{Delivered, SendsBy, ended, feed_all};
 use crate::running::RunOutcome;
@@ -128,8 +129,9 @@ fn fed<
     bell: &Arc<Bell, Global>,
     strategy: WaitStrategy,
 ) -> Result<(Halter<E>, Vec<Worker<Receiver<E>, H>>, Vec<Delivered<E, A>>), AllocError>
-    // The closures send before this run halts the ring.
+    // The closures send once each handler has its thread, and before this run halts the ring.
     requires before { ends.0.stored ≡ [] }
+    requires all { AreAllEnds senders.items (map given_end ends.1.items) ends.0 }
     requires many { length senders.items ≡ length feeds.items }
     requires callable { All (λ f. F.callable f) feeds.items }
     requires unsent { All (λ s. IsUnsent s) senders.items }
@@ -137,7 +139,8 @@ fn fed<
     ensures sent { IfOk result (λ r. AreSent F.gives feeds.items senders.items r.2.items) }
 {
     let (mut halter, workers) = ends;
-    let started = match feed_all(rt, alloc, senders, feeds, bell, strategy) {
+    let attended = Attended::by_threads_of_several(&senders, &workers, &halter, strategy);
+    let started = match feed_all(rt, alloc, senders, feeds, bell, attended) {
         Ok(feeders) => match ended(&rt, feeders) {
             Ok(sent) => return Ok((halter, workers, sent)),
             Err(_) => Vec::new(alloc),

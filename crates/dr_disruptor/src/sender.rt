@@ -11,6 +11,7 @@ ghost use Rattle.dr_plain_senders.specs.Calls.InPlace.{sending_of};
 ghost use Rattle.dr_plain_senders.specs.Calls.Sending.{HaltCall};
 ghost use Rattle.dr_plain_senders.specs.Calls.Ends.{sender_place};
 
+use crate::attended::Attended;
 use dr_meaning::{ClaimFault, Claimed, InPlaceInlet, Refusal};
 use dr_plain_senders as several;
 use dr_workers::{Bell, Patience, WaitStrategy};
@@ -118,11 +119,12 @@ fn fill_by<I: InPlaceInlet, F: FnMut(&mut I::Event, u64)>(
 
 // What waits for nothing: it has no `Wait` to do so by.
 impl<R: Copy, I: InPlaceInlet> LiveSender<R, I> {
+    // Nothing is sent where a handler is missing: it is given that none is.
     pub(crate) fn new(
         rt: R,
         end: I,
         bell: Arc<Bell, Global>,
-        strategy: WaitStrategy,
+        attended: Attended,
     ) -> LiveSender<R, I>
         requires closed { (I.sending end).pending ≡ [] }
         requires none { (I.sending end).published ≡ [] }
@@ -132,7 +134,7 @@ impl<R: Copy, I: InPlaceInlet> LiveSender<R, I> {
             rt,
             end,
             bell,
-            strategy,
+            strategy: attended.strategy(),
             sent: 0,
         }
     }

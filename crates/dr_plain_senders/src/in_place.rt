@@ -1,8 +1,12 @@
 //! The ends of a ring over plain memory with several senders fill and show events where they lie.
 
+ghost use Rattle.std.specs.Prelude.{◌≡◌, Ok};
+ghost use Rattle.dr_meaning.specs.Calls.Calling.{ChangesEvent};
 ghost use Rattle.dr_meaning.specs.Calls.Filling.{FillsOne};
+ghost use Rattle.dr_meaning.specs.Calls.InPlaceInlets.{Changes, IsOpen};
 ghost use Rattle.dr_plain_senders.specs.Calls.InPlace.{SawSome, does_in_place, offered_of, sending_of, sends_in_place};
 ghost use Rattle.dr_plain_senders.specs.Calls.Ends.{receiver_place, received_of, sender_place};
+ghost use Rattle.dr_plain_senders.specs.Calls.Writing.{UpdateCall};
 
 use crate::receiver::Receiver;
 use crate::sender::Sender;
@@ -32,7 +36,15 @@ impl<T> InPlaceInlet for Sender<T> {
         }
     }
 
-    fn update_at<F: Fn(&mut T, u64)>(&mut self, s: u64, fill: &F, number: u64) {
+    fn update_at<F: Fn(&mut T, u64)>(&mut self, s: u64, fill: &F, number: u64)
+        requires callable { F.IsAlwaysCallable fill.now }
+        requires within { IsOpen (sending_of self.old) s }
+        ensures kept { sender_place self.new ≡ sender_place self.old }
+        ensures changes { Changes (FillsOne F.Fn fill.now number) s (sending_of self.old) (sending_of self.new) }
+        ensures called { sends_in_place self.old (ChangesEvent s) self.new }
+        // What `fill` found there is what lay in the cell: it is called once.
+        ensures once { UpdateCall (FillsOne F.Fn fill.now number) self.old s self.new (Ok tt) }
+    {
         let filled = Sender::update(
             self,
             s,

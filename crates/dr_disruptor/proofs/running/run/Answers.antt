@@ -24,6 +24,14 @@ begin-requires-clause-idle g c =
     subst (All (λ (e : ReceiverEnd g.row.E.Denot). IsIdle (received_by e))) (sym fresh.1.receivers) (all_idle c.in_ok-fresh.fresh.ring k 0 (handlers_of k)) in
     λ lifetimes outlive. all
 
+pub by_threads-attended-requires-clause-all : goal.by_threads-attended-requires-clause-all
+by_threads-attended-requires-clause-all g c =
+    let made = c.in_ok-fresh in
+    let begun = c.in_ok-sender in
+    let workers = map given_end begun.workers.items in
+    subst (λ (s : SenderEnd g.row.E.Denot). AreAllEnds s workers made.halter) (sym begun.ensures.sender)
+    (subst (λ (l : List (ReceiverEnd g.row.E.Denot)). AreAllEnds made.fresh l made.halter) (sym begun.ensures.ends) made.ensures.ends)
+
 pub new-live-requires-clause-none : goal.new-live-requires-clause-none
 new-live-requires-clause-none g c =
     ap (λ (s : SenderEnd g.row.E.Denot). (sending_of s).published) c.in_ok-sender.ensures.sender
@@ -53,17 +61,17 @@ wind_up-requires-clause-fresh g c =
 
 pub returns-in_err-list-clause-refused : goal.returns-in_err-list-clause-refused
 returns-in_err-list-clause-refused g c =
-    let is = memory_is (length c.args.graph.now.upstreams) (length (g.T.Team.listed c.args.handlers)) (sym c.many-given.ensures ∙ c.in_ok-fresh.ensures.many.0) in
+    let is = memory_is (length c.args.graph.now.upstreams) (length (g.T.Team.listed c.args.handlers)) (sym c.many.ensures ∙ c.in_ok-fresh.ensures.many.0) in
     subst (λ (f : RunFault). IfErr c.from_residual-in_err-list.result (λ e. e ≡ f)) (sym is) (search rules)
 
 pub returns-in_err-sender-clause-refused : goal.returns-in_err-sender-clause-refused
 returns-in_err-sender-clause-refused g c =
-    let is = memory_is (length c.args.graph.now.upstreams) (length (g.T.Team.listed c.args.handlers)) (sym c.many-given.ensures ∙ c.in_ok-fresh.ensures.many.0) in
+    let is = memory_is (length c.args.graph.now.upstreams) (length (g.T.Team.listed c.args.handlers)) (sym c.many.ensures ∙ c.in_ok-fresh.ensures.many.0) in
     subst (λ (f : RunFault). IfErr c.from_residual-in_err-sender.result (λ e. e ≡ f)) (sym is) (search rules)
 
 pub returns-in_err-list-2-clause-refused : goal.returns-in_err-list-2-clause-refused
 returns-in_err-list-2-clause-refused g c =
-    let is = memory_is (length c.args.graph.now.upstreams) (length (g.T.Team.listed c.args.handlers)) (sym c.many-given.ensures ∙ c.in_ok-fresh.ensures.many.0) in
+    let is = memory_is (length c.args.graph.now.upstreams) (length (g.T.Team.listed c.args.handlers)) (sym c.many.ensures ∙ c.in_ok-fresh.ensures.many.0) in
     subst (λ (f : RunFault). IfErr c.from_residual-in_err-list-2.result (λ e. e ≡ f)) (sym is) (search rules)
 
 pub from_list-requires-after_bounds : goal.from_list-requires-after_bounds

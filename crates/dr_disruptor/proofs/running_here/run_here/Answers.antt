@@ -17,7 +17,7 @@ use Rattle.dr_disruptor.proofs.Through.{served_as}
 use Rattle.dr_disruptor.proofs.running_here.run_here.Goals as goal
 
 pub new-here-requires-clause-many : goal.new-here-requires-clause-many
-new-here-requires-clause-many g c = c.in_ok-sender.ensures.many.1 ∙ c.many-given.ensures ∙ sym (ap length c.in_ok-list.ensures)
+new-here-requires-clause-many g c = c.in_ok-sender.ensures.many.1 ∙ c.many.ensures ∙ sym (ap length c.in_ok-list.ensures)
 
 pub new-here-requires-clause-idle : goal.new-here-requires-clause-idle
 new-here-requires-clause-idle g c =
@@ -26,6 +26,11 @@ new-here-requires-clause-idle g c =
     let all : All (λ (e : ReceiverEnd g.row.E.Denot). IsIdle (received_by e)) c.in_ok-sender.receivers.items =
     subst (All (λ (e : ReceiverEnd g.row.E.Denot). IsIdle (received_by e))) (sym fresh.1.receivers) (all_idle c.in_ok-sender.sender.ring k 0 (handlers_of k)) in
     all
+
+pub here-attended-requires-clause-all : goal.here-attended-requires-clause-all
+here-attended-requires-clause-all g c =
+    let made = c.in_ok-sender in
+    subst (λ (x : HereEnd g.row.E.Denot g.row.H.Denot). AreAllEnds x.sender x.ends made.halter) (sym c.new-here.ensures) made.ensures.ends
 
 pub new-live-requires-clause-closed : goal.new-live-requires-clause-closed
 new-live-requires-clause-closed g c =
@@ -62,12 +67,12 @@ wind_up_here-requires-clause-fresh g c =
 
 pub returns-in_err-list-clause-refused : goal.returns-in_err-list-clause-refused
 returns-in_err-list-clause-refused g c =
-    let is = memory_is (length c.args.graph.now.upstreams) (length (g.T.Team.listed c.args.handlers)) (sym c.many-given.ensures ∙ c.in_ok-sender.ensures.many.0) in
+    let is = memory_is (length c.args.graph.now.upstreams) (length (g.T.Team.listed c.args.handlers)) (sym c.many.ensures ∙ c.in_ok-sender.ensures.many.0) in
     subst (λ (f : RunFault). IfErr c.from_residual-in_err-list.result (λ e. e ≡ f)) (sym is) (search rules)
 
 pub returns-in_err-list-2-clause-refused : goal.returns-in_err-list-2-clause-refused
 returns-in_err-list-2-clause-refused g c =
-    let is = memory_is (length c.args.graph.now.upstreams) (length (g.T.Team.listed c.args.handlers)) (sym c.many-given.ensures ∙ c.in_ok-sender.ensures.many.0) in
+    let is = memory_is (length c.args.graph.now.upstreams) (length (g.T.Team.listed c.args.handlers)) (sym c.many.ensures ∙ c.in_ok-sender.ensures.many.0) in
     subst (λ (f : RunFault). IfErr c.from_residual-in_err-list-2.result (λ e. e ≡ f)) (sym is) (search rules)
 
 pub from_list-requires-after_bounds : goal.from_list-requires-after_bounds

@@ -29,6 +29,16 @@ begin-requires-clause-idle g c =
 pub fed-requires-clause-before : goal.fed-requires-clause-before
 fed-requires-clause-before g c = λ lifetimes outlive. ap (λ (t : HalterEnd g.row.E.Denot). t.stored) (c.in_ok-ends.ensures.halter ∙ c.in_ok-senders.ensures.fresh.1.halter)
 
+pub fed-requires-clause-all : goal.fed-requires-clause-all
+fed-requires-clause-all g c =
+    let made = c.in_ok-senders in
+    let begun = c.in_ok-ends in
+    let senders = made.senders.items in
+    let workers = map given_end begun.ends.1.items in
+    let all : AreAllEnds senders workers begun.ends.0 = subst (λ (t : HalterEnd g.row.E.Denot). AreAllEnds senders workers t) (sym begun.ensures.halter)
+    (subst (λ (l : List (ReceiverEnd g.row.E.Denot)). AreAllEnds senders l made.halter) (sym begun.ensures.ends) made.ensures.ends) in
+    λ lifetimes outlive. all
+
 pub fed-requires-clause-unsent : goal.fed-requires-clause-unsent
 fed-requires-clause-unsent g c =
     let made = c.in_ok-senders in

@@ -13,5 +13,10 @@ returns-clause-changes g c =
     let fills : FillsOne g.F.Fn c.args.fill.now c.args.number call.0 call.1 = search rules in
     (call.0, call.1, fills, writes c.args.self.now c.update-filled.new.self c.args.s call.1 call.4 c.requires.within c.ranges.s.fits)
 
+pub returns-clause-once : goal.returns-clause-once
+returns-clause-once g c =
+    let call = c.in-Ok.ensures in
+    let fills : FillsOne g.F.Fn c.args.fill.now c.args.number call.0 call.1 = search rules in (call.0, call.1, call.2, fills, call.4)
+
 pub returns-clause-called : goal.returns-clause-called
 returns-clause-called g c = let call = c.in-Ok.ensures in (call.0, call.1, call.2, tt, call.4)
