@@ -1,5 +1,5 @@
 -- What an end has in hand, and what its tokens tell of the lendings.
-use Rattle.std.specs.Prelude.{ℕ, replicate, Some, None}
+use Rattle.std.specs.Prelude.{ℕ, List, replicate, Some, None}
 use Rattle.dr_cells.specs.Hold.{Hold, blank, whole, part, kept}
 use Rattle.dr_runs.specs.Stretches.{stretch}
 use Rattle.dr_plain.specs.Meaning.Shape.{Shape, handlers_of}
