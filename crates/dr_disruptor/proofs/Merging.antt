@@ -197,8 +197,8 @@ module _ {E A B F : Type 0} (goes : Relation E A) (room : ℕ) (k : Shape E) (bl
 
   saw_within : (h : ℕ) (e : ReceiverEnd E) → get_elem? outlets h ≡ some e → (n : ℕ) → SawSome e n → n ≤ length events
   saw_within h e at n saw =
-      let many : length events ≡ length w.stages = length-map w.stages (shown blank) in
-      let most = saw_most (length w.stages) k e (drained h e at).plan_is (settles.each h e.knows (at_world h e at)).seen n saw in
+      let many : length events ≡ length (published_events w) = sym (ap length in_order) ∙ length-map (published_events w) (λ (l : Lent E). l.event) in
+      let most = saw_most (length (published_events w)) k e (drained h e at).plan_is (settles.each h e.knows (at_world h e at)).seen n saw in
       omega arith
 
   pub all_through : AllWentThrough goes room events starts handlers

@@ -10,6 +10,7 @@ mod around;
 mod comparing;
 mod fault;
 mod jobs;
+mod ready;
 mod running;
 mod sending;
 mod serving;

@@ -5,6 +5,7 @@ ghost use Rattle.dr_disruptor_lock.specs.Serving.{Sending};
 
 use crate::around::Around;
 use crate::jobs::Task;
+use crate::ready::Ready;
 use dr_lock::{End, Exchange, LockedInlet};
 use dr_seq::{Event, Size};
 use dr_workers::{OpenGate, Produced, Ringing, produce_with};
@@ -50,8 +51,13 @@ impl<L: Exchange<Event>> Promise<Delivered<L>> for SendsPromise<L> {
     ghost kept_by = { λ p back. Sending L.begun p.size p.task.value back };
 }
 
-/// Sends a script in claims of a quarter of the slots, and rings the bell with each publication.
-pub fn send<L: Exchange<Event>, R: Wait>(around: &Around<'_, L, R>, task: Task<L>) -> Delivered<L>
+/// Sends a script in claims of a quarter of the slots, and rings the bell with each publication. It is given that each
+/// handler has its thread and nobody halted.
+pub(crate) fn send<L: Exchange<Event>, R: Wait>(
+    around: &Around<'_, L, R>,
+    task: Task<L>,
+    _ready: &Ready<'_, L>,
+) -> Delivered<L>
     // By calls of this producer the script is sent, all of it where there is no fault.
     ensures { Sending L.begun around.now.size task result }
 {

@@ -8,6 +8,7 @@ ghost use Rattle.dr_disruptor_lock.specs.Serving.{given_job};
 
 use crate::around::Around;
 use crate::jobs::{Job, Task};
+use crate::ready::Ready;
 use crate::sending::{Delivered, SendsPromise, send};
 use crate::serving::{Served, ServesPromise, serve};
 use dr_lock::{End, Exchange, halt};
@@ -39,13 +40,15 @@ fn send_all<
     alloc: Global,
     around: &Around<'_, L, R>,
     tasks: Vec<Task<L>>,
-    _halter: &End<Event, L>,
-    _workers: &[Worker<L, H>],
+    halter: &End<Event, L>,
+    workers: &[Worker<L, H>],
 ) -> Result<Vec<Delivered<L>>, AllocError>
     // Nothing is sent before each handler has its thread, nor once the exchange is halted.
-    requires begins { CanBegin L.begun _halter.now _workers.now }
+    requires begins { CanBegin L.begun halter.now workers.now }
     ensures { IfOk result (λ sent. AreSent L.begun around.now.size tasks.items sent.items) }
 {
+    let all = Ready::of(halter, workers);
+    let ready = &all;
     thread::scope(
         thread::scope_env(),
         around.rt,
@@ -57,7 +60,7 @@ fn send_all<
             let mut started = Vec::with_capacity(alloc, tasks.len())?;
             for task in tasks {
                 let promise = SendsPromise::of(&task, around.size);
-                started.push(scope.spawn_with(promise, move || send(around, task))?)?;
+                started.push(scope.spawn_with(promise, move || send(around, task, ready))?)?;
             }
             Ok(thread::join_promised(around.rt, started)?)
         },

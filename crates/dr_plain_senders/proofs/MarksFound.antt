@@ -1,14 +1,16 @@
--- What a receiver found at the marks: they are there only once their sequences are claimed.
-use Rattle.std.proofs.Common.{◌≡◌, ℕ, zero, suc, ◌≤◌, inl, inr, Bool, true, false, ◌==◌, if◌then◌else◌, List, [], ◌∷◌, ◌++◌}
-use Rattle.std.proofs.Common.{length, length-set, set, replicate, refl, sym, ap, ◌∙◌, subst, arith}
-use Rattle.std.proofs.lemmas.List.{length-append}
+-- What a receiver found at the marks: they are there only once their sequences are published.
+use Rattle.std.proofs.Common.{◌≡◌, ℕ, zero, suc, ◌+◌, ◌-◌, ◌<◌, inl, inr, Bool, true, false, ◌==◌, if◌then◌else◌, List, [], ◌∷◌, ◌++◌}
+use Rattle.std.proofs.Common.{length, set, replicate, refl, sym, ap, ◌∙◌, subst, arith}
+use Rattle.std.proofs.lemmas.Bool.{cases_eq, cases_lt}
 use mathlib.Core.Option.{some, some-injective, some-ne-none}
 use lib.ListN.{get_elem?}
+use Rattle.atomic_table.proofs.Lists.{at_longer}
 use Rattle.dr_meaning.specs.Meaning.Transcript.{Transcript}
 use Rattle.dr_runs.proofs.Elements.{each_set, word_at}
 use Rattle.dr_plain_senders.specs.Meaning.Shape.{Shape, IsShape, handlers_of}
-use Rattle.dr_plain_senders.specs.Meaning.Words.{claim_word, count_word, mark_word}
+use Rattle.dr_plain_senders.specs.Meaning.Words.{claim_word, count_word, mark_word, marked_from}
 use Rattle.dr_plain_senders.specs.declared.record.MarkLook.{MarkLook}
+use Rattle.dr_plain_senders.specs.declared.record.Stage.{Stage}
 use Rattle.dr_plain_senders.specs.declared.record.SenderRecord.{SenderRecord}
 use Rattle.dr_plain_senders.specs.declared.record.ReceiverRecord.{ReceiverRecord}
 use Rattle.dr_plain_senders.specs.declared.record.Step.{Step}
@@ -16,43 +18,48 @@ use Rattle.dr_plain_senders.specs.declared.record.Step.TheVariants.{SenderLooksA
 use Rattle.dr_plain_senders.specs.declared.record.Step.TheVariants.{SenderLooksAtMark, SenderHalts, ReceiverLooksAtClaims, ReceiverLooksAtMark}
 use Rattle.dr_plain_senders.specs.declared.record.Step.TheVariants.{ReceiverLooksAtCount, ReceiverCompletes, HalterHalts, HalterLooks}
 use Rattle.dr_plain_senders.specs.Meaning.Records.{fresh_stage, published, sender_looked, receiver_looked, claims_looked, mark_look, mark_looked, completed_to}
-use Rattle.dr_plain_senders.specs.Meaning.Rule.{World, KeepsRule}
+use Rattle.dr_plain_senders.specs.Meaning.Rule.{World, IsOut, KeepsRule}
 use Rattle.dr_plain_senders.specs.Meaning.Steps.{Happens, PublishesOne, sender_knows, sender_claims}
 use Rattle.dr_plain_senders.specs.Meaning.Moments.{Runs, new_world}
-use Rattle.dr_plain_senders.specs.Meaning.Settling.{IsWithin}
-use Rattle.dr_plain_senders.proofs.Places.{more_cases}
-use Rattle.dr_plain_senders.proofs.Barriers.{marked_claimed}
+use Rattle.dr_plain_senders.proofs.Facts.{none_or_some, owned, taken_out}
+use Rattle.dr_plain_senders.proofs.Places.{more_cases, one_value, set_else}
+use Rattle.dr_plain_senders.proofs.Barriers.{marked_next_out}
+use Rattle.dr_plain_senders.proofs.Stays.{Lasts, out_lasts}
 use Rattle.dr_plain_senders.proofs.Keeps.{along_all, keeps_step}
 use Rattle.dr_plain_senders.proofs.Beginning.{kept_new_world, receiver_fresh}
 
 module _ {T : Type 0} where
-  abbrev AllWithin : Shape T → ℕ → List MarkLook → Type 0
-  AllWithin k n marks = (i : ℕ) (x : MarkLook) → get_elem? marks i ≡ some x → IsWithin k n x
+  -- all sequences are published up to the last whose mark a look found
+  abbrev pub IsOutUpTo : Shape T → List (Stage T) → MarkLook → Type 0
+  IsOutUpTo k stages x = (s : ℕ) → s < x.sequence + marked_from k x.sequence x.found → IsOut stages s
+
+  abbrev AllWithin : Shape T → List (Stage T) → List MarkLook → Type 0
+  AllWithin k stages marks = (i : ℕ) (x : MarkLook) → get_elem? marks i ≡ some x → IsOutUpTo k stages x
 
   -- so are all that receivers found
-  abbrev AreWithin : Shape T → List (ReceiverRecord T) → ℕ → Type 0
-  AreWithin k rs n = (h : ℕ) (r : ReceiverRecord T) → get_elem? rs h ≡ some r → AllWithin k n r.marks
+  abbrev AreWithin : Shape T → List (ReceiverRecord T) → List (Stage T) → Type 0
+  AreWithin k rs stages = (h : ℕ) (r : ReceiverRecord T) → get_elem? rs h ≡ some r → AllWithin k stages r.marks
 
   abbrev pub MarksWithin : Shape T → World T → Type 0
-  MarksWithin k w = AreWithin k w.receivers (length w.stages)
+  MarksWithin k w = AreWithin k w.receivers w.stages
 
-  -- more are claimed
-  more_claimed : (k : Shape T) (rs : List (ReceiverRecord T)) (n m : ℕ) → n ≤ m → AreWithin k rs n → AreWithin k rs m
-  more_claimed k rs n m le all h r at i x there = let low = all h r at i x there in omega arith
+  -- more are claimed or published
+  more_out : (k : Shape T) (rs : List (ReceiverRecord T)) (stages more : List (Stage T)) → Lasts stages more → AreWithin k rs stages → AreWithin k rs more
+  more_out k rs stages more lasts all h r at i x there = λ s lt. out_lasts stages more lasts s (all h r at i x there s lt)
 
   -- a receiver's record changes, and not what it found at marks
   quiet : (k : Shape T) (w : World T) (h : ℕ) (r r' : ReceiverRecord T) → get_elem? w.receivers h ≡ some r → r'.marks ≡ r.marks → MarksWithin k w
-      → AreWithin k (set w.receivers h r') (length w.stages)
+      → AreWithin k (set w.receivers h r') w.stages
   quiet k w h r r' at same all =
-      each_set (λ j x. AllWithin k (length w.stages) x.marks) w.receivers h r' (subst (AllWithin k (length w.stages)) (sym same) (all h r at))
+      each_set (λ j x. AllWithin k w.stages x.marks) w.receivers h r' (subst (AllWithin k w.stages) (sym same) (all h r at))
       (λ j x ne there. all j x there)
 
   -- it looks at a mark
   found : (k : Shape T) (w : World T) (h : ℕ) (r r' : ReceiverRecord T) → get_elem? w.receivers h ≡ some r
       → r'.marks ≡ r.marks ++ mark_look r.looks (length r.received) (word_at w.words (mark_word k (length r.received))) ∷ [] → KeepsRule k w → MarksWithin k w
-      → AreWithin k (set w.receivers h r') (length w.stages)
+      → AreWithin k (set w.receivers h r') w.stages
   found k w h r r' at more K all =
-      each_set (λ j x. AllWithin k (length w.stages) x.marks) w.receivers h r' (subst (AllWithin k (length w.stages)) (sym more) new)
+      each_set (λ j x. AllWithin k w.stages x.marks) w.receivers h r' (subst (AllWithin k w.stages) (sym more) new)
       (λ j x ne there. all j x there)
     where
       here : MarkLook
@@ -62,27 +69,42 @@ module _ {T : Type 0} where
       only zero x there = some-injective here x there
       only (suc j) x there = absurd (some-ne-none x (sym there))
 
-      claimed : (x : MarkLook) → here ≡ x → IsWithin k (length w.stages) x
-      claimed x same = subst (IsWithin k (length w.stages)) same
-          (subst (λ (p : Shape T). IsWithin p (length w.stages) here) (K.received h r at).plan (marked_claimed k w h r at K))
+      found_out : IsOutUpTo k w.stages here
+      found_out = λ s lt. elim (cases_lt s (length r.received)) [
+        | inl taken ↦ taken_out k w h s r at taken K
+        | inr next ↦
+            (let n = length r.received in let mark = word_at w.words (mark_word k n) in
+            let below : s < n + marked_from k n mark = lt in
+            let inside : s - n < marked_from k n mark = omega arith in
+            let e : n + (s - n) ≡ s = omega arith in
+            subst (IsOut w.stages) e (marked_next_out k w h r at K (s - n)
+            (subst (λ (p : Shape T). s - n < marked_from p n mark) (sym (K.received h r at).plan) inside)))
+      ]
 
-      new : AllWithin k (length w.stages) (r.marks ++ here ∷ [])
+      new : AllWithin k w.stages (r.marks ++ here ∷ [])
       new i x there = elim (more_cases r.marks (here ∷ []) i x there) [
         | inl old ↦ all h r at i x old
-        | inr last ↦ claimed x (only last.0 x last.2)
+        | inr last ↦ subst (IsOutUpTo k w.stages) (only last.0 x last.2) found_out
       ]
 
   claims_within : (k : Shape T) (w : World T) (p c n : ℕ) (lay : List T) (r : SenderRecord T) (b : Bool) → MarksWithin k w
       → MarksWithin k (if b then sender_claims w p r c n lay else sender_knows w p (sender_looked r claim_word (word_at w.words claim_word)))
   claims_within k w p c n lay r true all =
-      let more = length-append w.stages (replicate n (fresh_stage p)) in
-      more_claimed k w.receivers (length w.stages) (length (w.stages ++ replicate n (fresh_stage p))) (omega arith) all
+      let new = replicate n (fresh_stage p) in
+      more_out k w.receivers w.stages (w.stages ++ new) (λ s l x. (x.0, at_longer w.stages new s x.0 x.1, x.2)) all
   claims_within k w p c n lay r false all = all
 
   within_one : (k : Shape T) (p s : ℕ) (event : T) (w u : World T) → PublishesOne k p s event w u → KeepsRule k w → MarksWithin k w → MarksWithin k u
   within_one k p s event w u H K all =
-      let same = length-set w.stages s (published H.2.3.0 H.2.0) in
-      subst (MarksWithin k) (sym H.2.3.2) (more_claimed k w.receivers (length w.stages) (length (set w.stages s (published H.2.3.0 H.2.0))) (omega arith) all)
+      let t = H.2.0 in
+      let more = set w.stages s (published H.2.3.0 t) in
+      let own = owned k w p H.0 s H.2.1.0 t H.1 H.2.1.1 K in
+      let lasts : Lasts w.stages more = λ z l x. elim (cases_eq z s) [
+        | inl e ↦ absurd (let same : t ≡ x.0 = one_value w.stages s t x.0 own.1 (ap (λ (j : ℕ). get_elem? w.stages j) (sym e) ∙ x.1) in
+            none_or_some t.lent l H.2.2 (ap (λ (y : Stage T). y.lent) same ∙ x.2))
+        | inr ne ↦ (x.0, set_else w.stages s z (published H.2.3.0 t) x.0 ne x.1, x.2)
+      ] in
+      subst (MarksWithin k) (sym H.2.3.2) (more_out k w.receivers w.stages more lasts all)
 
   within_step : (k : Shape T) (s : Step T) (w u : World T) → Happens k s w u → KeepsRule k w → MarksWithin k w → MarksWithin k u
   within_step k (SenderLooksAtClaims p) w u H K all = subst (MarksWithin k) (sym H.2) all

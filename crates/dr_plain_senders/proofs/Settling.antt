@@ -1,5 +1,5 @@
 -- What a run of a ring says of its ends, once they come together.
-use Rattle.std.proofs.Common.{◌≡◌, ℕ, suc, ◌+◌, ◌<◌, ◌≤◌, Bool, List, [], ◌∷◌, ◌++◌, cond, length, take, Option, Some, sym, refl, ap, ◌∙◌, subst, arith, length-append}
+use Rattle.std.proofs.Common.{◌≡◌, ℕ, zero, suc, ◌+◌, ◌<◌, ◌≤◌, Bool, List, [], ◌∷◌, ◌++◌, cond, length, take, Option, Some, sym, refl, ap, ◌∙◌, subst, arith, length-append}
 use Rattle.std.specs.List.{take_while, filter_map, cons_option}
 use Rattle.std.specs.Prelude.{Contains, is_some, slice_index}
 use Rattle.std.proofs.Math.Seq.{get_or-append_seam}
@@ -10,15 +10,15 @@ use Rattle.dr_graph.specs.Meaning.Graph.{upstreams_of}
 use Rattle.dr_lent.specs.declared.lent.Lent.{Lent}
 use Rattle.dr_runs.specs.declared.look.Look.{Look}
 use Rattle.dr_plain_senders.specs.Meaning.Shape.{Shape, handlers_of}
-use Rattle.dr_plain_senders.specs.Meaning.Words.{count_word}
+use Rattle.dr_plain_senders.specs.Meaning.Words.{count_word, marked_from}
 use Rattle.dr_plain_senders.specs.declared.record.MarkLook.{MarkLook}
 use Rattle.dr_plain_senders.specs.declared.record.Stage.{Stage}
 use Rattle.dr_plain_senders.specs.declared.record.ReceiverRecord.{ReceiverRecord}
 use Rattle.dr_plain_senders.specs.Meaning.Records.{is_published}
-use Rattle.dr_plain_senders.specs.Meaning.Rule.{World, IsOutWith, KeepsRule}
+use Rattle.dr_plain_senders.specs.Meaning.Rule.{World, IsOut, IsOutWith, KeepsRule}
 use Rattle.dr_plain_senders.specs.Meaning.Settling.{HasBeginning, FollowsUpstream, IsSent, SawAtMost, Settles}
 use Rattle.dr_runs.proofs.Elements.{at_index, word_at}
-use Rattle.dr_plain_senders.proofs.Facts.{handler_inside, receiver_of_handler, taken_claimed, upstream_inside}
+use Rattle.dr_plain_senders.proofs.Facts.{handler_inside, receiver_of_handler, upstream_inside}
 use Rattle.dr_plain_senders.proofs.MarksFound.{MarksWithin}
 use Rattle.dr_plain_senders.proofs.Owners.{AllOwned}
 
@@ -66,20 +66,30 @@ module _ {T : Type 0} where
       let next = out_next l ls t ts all in let rest = all_events ls ts next.1 (omega arith) in
       (ap (λ (xs : List (Lent T)). l ∷ xs) rest.0 ∙ sym next.0, ap suc rest.1)
 
-  -- what a receiver found is claimed
-  saw_claimed : (k : Shape T) (w : World T) (h : ℕ) (r : ReceiverRecord T) → get_elem? w.receivers h ≡ some r → KeepsRule k w → MarksWithin k w
-      → SawAtMost (length w.stages) k (upstreams_of k.upstreams r.number) r
-  saw_claimed k w h r at K within =
+  -- so many are published at least
+  front_least : (m : ℕ) (ts : List (Stage T)) → ((s : ℕ) → s < m → IsOut ts s) → m ≤ length (out_of ts)
+  front_least zero ts all = omega arith
+  front_least (suc m) [] all = let first = all 0 (omega arith) in absurd (some-ne-none first.1.0 (sym first.1.1))
+  front_least (suc m) (t ∷ ts) all =
+      let first = all 0 (omega arith) in let same : t ≡ first.1.0 = some-injective t first.1.0 first.1.1 in
+      let len : length (out_of (t ∷ ts)) ≡ suc (length (out_of ts)) = ap length (out_cons first.0 t ts (ap (λ (x : Stage T). x.lent) same ∙ first.1.2)) in
+      let rest = front_least m ts (λ s lt. all (suc s) (omega arith)) in omega arith
+
+  -- what a receiver found is published
+  saw_published : (k : Shape T) (w : World T) (h : ℕ) (r : ReceiverRecord T) → get_elem? w.receivers h ≡ some r → KeepsRule k w → MarksWithin k w
+      → SawAtMost (length (out_of w.stages)) k (upstreams_of k.upstreams r.number) r
+  saw_published k w h r at K within =
       let was = K.received h r at in
       let inside = handler_inside k w h r at K in
       record {
         marks = λ before after x is.
-            within h r at (length before) x (ap (λ (l : List MarkLook). get_elem? l (length before)) is ∙ seam before after x);
+            front_least (x.sequence + marked_from k x.sequence x.found) w.stages
+            (within h r at (length before) x (ap (λ (l : List MarkLook). get_elem? l (length before)) is ∙ seam before after x));
         counts = λ u before after x has is word.
             let past = was.looks (length before) x (ap (λ (l : List Look). get_elem? l (length before)) is ∙ seam before after x) in
             let up : u < handlers_of k = upstream_inside k K.shape.graph h u inside (subst (λ (m : ℕ). Contains (upstreams_of k.upstreams m) u) was.number has) in
             let other = receiver_of_handler k w K u up in
-            let took = taken_claimed k w u other.0 other.1 K in
+            let took = (first_events other.0.received w.stages other.2.beginning).1 in
             let count = other.2.count in
             let done = other.2.completed in
             let low = subst (λ (m : ℕ). x.value ≤ slice_index w.words m) word past.before in
@@ -94,7 +104,7 @@ module _ {T : Type 0} where
         taken = first.1;
         drained = λ told. all_events r.received w.stages was.beginning (was.told told).1;
         completed = was.completed;
-        seen = saw_claimed k w h r at K within;
+        seen = saw_published k w h r at K within;
         room = λ has. (let e : length w.stages ≤ k.size + word_at w.words (count_word r.number) = K.room r.number has in
             let count : word_at w.words (count_word r.number) ≡ r.completed = ap (λ (n : ℕ). word_at w.words (count_word n)) was.number ∙ was.count in
             omega arith);

@@ -206,7 +206,7 @@ pub(crate) fn reclaim_all<T>(
 /// exactly what it did, and its transcript is lawful (clause `run`). Each claimed sequence is in its
 /// sender's record. Each receiver has the first of the published events in the order of their
 /// sequences, each from the sender of its sequence, and all that is claimed where it was told that the
-/// ring drained; none found anything beyond what is claimed. No handler took more than its upstreams
+/// ring drained; none found more published than is. No handler took more than its upstreams
 /// completed, and no more is claimed than a round beyond what each final handler completed.
 pub fn settle_all<T: Drop>(
     senders: Vec<Sender<T>>,

@@ -5,13 +5,16 @@ use denote.Param.Send.{IsSend, IsSync, sendable}
 use Rattle.std.proofs.Crossing as std
 use Rattle.std.proofs.sync.atomic.AtomicU64.TheSendSync.{the_sync as atomic_sync}
 use Rattle.std.specs.declared.sync.ledger.Ledger.{Ghosts}
+use Rattle.std.specs.contracts.sync.ledger.Share as Share
 use Rattle.dr_lock.specs.declared.exchange.Exchange.{Ghosts as Begun}
 use Rattle.dr_seq.specs.contracts.event.Event as Event
 use Rattle.dr_seq.specs.contracts.size.Size as Size
 use Rattle.dr_workers.specs.contracts.bell.Bell as Bell
-use Rattle.dr_lock.proofs.SharedCrossing.{end_send, shared_sync}
+use Rattle.dr_lock.proofs.SharedCrossing.{end_send, share_sync, shared_sync}
+use Rattle.dr_lock.specs.contracts.end.End as End
 use Rattle.dr_replay.specs.contracts.lock_workers.Around as Around
 use Rattle.dr_replay.specs.contracts.lock_workers.Task as Task
+use Rattle.dr_replay.specs.contracts.given_back.Ready as Ready
 
 pub size_sync : IsSync Size.the_row
 size_sync = search sendable depth 30
@@ -36,7 +39,13 @@ pub ruleset sends = (sendable, event_sync, end_send)
 pub task_send : (a : NamedLft) (L : RattleType) (g : Ghosts L.Denot) → IsSend (Task.the_row a L g)
 task_send a L g = search sends depth 60 fits 20000
 
-pub ruleset crosses = (sendable, end_send, task_send, around_sync)
+pub end_sync : (E L : RattleType) (g : Ghosts L.Denot) → IsSync (End.the_row E L g)
+end_sync E L g = let share : IsSync (Share.the_row L g) = share_sync L g in search (sendable, std.crosses) depth 40
+
+pub ready_sync : (a : NamedLft) (L : RattleType) (g : Ghosts L.Denot) → IsSync (Ready.the_row a L g)
+ready_sync a L g = search (sendable, end_sync) depth 30
+
+pub ruleset crosses = (sendable, end_send, task_send, around_sync, ready_sync)
 
 -- what they give back
 pub ruleset gives = (sendable, std.crosses, end_send)

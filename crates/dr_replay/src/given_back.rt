@@ -4,6 +4,7 @@ ghost use Rattle.std.specs.Prelude.{◌≡◌, ◌+◌, length};
 ghost use Rattle.dr_reports.specs.Keeping.{error_of};
 ghost use Rattle.dr_reports.specs.Passing.{replay_graph};
 ghost use Rattle.dr_replay.specs.Calls.LockWorkers.{HasHandled, HasSent, list_of};
+ghost use Rattle.dr_replay.specs.Inside.LockWorkers.{CanBegin};
 
 use crate::part::Part;
 use dr_accounts::{Business, Journal, Replica, Reporter};
@@ -77,6 +78,23 @@ pub fn have_threads<
     ensures { length result ≡ length replay_graph }
 {
     [HasThread(()), HasThread(()), HasThread(())]
+}
+
+/// That each handler has its thread and nobody halted the core, which nobody can say otherwise. Nobody halts it as long
+/// as this lasts.
+#[derive(Drop)]
+pub(crate) struct Ready<'a, L: Ledger> {
+    halter: &'a End<Event, L>,
+}
+
+impl<'a, L: Ledger> Ready<'a, L> {
+    pub(crate) fn of(halter: &'a End<Event, L>, _threads: &[HasThread]) -> Ready<'a, L>
+        requires begins { CanBegin halter.now _threads.now }
+        // It borrows the end that is to halt.
+        ensures { result.halter.now ≡ halter.now }
+    {
+        Ready { halter }
+    }
 }
 
 /// The promise of the worker of the producer `p`, which passes a gate as number 16 + `p` and sends a script in

@@ -8,7 +8,7 @@ ghost use Rattle.dr_replay.specs.Calls.LockWorkers.{HasHandled, HasSent, list_of
 ghost use Rattle.dr_replay.specs.Inside.LockWorkers.{AreSent, AreUnused, CanBegin, ComesBack, halter_of};
 ghost use Rattle.dr_replay.specs.Meaning.Exchange.{IsHalters};
 
-use crate::given_back::{Delivered, Handled, HandledBy, HasThread, SentBy, have_threads};
+use crate::given_back::{Delivered, Handled, HandledBy, HasThread, Ready, SentBy, have_threads};
 use crate::part::Listing;
 use dr_accounts::{Business, Journal, Replica, Reporter};
 use dr_lock::{End, Exchange, LockedInlet, LockedOutlet, Shared, halt};
@@ -164,9 +164,11 @@ fn handle<L: Exchange<Event>, R: Wait, G: Gate, P: Reporter>(
 }
 
 // Sends a producer's script, in claims of as many events as the core has slots. It parks where there is no room, and rings the bell with each publication.
+// It is given that each handler has its thread and nobody halted.
 fn send<L: Exchange<Event>, R: Wait, G: Gate>(
     around: &Around<'_, L, R, G>,
     task: Task<'_, L>,
+    _ready: &Ready<'_, L>,
 ) -> Delivered<L>
     requires few { task.p ≤ 2 ^ 62 }
     requires unused { task.end ≡ no_calls }
@@ -192,15 +194,17 @@ fn send_all<L: Exchange<Event> + Send + Sync, R: Threads + Wait + Sync, G: Gate 
     around: &Around<'_, L, R, G>,
     scripts: &[Vec<Event>],
     ends: Vec<End<Event, L>>,
-    _halter: &End<Event, L>,
-    _threads: &[HasThread],
+    halter: &End<Event, L>,
+    threads: &[HasThread],
 ) -> Result<Vec<Delivered<L>>, AllocError>
     requires many { length ends.items ≡ length scripts.now }
     requires unused { All (λ end. end ≡ no_calls) ends.items }
     // Nothing is sent before each handler has its thread, nor once the core is halted.
-    requires begins { CanBegin _halter.now _threads.now }
+    requires begins { CanBegin halter.now threads.now }
     ensures { IfOk result (λ sent. AreSent L.begun (G.may_stop around.now.gate.now) (G.must_stop around.now.gate.now) around.now.size scripts.now sent.items) }
 {
+    let all = Ready::of(halter, threads);
+    let ready = &all;
     thread::scope(
         thread::scope_env(),
         around.rt,
@@ -219,7 +223,7 @@ fn send_all<L: Exchange<Event> + Send + Sync, R: Threads + Wait + Sync, G: Gate 
                 let script = scripts[p].as_slice();
                 let task = Task { p, end, script };
                 let promise = SentBy::of(around.gate, p, script, cut);
-                started.push(scope.spawn_with(promise, move || send(around, task))?)?;
+                started.push(scope.spawn_with(promise, move || send(around, task, ready))?)?;
             }
             Ok(thread::join_promised(around.rt, started)?)
         },

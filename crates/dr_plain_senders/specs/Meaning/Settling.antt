@@ -37,8 +37,8 @@ module _ {T : Type 0} where
     -- who was told that the ring drained has all of it, and all that is claimed
     pub drained : r.told ≡ true → (r.received ≡ published_events w) × (length r.received ≡ length w.stages)
     pub completed : r.completed ≤ length r.received
-    -- it found nothing published, nor completed by its upstreams, beyond what is claimed
-    pub seen : SawAtMost (length w.stages) k (upstreams_of k.upstreams r.number) r
+    -- it found no more published, nor completed by its upstreams, than is published
+    pub seen : SawAtMost (length (published_events w)) k (upstreams_of k.upstreams r.number) r
     pub room : Contains (finals k.upstreams) r.number → length w.stages ≤ k.size + r.completed
 
   -- what a receiver took, each of its upstreams completed
