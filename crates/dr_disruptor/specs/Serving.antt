@@ -11,6 +11,7 @@ use Rattle.dr_meaning.specs.Calls.Ends.{Received}
 use Rattle.dr_meaning.specs.Calls.Handling.{Relation}
 use Rattle.dr_workers.specs.Meaning.Work.{Dealt, Works}
 use Rattle.dr_meaning.specs.Calls.InPlaceOutlets.{SawMore}
+use Rattle.dr_runs.specs.Runs.{IsBeginning}
 use Rattle.dr_disruptor.specs.declared.served.Served.{Served}
 use Rattle.dr_disruptor.specs.declared.served.ServesPromise.{ServesPromise}
 
@@ -84,6 +85,10 @@ given_end w = w.promise.end.value
 
 abbrev pub given_handler : {O A : Type 0} → Worker O A → A
 given_handler w = w.promise.start.value
+
+-- they have the first of some ends and handlers, in order
+abbrev pub HaveFirst : {O A : Type 0} → List O → List A → List (Worker O A) → Type 0
+HaveFirst ends handlers workers = IsBeginning (map given_end workers) ends × IsBeginning (map given_handler workers) handlers
 
 -- each polls with so much room
 abbrev pub AreInBatches : {O A : Type 0} → ℕ → List (Worker O A) → Type 0
