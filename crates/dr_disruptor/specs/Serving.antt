@@ -20,6 +20,10 @@ abbrev pub IsPolled : {E : Type 0} → ℕ → (ℕ → Type 0) → Dealt E → 
 IsPolled room Are batch =
     (offered : ℕ) × Are offered × (length batch.events ≡ min (offered - batch.first) room) × (IsTrue batch.end ↔ (batch.first + length batch.events ≡ offered))
 
+-- a batch has events, and its last one is marked
+abbrev pub IsMarked : {E : Type 0} → Dealt E → Type 0
+IsMarked batch = (0 < length batch.events) × (batch.end ≡ true)
+
 -- what a worker calls where a poll with so much room is answered so: a batch is completed before the next poll
 abbrev pub calls_at : ℕ → Polled → List InPlaceCall
 calls_at room (Batch first count end) = Polls room (Batch first count end) ∷ CompletesUpTo (first + count) ∷ []

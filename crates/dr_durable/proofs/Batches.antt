@@ -1,11 +1,12 @@
 -- What a handler is shown of batches whose last events are marked.
-use Rattle.std.proofs.Common.{◌≡◌, ℕ, ◌+◌, ◌-◌, ◌<◌, ◌≤◌, min, Bool, true, false, All, List, [], ◌∷◌, ◌++◌, length, map}
+use Rattle.std.proofs.Common.{◌≡◌, ℕ, ◌+◌, ◌<◌, ◌≤◌, Bool, true, false, All, List, [], ◌∷◌, ◌++◌, length, map}
 use Rattle.std.proofs.Common.{refl, sym, ◌∙◌, ap, arith, append-nil, append_assoc}
 use Rattle.std.proofs.lemmas.List.{map-append}
 use Rattle.std.proofs.lemmas.List.Elements.{All-head, All-tail}
 use Rattle.dr_meaning.specs.Calls.Handling.{GoesThrough, Relation, Showing, showings}
 use Rattle.dr_workers.specs.Meaning.Work.{Dealt, FollowFrom, dealt_events, shown_of}
-use Rattle.dr_disruptor.specs.Serving.{IsPolled}
+use Rattle.dr_disruptor.specs.Serving.{IsMarked, IsPolled}
+use Rattle.dr_disruptor.proofs.Marked.{all_marked}
 
 -- calls that go on from others
 pub parted : {E A : Type 0} (goes : Relation E A) (old : A) (first rest : List (Showing E)) (new : A) → GoesThrough goes old (first ++ rest) new
@@ -66,15 +67,13 @@ module _ {E : Type 0} where
       let here = showings b.events b.first b.end in
       (here ++ later.0, later.1, ap (λ (l : List (Showing E)). here ++ l) later.2 ∙ sym (append_assoc here later.0 (later.1 ∷ [])), later.3)
 
+  marked_each : (batches : List (Dealt E)) → All IsMarked batches → AreMarked batches
+  marked_each [] marked = tt
+  marked_each (b ∷ batches) marked =
+      let here = All-head IsMarked b batches marked in
+      (here.0, here.1, marked_each batches (All-tail IsMarked b batches marked))
+
   -- polls with room for all that is offered give such batches
   pub are_marked : (most all s : ℕ) (batches : List (Dealt E)) → all ≤ most → FollowFrom s batches
       → All (IsPolled most (λ n. n ≤ all)) batches → AreMarked batches
-  are_marked most all s [] le order polled = tt
-  are_marked most all s (b ∷ batches) le order polled =
-      let one = All-head (IsPolled most (λ n. n ≤ all)) b batches polled in
-      let offered = one.0 in
-      let within : offered ≤ all = one.1 in
-      let many : length b.events ≡ min (offered - b.first) most = one.2 in
-      let some : 0 < length b.events = order.1 in
-      let whole : b.first + length b.events ≡ offered = omega arith in
-      (some, one.3.1 whole, are_marked most all (s + length b.events) batches le order.2 (All-tail (IsPolled most (λ n. n ≤ all)) b batches polled))
+  are_marked most all s batches le order polled = marked_each batches (all_marked most all s batches le order polled)
