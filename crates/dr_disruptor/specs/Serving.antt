@@ -1,6 +1,6 @@
 -- What a handler's worker promises, and what workers gave back.
 use Rattle.std.specs.List.{filter}
-use Rattle.std.specs.Prelude.{◌≡◌, ◌↔◌, ℕ, ◌+◌, ◌-◌, min, Bool, IsTrue, true, false, List, [], ◌∷◌, flat_map, length, map, Some, All}
+use Rattle.std.specs.Prelude.{◌≡◌, ◌↔◌, ℕ, ◌+◌, ◌-◌, ◌<◌, min, Bool, IsTrue, true, false, List, [], ◌∷◌, flat_map, length, map, Some, All}
 use mathlib.Core.Option.{some}
 use lib.ListN.{get_elem?}
 use Rattle.std.specs.declared.thread.PromisedHandle.{PromisedHandle}
