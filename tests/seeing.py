@@ -71,9 +71,10 @@ GOES = """
   };
   press("Home"); leads("Home", 0);
   for (let k = 1; k <= Math.min(at, 6); k++) { press(k % 2 ? "ArrowRight" : "ArrowDown"); leads("an arrow", k); }
+  press("End"); leads("End", at);
   press("ArrowRight"); leads("the right arrow at the end", at);
   press("Home"); press("ArrowLeft"); leads("the left arrow at the start", 0);
-  press("End"); leads("End", at);
+  press("End");
   press("ArrowLeft"); leads("the left arrow", Math.max(0, at - 1));
   press("ArrowUp"); leads("the arrow up", Math.max(0, at - 2));
   $("first").click(); leads("the button to the start", 0);

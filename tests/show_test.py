@@ -24,7 +24,7 @@ from showing import page_data  # noqa: E402
 
 TEXT = (
     b"ring,4,multi,2\nwith,a,b\nthen,c\nstart\nclaim,0,2\nclaim,1,2\nwrite,1,2,5\npublish,1,2,2\nwrite,0,0,7\nwrite,0,1,8\npublish,0,0,1\npoll,a,2\n"
-    b"complete,a,1\npoll,b,3\npoll,c,4\ncomplete,b,2\npoll,c,1\ncomplete,c,1\nclaim,0,2\nclaim,0,1\nretire,c\nhalt\n"
+    b"complete,a,1\npoll,b,3\npoll,c,4\ncomplete,b,2\npoll,c,1\ncomplete,c,1\nclaim,0,2\nclaim,0,1\npoll,d,1\nretire,c\nhalt\n"
 )
 # What `READS` has to refuse: of each page its changes.
 SHOWN = {
@@ -87,7 +87,7 @@ def led_cases(bench, browser, page):
 
 def other_cases(bench, browser, page):
     """Where a page opens, and its colors."""
-    for changes, is_so in (((), ["record 7 of 22", 6, "#step=7"]), ((("r.record >= k", "r.record > k"),), ["record 8 of 22", 7, "#step=8"])):
+    for changes, is_so in (((), ["record 7 of 23", 6, "#step=7"]), ((("r.record >= k", "r.record > k"),), ["record 8 of 23", 7, "#step=8"])):
         browser.open(changed(page, changes).encode(), "#step=7")
         bench.judge(f"where a page opens with {changes}", browser.tell(OPENED), is_so)
     for changes, is_weak in (((), False), ((("--ink: #e6ebf1", "--ink: #5e666f"),), True)):
