@@ -85,7 +85,7 @@ COLORS = """
 
 
 # Of a large file, how many records its page has beside the setup. It leaves out the very last.
-LAST = 40
+LAST = 24
 ROUND = b"claim,0,1\npoll,a,1\nwrite,0,0,7\npublish,0,0,0\nclaim,0,7\n"
 
 

@@ -4,6 +4,7 @@ It shares nothing with the program, nor with the page's data.
 """
 
 import json
+import math
 
 from machine import shown
 from showing import MOST_DRAWN, asked, page_steps, stage, string
@@ -40,6 +41,8 @@ LETTER = {"claimed": "c", "written": "w", "published": "p", "again": ""}
 # The most stretches, values and rows that a text has; in a wide window the letters that a slot has room for, of at most 8 slots and of 16.
 MOST_STRETCHES, MOST_VALUES, MOST_ROWS, MOST_TAKEN = 24, 8, 8, 16
 LETTERS = {16: 6}
+# A text of a larger ring stands on more than half a radian of it. Where more slots than these are drawn, it is not told which one a track ends at.
+TURN, WIDE_ENOUGH, MOST_PLACED = 2 * math.pi, 0.5, 1024
 
 
 def counted(n, one):
@@ -232,26 +235,25 @@ class Stand:
         return [way, s >= 0 and s in touched, lines]
 
     def slots(self, touched):
-        size, one = self.it.size, 6.283185307179586 / self.it.size
+        size, one = self.it.size, TURN / self.it.size
         if size <= MOST_DRAWN:
-            found = [self.slot(k, touched) for k in range(size)]
-            # (the only slot is drawn in two halves)
-            return [[*found[0][:2], []], *found] if size == 1 else found
+            return [self.slot(k, touched) for k in range(size)]
         found = []
         for lo, hi, _, way in self.ways():
+            # (a whole ring is drawn in two halves)
             if hi - lo + 1 == size:
                 found.append([way, False, []])
-            has_text = (hi - lo + 1) * one > 0.5 and way != "again"
+            has_text = (hi - lo + 1) * one > WIDE_ENOUGH and way != "again"
             found.append([way, False, [f"{LETTER[way]} {lo}\u2013{hi}"] if has_text else []])
         return found
 
     def pictures(self, touched):
         size, many = self.it.size, len(self.order)
-        free = f"for {self.next}\u2013{self.next + self.room - 1}" if size > 16 and self.room * 6.283185307179586 / size > 0.5 else ""
+        free = f"for {self.next}\u2013{self.next + self.room - 1}" if size > 16 and self.room * TURN / size > WIDE_ENOUGH else ""
         tracks = []
         for h in self.order:
             taken, completed = self.it.taken[h], self.it.completed[h]
-            places = [completed % size if taken > completed else None, taken % size] if size <= 1024 else [None, None]
+            places = [completed % size if taken > completed else None, taken % size] if size <= MOST_PLACED else [None, None]
             tracks.append(None if h in self.it.retired else [short(h.decode(), 14 if many <= 6 else 9), *places])
         says = []
         for h in self.order:
