@@ -66,7 +66,8 @@ GOES = """
     const wide = document.documentElement.scrollWidth, record = records[k].record;
     if ($("where").textContent !== `record ${record} of ${end.last}` || Number($("at").value) !== k) faults.push(`${what} leads elsewhere`);
     if (location.hash !== `#step=${record}`) faults.push(`after ${what} the address is ${location.hash}`);
-    if ($("lines").querySelectorAll("[aria-current]").length !== 1 || !$("lines").children[k].firstChild.hasAttribute("aria-current")) faults.push(`${what} marks another line`);
+    const marked = [...$("lines").querySelectorAll("[aria-current]")];
+    if (marked.length !== 1 || marked[0] !== $("lines").children[k].firstChild) faults.push(`${what} marks another line`);
     if (wide > innerWidth) faults.push(`after ${what} it is ${wide} wide, not ${innerWidth}`);
   };
   press("Home"); leads("Home", 0);

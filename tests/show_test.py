@@ -32,7 +32,7 @@ SHOWN = {
                                           ('"least: " : ""}${h.completed}</td>', '"least: " : ""}${h.taken}</td>')),
     "a slot has no label": (("lines.forEach((line, i) => { out +=", "lines.forEach((line, i) => { if (k !== 1) out +="),),
     "the step before is shown": (("const r = records[step], before", "const r = records[Math.max(0, step - 1)], before"),),
-    "the cards are of the step before": (("$(id).innerHTML = tell(r);\n  if", "$(id).innerHTML = tell(id === 'said' ? r : records[step - 1].next === undefined ? r : records[step - 1]);\n  if"),),
+    "the claims are of the start": (("claims: tellClaims }", "claims: () => tellClaims(records.find((r) => r.exchange)) }"),),
     "the room is greater": (("`room for ${r.room}`", "`room for ${r.room + 1}`"),),
     "front stands for next": (("`next claim: #${r.next}`", "`next claim: #${r.front}`"),),
     "next stands for front": (("`all below #${r.front}`", "`all below #${r.next}`"),),
