@@ -5,7 +5,9 @@ use Rattle.std.proofs.lemmas.List.{take-append-le}
 use Rattle.std.specs.Prelude.{take}
 use Rattle.dr_meaning.specs.Calls.InPlaceInlets.{Opens, Sending}
 use Rattle.dr_workers.specs.Meaning.Work.{AreCut}
-use Rattle.dr_disruptor.specs.Sending.{ClaimedAtOnce, ClaimedInCuts, ClaimedInTurn, SendsAll}
+use Rattle.dr_meaning.specs.Calls.Calling.{InPlaceInletCall}
+use Rattle.dr_disruptor.specs.Sending.{ClaimedAtOnce, ClaimedInCuts, ClaimedInTurn, ClaimsJust, SendsAll}
+use Rattle.dr_disruptor.proofs.Called.{just_none, just_on}
 
 -- how many sequences some claims are of
 abbrev total : List ℕ → ℕ
@@ -60,15 +62,15 @@ module _ {E I K : Type 0} (kept : I → K) (sending : I → Sending E) where
       )
 
   -- before the first claim
-  pub cuts_none : (cut n : ℕ) (old : I) → ClaimedInCuts kept sending cut n old old
-  cuts_none cut n old = record { claims = []; cuts = tt; turns = refl }
+  pub cuts_none : (does : I → InPlaceInletCall → I → Type 0) (cut n : ℕ) (old : I) → ClaimedInCuts kept sending does cut n old old
+  cuts_none does cut n old = record { claims = []; cuts = tt; calls = just_none does old; turns = refl }
 
   -- one more claim of what is left
-  pub cuts_more : (cut all done n : ℕ) (old mid new : I) (Were Are : List E → Type 0) → kept mid ≡ kept old → n ≡ min (all - done) cut
+  pub cuts_more : (does : I → InPlaceInletCall → I → Type 0) (cut all done n : ℕ) (old mid new : I) (Were Are : List E → Type 0) → kept mid ≡ kept old → n ≡ min (all - done) cut
       → SendsAll Were done (sending old).published (sending mid).published → SendsAll Are n (sending mid).published (sending new).published
-      → ClaimedInCuts kept sending cut all old mid → ClaimedAtOnce kept sending (length (sending mid).published) n mid new
-      → ClaimedInCuts kept sending cut all old new
-  cuts_more cut all done n old mid new Were Are place is before sent cuts last =
+      → ClaimedInCuts kept sending does cut all old mid → ClaimedAtOnce kept sending (length (sending mid).published) n mid new → ClaimsJust does (n ∷ []) mid new
+      → ClaimedInCuts kept sending does cut all old new
+  cuts_more does cut all done n old mid new Were Are place is before sent cuts last just =
       let come = turns_end (length (sending old).published) cuts.claims old mid cuts.turns in
       let many = before.many in
       let long : length (sending mid).published ≡ length (sending old).published + length before.events =
@@ -77,5 +79,6 @@ module _ {E I K : Type 0} (kept : I → K) (sending : I → Sending E) where
       record {
         claims = cuts.claims ++ n ∷ [];
         cuts = cut_more cut all cuts.claims n cuts.cuts (is ∙ ap (λ (d : ℕ). min (all - d) cut) (sym same));
+        calls = just_on does old mid new cuts.claims (n ∷ []) cuts.calls just;
         turns = turns_more (length (sending old).published) cuts.claims n old mid new sent.events place sent.many sent.published cuts.turns last;
       }

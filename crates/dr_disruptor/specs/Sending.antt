@@ -1,11 +1,11 @@
 -- What a run's sender has filled and published.
-use Rattle.std.specs.Prelude.{◌≡◌, ◌≢◌, ℕ, ◌+◌, ◌-◌, ◌<◌, min, List, [], ◌∷◌, ◌++◌, Some, None, Err, length, map, replicate, take}
+use Rattle.std.specs.Prelude.{◌≡◌, ◌≢◌, ℕ, ◌+◌, ◌-◌, ◌<◌, min, List, [], ◌∷◌, ◌++◌, Some, None, Err, Ok, length, map, replicate, take}
 use mathlib.Core.Option.{some}
 use lib.ListN.{get_elem?}
 use Rattle.dr_meaning.specs.declared.refusal.Refusal.{Refusal}
 use Rattle.dr_meaning.specs.declared.refusal.Refusal.TheVariants.{NoRoom}
 use Rattle.dr_meaning.specs.declared.claim_fault.ClaimFault.TheVariants.{Refused}
-use Rattle.dr_meaning.specs.Calls.Calling.{CallsLead, ClaimsStretch, InPlaceInletCall}
+use Rattle.dr_meaning.specs.Calls.Calling.{CallsLead, ChangesEvent, ClaimsStretch, InPlaceInletCall, PublishesFilled, SomeCalls}
 use Rattle.dr_meaning.specs.Calls.InPlaceInlets.{Sending}
 use Rattle.dr_workers.specs.Meaning.Work.{AreCut}
 use Rattle.dr_plain_senders.specs.declared.record.Step.{Step}
@@ -14,6 +14,18 @@ use Rattle.dr_plain_senders.specs.declared.record.Step.TheVariants.{SenderHalts}
 -- calls were made of an end, one after another, and nothing else was done to it
 abbrev pub OnlyCalled : {I : Type 0} → (I → InPlaceInletCall → I → Type 0) → I → I → Type 0
 OnlyCalled does old new = (calls : List InPlaceInletCall) × CallsLead does old calls new
+
+-- how many sequences each accepted claim of some calls is of
+abbrev pub accepted : List InPlaceInletCall → List ℕ
+accepted [] = []
+accepted (ClaimsStretch n (Ok claimed) ∷ calls) = n ∷ accepted calls
+accepted (ClaimsStretch n (Err fault) ∷ calls) = accepted calls
+accepted (ChangesEvent s ∷ calls) = accepted calls
+accepted (PublishesFilled lo hi ∷ calls) = accepted calls
+
+-- so they were, and the accepted claims among them are of these lengths
+abbrev pub ClaimsJust : {I : Type 0} → (I → InPlaceInletCall → I → Type 0) → List ℕ → I → I → Type 0
+ClaimsJust does claims old new = SomeCalls does old new (λ calls. accepted calls ≡ claims)
 
 -- a claim of n was refused for another cause than that there was no room, after it was tried again and again: what the end sent is as before
 pub record IsRefused {I K E : Type 0} (kept : I → K) (sending : I → Sending E) (does : I → InPlaceInletCall → I → Type 0) (n : ℕ) (r : Refusal) (old new : I) : Type 0 where
@@ -79,10 +91,11 @@ module _ {E : Type 0} where
   ClaimedInTurn kept sending at [] old new = length (sending new).published ≡ at
   ClaimedInTurn kept sending at (n ∷ claims) old new = ClaimedAtOnce kept sending at n old new × ClaimedInTurn kept sending (at + n) claims old new
 
-  -- what was published more was claimed in claims of what was left of n, but at most of a cut
-  pub record ClaimedInCuts {I K : Type 0} (kept : I → K) (sending : I → Sending E) (cut n : ℕ) (old new : I) : Type 0 where
+  -- what was published more was claimed in claims of what was left of n, but at most of a cut, and nothing else was claimed
+  pub record ClaimedInCuts {I K : Type 0} (kept : I → K) (sending : I → Sending E) (does : I → InPlaceInletCall → I → Type 0) (cut n : ℕ) (old new : I) : Type 0 where
     pub claims : List ℕ
     pub cuts : AreCut cut n claims
+    pub calls : ClaimsJust does claims old new
     pub turns : ClaimedInTurn kept sending (length (sending old).published) claims old new
 
   -- of n events, in claims of at most so many, the first were published, and the claim of the next ones was refused
@@ -91,8 +104,7 @@ module _ {E : Type 0} where
     pub done : ℕ
     pub between : I
     pub some : done < n
-    pub calls : OnlyCalled does old between
     pub place : kept between ≡ kept old
     pub sent : SendsAll (Fills by 0) done (sending old).published (sending between).published
-    pub claims : ClaimedInCuts kept sending cut n old between
+    pub claims : ClaimedInCuts kept sending does cut n old between
     pub refused : IsRefused kept sending does (min (n - done) cut) r between new

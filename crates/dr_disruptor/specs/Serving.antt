@@ -1,6 +1,6 @@
 -- What a handler's worker promises, and what workers gave back.
 use Rattle.std.specs.List.{filter}
-use Rattle.std.specs.Prelude.{◌≡◌, ◌↔◌, ℕ, ◌+◌, ◌-◌, min, Bool, IsTrue, true, false, List, [], ◌∷◌, flat_map, length, map, Some, All}
+use Rattle.std.specs.Prelude.{◌≡◌, ◌↔◌, ℕ, ◌+◌, ◌-◌, ◌<◌, min, Bool, IsTrue, true, false, List, [], ◌∷◌, flat_map, length, map, Some, All}
 use mathlib.Core.Option.{some}
 use lib.ListN.{get_elem?}
 use Rattle.std.specs.declared.thread.PromisedHandle.{PromisedHandle}
@@ -11,6 +11,7 @@ use Rattle.dr_meaning.specs.Calls.Ends.{Received}
 use Rattle.dr_meaning.specs.Calls.Handling.{Relation}
 use Rattle.dr_workers.specs.Meaning.Work.{Dealt, Works}
 use Rattle.dr_meaning.specs.Calls.InPlaceOutlets.{SawMore}
+use Rattle.dr_runs.specs.Runs.{IsBeginning}
 use Rattle.dr_disruptor.specs.declared.served.Served.{Served}
 use Rattle.dr_disruptor.specs.declared.served.ServesPromise.{ServesPromise}
 
@@ -18,6 +19,10 @@ use Rattle.dr_disruptor.specs.declared.served.ServesPromise.{ServesPromise}
 abbrev pub IsPolled : {E : Type 0} → ℕ → (ℕ → Type 0) → Dealt E → Type 0
 IsPolled room Are batch =
     (offered : ℕ) × Are offered × (length batch.events ≡ min (offered - batch.first) room) × (IsTrue batch.end ↔ (batch.first + length batch.events ≡ offered))
+
+-- a batch has events, and its last one is marked
+abbrev pub IsMarked : {E : Type 0} → Dealt E → Type 0
+IsMarked batch = (0 < length batch.events) × (batch.end ≡ true)
 
 -- what a worker calls where a poll with so much room is answered so: a batch is completed before the next poll
 abbrev pub calls_at : ℕ → Polled → List InPlaceCall
@@ -84,6 +89,10 @@ given_end w = w.promise.end.value
 
 abbrev pub given_handler : {O A : Type 0} → Worker O A → A
 given_handler w = w.promise.start.value
+
+-- they have the first of some ends and handlers, in order
+abbrev pub HaveFirst : {O A : Type 0} → List O → List A → List (Worker O A) → Type 0
+HaveFirst ends handlers workers = IsBeginning (map given_end workers) ends × IsBeginning (map given_handler workers) handlers
 
 -- each polls with so much room
 abbrev pub AreInBatches : {O A : Type 0} → ℕ → List (Worker O A) → Type 0

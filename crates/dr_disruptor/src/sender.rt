@@ -1,12 +1,12 @@
 //! The sender of a run: each of its calls claims, fills and publishes.
 
-ghost use Rattle.std.specs.Prelude.{◌≡◌, ◌+◌, ◌++◌, ◌-◌, ◌<◌, ◌^◌, [], Err, IfErr, IfOk, OnOk, length, min};
+ghost use Rattle.std.specs.Prelude.{◌≡◌, ◌+◌, ◌++◌, ◌∷◌, ◌-◌, ◌<◌, ◌^◌, [], Err, IfErr, IfOk, OnOk, length, min};
 ghost use Rattle.std.specs.Fn.{FnOnceReturnsAtMut};
 ghost use Rattle.dr_meaning.specs.Calls.Calling.{ClaimsStretch};
 ghost use Rattle.dr_meaning.specs.Calls.Filling.{FillsFrom, FillsOne};
 ghost use Rattle.dr_meaning.specs.Calls.Ends.{IsStretch};
 ghost use Rattle.dr_meaning.specs.Calls.InPlaceInlets.{Opens};
-ghost use Rattle.dr_disruptor.specs.Sending.{ClaimedAtOnce, ClaimedInCuts, Fills, FillsOn, FillsPart, IsNth, IsRefused, OnlyCalled, SendsAll, SendsOne, StopsAfter};
+ghost use Rattle.dr_disruptor.specs.Sending.{ClaimedAtOnce, ClaimedInCuts, ClaimsJust, Fills, FillsOn, FillsPart, IsNth, IsRefused, OnlyCalled, SendsAll, SendsOne, StopsAfter};
 ghost use Rattle.dr_plain_senders.specs.Calls.InPlace.{sending_of};
 ghost use Rattle.dr_plain_senders.specs.Calls.Sending.{HaltCall};
 ghost use Rattle.dr_plain_senders.specs.Calls.Ends.{sender_place};
@@ -52,6 +52,7 @@ fn claim<R: Wait, I: InPlaceInlet>(
     requires closed { (I.sending end.old).pending ≡ [] }
     ensures kept { I.kept end.new ≡ I.kept end.old }
     ensures called { OnlyCalled I.does end.old end.new }
+    ensures claims { IfOk result (λ c. ClaimsJust I.does (n ∷ []) end.old end.new) }
     ensures stretch { IfOk result (IsStretch n) }
     ensures opens { IfOk result (λ c. Opens c.lo n (I.sending end.old) (I.sending end.new)) }
     ensures refused { IfErr result (λ r. IsRefused I.kept I.sending I.does n r end.old end.new) }
@@ -88,7 +89,7 @@ fn fill_each<I: InPlaceInlet, F: Fn(&mut I::Event, u64)>(
     requires within { FillsPart (Fills (FillsOne F.Fn fill.now) first) 0 n lo (I.sending end.old) (I.sending end.old) }
     requires fits { (lo + n < 2 ^ 64) × (first + n < 2 ^ 64) }
     ensures kept { I.kept end.new ≡ I.kept end.old }
-    ensures called { OnlyCalled I.does end.old end.new }
+    ensures called { ClaimsJust I.does [] end.old end.new }
     ensures filled { FillsPart (Fills (FillsOne F.Fn fill.now) first) n n lo (I.sending end.old) (I.sending end.new) }
 {
     for k in 0..n {
@@ -107,7 +108,7 @@ fn fill_by<I: InPlaceInlet, F: FnMut(&mut I::Event, u64)>(
     requires within { FillsPart (λ events. FillsOn (FillsFrom F.FnMut) fill.old 0 events fill.old) 0 n lo (I.sending end.old) (I.sending end.old) }
     requires fits { lo + n < 2 ^ 64 }
     ensures kept { I.kept end.new ≡ I.kept end.old }
-    ensures called { OnlyCalled I.does end.old end.new }
+    ensures called { ClaimsJust I.does [] end.old end.new }
     ensures filled { FillsPart (λ events. FillsOn (FillsFrom F.FnMut) fill.old 0 events fill.new) n n lo (I.sending end.old) (I.sending end.new) }
     ensures callable { F.IsAlwaysCallable fill.new }
 {
@@ -217,6 +218,7 @@ impl<R: Wait + Copy, I: InPlaceInlet> LiveSender<R, I> {
         ensures called { OnlyCalled I.does self.old self.new }
         ensures sent { OnOk result (SendsAll (Fills (FillsOne F.Fn fill.now) first) part (I.sending self.old).published (I.sending self.new).published) }
         ensures claims { OnOk result (ClaimedAtOnce I.kept I.sending (length (I.sending self.old).published) part self.old self.new) }
+        ensures accepted { OnOk result (ClaimsJust I.does (part ∷ []) self.old self.new) }
         ensures refused { IfErr result (λ r. IsRefused I.kept I.sending I.does part r self.old self.new) }
     {
         let Claimed { lo, hi } = claim(&self.rt, &mut self.end, &self.bell, self.strategy, part)?;
@@ -242,8 +244,8 @@ impl<R: Wait + Copy, I: InPlaceInlet> LiveSender<R, I> {
         ensures called { OnlyCalled I.does self.old self.new }
         // So many events are published behind all that was before, each as the closure leaves it, by its number.
         ensures sent { OnOk result (SendsAll (Fills (FillsOne F.Fn fill) 0) count (I.sending self.old).published (I.sending self.new).published) }
-        // It claimed `cut` of them at once, again and again, and at last those that were left.
-        ensures claims { OnOk result (ClaimedInCuts I.kept I.sending cut count self.old self.new) }
+        // It claimed `cut` of them at once, again and again, and at last those that were left. No other claim was accepted.
+        ensures claims { OnOk result (ClaimedInCuts I.kept I.sending I.does cut count self.old self.new) }
         // The first claims were sent whole, and the next one was refused.
         ensures refused { IfErr result (λ r. StopsAfter (FillsOne F.Fn fill) I.kept I.sending I.does count cut r self.old self.new) }
     {
@@ -271,8 +273,9 @@ impl<R: Wait + Copy, I: InPlaceInlet> LiveSender<R, I> {
         ensures called { OnlyCalled I.does self.old self.new }
         // So many events are published behind all that was before, each as the closure leaves it, which goes from state to state.
         ensures sent { OnOk result (SendsAll (λ events. FillsOn (FillsFrom F.FnMut) fill.old 0 events fill.new) n (I.sending self.old).published (I.sending self.new).published) }
-        // All of them were claimed at once.
+        // All of them were claimed at once, by the only claim that was accepted.
         ensures claims { OnOk result (ClaimedAtOnce I.kept I.sending (length (I.sending self.old).published) n self.old self.new) }
+        ensures accepted { OnOk result (ClaimsJust I.does (n ∷ []) self.old self.new) }
         // A refused claim sends nothing, and calls the closure for nothing.
         ensures refused { IfErr result (λ r. IsRefused I.kept I.sending I.does n r self.old self.new × (fill.new ≡ fill.old)) }
         // You may call the closure again.
@@ -298,8 +301,8 @@ impl<R: Wait + Copy, E: Copy, I: InPlaceInlet<Event = E>> LiveSender<R, I> {
         ensures called { OnlyCalled I.does self.old self.new }
         // Just these events are published, behind all that was before.
         ensures sent { OnOk result ((I.sending self.new).published ≡ (I.sending self.old).published ++ events.now) }
-        // It claimed `cut` of them at once, again and again, and at last those that were left.
-        ensures claims { OnOk result (ClaimedInCuts I.kept I.sending cut (length events.now) self.old self.new) }
+        // It claimed `cut` of them at once, again and again, and at last those that were left. No other claim was accepted.
+        ensures claims { OnOk result (ClaimedInCuts I.kept I.sending I.does cut (length events.now) self.old self.new) }
         // The first claims were sent whole, and the next one was refused.
         ensures refused { IfErr result (λ r. StopsAfter (IsNth events.now) I.kept I.sending I.does (length events.now) cut r self.old self.new) }
     {

@@ -1,7 +1,7 @@
 //! Handlers' threads: how they are started, and what they give back.
 
-ghost use Rattle.std.specs.Prelude.{◌≡◌, ◌<◌, [], All, IfOk, OnOk, length, map};
-ghost use Rattle.dr_disruptor.specs.Serving.{AreInBatches, GaveBack, IsIdle, given_end, given_handler};
+ghost use Rattle.std.specs.Prelude.{◌≡◌, ◌<◌, [], All, IfErr, IfOk, OnOk, length, map};
+ghost use Rattle.dr_disruptor.specs.Serving.{AreInBatches, GaveBack, HaveFirst, IsIdle, given_end, given_handler};
 
 use crate::served::{Served, ServesPromise, serve};
 use crate::way::Way;
@@ -32,7 +32,7 @@ fn start_each<
     requires many { length outlets.items ≡ length handlers.items }
     requires idle { All (λ o. IsIdle (O.received o)) outlets.items }
     requires batch { 0 < way.batch }
-    ensures given { OnOk result ((map given_end started.new.items ≡ outlets.items) × (map given_handler started.new.items ≡ handlers.items)) }
+    ensures given { HaveFirst outlets.items handlers.items started.new.items × OnOk result ((map given_end started.new.items ≡ outlets.items) × (map given_handler started.new.items ≡ handlers.items)) }
     ensures batches { OnOk result (AreInBatches way.batch started.new.items) }
 {
     started.reserve(handlers.len())?;
@@ -77,6 +77,9 @@ pub fn start<
     ensures ends { IfOk result (λ workers. map given_end workers.items ≡ outlets.items) }
     ensures starts { IfOk result (λ workers. map given_handler workers.items ≡ handlers.items) }
     ensures batches { IfOk result (λ workers. AreInBatches way.batch workers.items) }
+    // Where one cannot be started, workers come back that have the first ends and handlers, in order; that none is missing
+    // you read in the code.
+    ensures begun { IfErr result (λ workers. HaveFirst outlets.items handlers.items workers.items) }
 {
     let mut started = Vec::new(alloc);
     match start_each(rt, &mut started, outlets, handlers, bell, way) {

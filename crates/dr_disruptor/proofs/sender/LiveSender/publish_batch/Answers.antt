@@ -1,9 +1,9 @@
-use Rattle.std.proofs.Common.{arith, length, refl, subst, ◌∙◌}
+use Rattle.std.proofs.Common.{◌∷◌, [], arith, length, refl, subst, ◌∙◌}
 use Rattle.dr_meaning.specs.Calls.Filling.{FillsFrom}
-use Rattle.dr_disruptor.specs.Sending.{ClaimedAtOnce, FillsOn, OnlyCalled, SendsAll}
+use Rattle.dr_disruptor.specs.Sending.{ClaimedAtOnce, ClaimsJust, FillsOn, OnlyCalled, SendsAll}
 use Rattle.dr_disruptor.proofs.Claims.{claimed_at_once}
 use Rattle.dr_disruptor.proofs.Stretches.{counted_all, filled_none, is_whole, sends}
-use Rattle.dr_disruptor.proofs.Called.{called_more, called_on}
+use Rattle.dr_disruptor.proofs.Called.{called_just, called_more, called_on, just_more, just_on}
 use Rattle.dr_disruptor.proofs.sender.LiveSender.publish_batch.Goals as goal
 
 pub fill_by-requires-clause-within : goal.fill_by-requires-clause-within
@@ -62,4 +62,13 @@ returns-clause-called g c =
     let does = g.I.InPlaceInlet.does in
     subst (λ (e : g.row.I.Denot). OnlyCalled does e c.publish.new.self) c.self.view_is
     (called_more does c.self.inside.end c.fill_by.new.end c.publish.new.self _
-    (called_on does c.self.inside.end c.claim.new.end c.fill_by.new.end c.claim.ensures.called c.fill_by.ensures.called) c.publish.ensures.called)
+    (called_on does c.self.inside.end c.claim.new.end c.fill_by.new.end c.claim.ensures.called
+    (called_just does c.claim.new.end c.fill_by.new.end [] c.fill_by.ensures.called)) c.publish.ensures.called)
+
+pub returns-clause-accepted : goal.returns-clause-accepted
+returns-clause-accepted g c =
+    let does = g.I.InPlaceInlet.does in
+    let claims = c.args.n ∷ [] in
+    subst (λ (e : g.row.I.Denot). ClaimsJust does claims e c.publish.new.self) c.self.view_is
+    (just_more does c.self.inside.end c.fill_by.new.end c.publish.new.self claims _
+    (just_on does c.self.inside.end c.claim.new.end c.fill_by.new.end claims [] c.in_ok-lo.ensures.claims c.fill_by.ensures.called) c.publish.ensures.called)

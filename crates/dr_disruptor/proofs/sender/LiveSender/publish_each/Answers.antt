@@ -17,9 +17,9 @@ loop-done-preserved g c =
       part.kept ∙ c.loop-done.invariant.1,
       sends_more (FillsOne g.F.Fn c.args.fill) 0 c.loop-done.done c.loop-done.done c.min-n.result (g.I.InPlaceInlet.sending c.args.self.now).published
           (g.I.InPlaceInlet.sending c.loop-done.self).published (g.I.InPlaceInlet.sending c.publish_part.new.self).published c.loop-done.invariant.2 (omega arith) part.sent,
-      cuts_more g.I.InPlaceInlet.kept g.I.InPlaceInlet.sending c.args.cut c.args.count c.loop-done.done c.min-n.result c.args.self.now c.loop-done.self
+      cuts_more g.I.InPlaceInlet.kept g.I.InPlaceInlet.sending g.I.InPlaceInlet.does c.args.cut c.args.count c.loop-done.done c.min-n.result c.args.self.now c.loop-done.self
           c.publish_part.new.self (Fills (FillsOne g.F.Fn c.args.fill) 0) (Fills (FillsOne g.F.Fn c.args.fill) c.loop-done.done) c.loop-done.invariant.1 size
-          c.loop-done.invariant.2 part.sent c.loop-done.invariant.3 part.claims,
+          c.loop-done.invariant.2 part.sent c.loop-done.invariant.3 part.claims part.accepted,
       called_on g.I.InPlaceInlet.does c.args.self.now c.loop-done.self c.publish_part.new.self c.loop-done.invariant.4 c.publish_part.ensures.called,
     )
 
@@ -28,7 +28,7 @@ loop-done-init g c = (
   omega arith,
   refl,
   sends_none (Fills (FillsOne g.F.Fn c.args.fill) 0) (g.I.InPlaceInlet.sending c.args.self.now).published tt,
-  cuts_none g.I.InPlaceInlet.kept g.I.InPlaceInlet.sending c.args.cut c.args.count c.args.self.now,
+  cuts_none g.I.InPlaceInlet.kept g.I.InPlaceInlet.sending g.I.InPlaceInlet.does c.args.cut c.args.count c.args.self.now,
   called_none g.I.InPlaceInlet.does c.args.self.now,
 )
 

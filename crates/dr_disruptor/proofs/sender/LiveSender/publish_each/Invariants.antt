@@ -8,7 +8,7 @@ invariant-loop-done g l =
     (l.done ≤ l.count)
     × (g.I.InPlaceInlet.kept l.self ≡ g.I.InPlaceInlet.kept l.fn.self)
     × SendsAll (Fills (FillsOne g.F.Fn l.fill) 0) l.done (g.I.InPlaceInlet.sending l.fn.self).published (g.I.InPlaceInlet.sending l.self).published
-    × ClaimedInCuts g.I.InPlaceInlet.kept g.I.InPlaceInlet.sending l.cut l.count l.fn.self l.self
+    × ClaimedInCuts g.I.InPlaceInlet.kept g.I.InPlaceInlet.sending g.I.InPlaceInlet.does l.cut l.count l.fn.self l.self
     × OnlyCalled g.I.InPlaceInlet.does l.fn.self l.self
 
 abbrev pub decreases-loop-done : goal.decreases-loop-done
