@@ -9,7 +9,8 @@
  *
  * What you owe. Of these nothing can be checked, so a program that breaks one of them is undefined:
  *   - A handle is all zeros before it is first opened (DISRUPTOR_NEW), only calls change it, and it is never copied: its
- *     bytes may go elsewhere if the old ones are not used again. It may lie where you like.
+ *     bytes may go elsewhere if the old ones are not used again. It may lie wherever its type may: it is aligned to 128 bytes, so
+ *     memory for it, or for what it is part of, is that of aligned_alloc(128, ..) and not of malloc.
  *   - One call at a time has a handle. An open handle may go from one thread to another by what orders the two: a thread's
  *     start or join, a lock, or an atomic of sequential consistency. Handles of one ring may be used at the same time.
  *   - A pointer that is neither null nor misaligned points to as much as the call says, which no other pointer of the call, no
@@ -332,7 +333,7 @@ static inline uint32_t disruptor_halt(disruptor_halter *halter) {
 /* Says in *count how far the senders came: of one how many events it published, of several how many sequences they claimed. Any
  * thread may ask at any time, as of the calls of a halter one at a time. It is what the ring's word held at a moment of the call, and
  * never less than an earlier call said. Refusals: BAD_POINTER (of either), NOT_OPEN, WRONG_END (also the halter of a ring of one sender
- * whose events are two words); then *count stays as it was. */
+ * whose events are two words: there the thread of each end asks disruptor_progress); then *count stays as it was. */
 static inline uint32_t disruptor_cursor(disruptor_halter *halter, uint64_t *count) {
     return disruptor_cursor_at(DISRUPTOR_ONE(disruptor_halter, halter), DISRUPTOR_ONE(uint64_t, count));
 }
@@ -541,16 +542,39 @@ static inline uint32_t disruptor_claim_within(disruptor_sender *sender, uint64_t
     }
 }
 
+/* Whether a poll has its answer: it is refused, or was told other than GATING or IDLE, or the time is over. Else it waits. */
+static inline bool disruptor_is_answered(uint32_t refused, const disruptor_offer *offer, disruptor_waiting *waiting,
+                                         uint64_t nanoseconds, uint64_t *begun) {
+    if (refused) return true;
+    if (offer->kind == DISRUPTOR_BATCH) disruptor_found(waiting, offer->count);
+    return offer->kind == DISRUPTOR_BATCH || offer->kind == DISRUPTOR_DRAINED || disruptor_is_over(waiting, nanoseconds, begun);
+}
+
 /* disruptor_poll_slots, made again while it is told GATING or IDLE, as long as that. */
 static inline uint32_t disruptor_poll_slots_within(disruptor_receiver *receiver, uint64_t room, disruptor_offer *offer,
                                                    disruptor_waiting *waiting, uint64_t nanoseconds) {
     uint64_t begun = 0;
     for (;;) {
         const uint32_t refused = disruptor_poll_slots(receiver, room, offer);
-        if (refused) return refused;
-        if (offer->kind == DISRUPTOR_BATCH) disruptor_found(waiting, offer->count);
-        if (offer->kind == DISRUPTOR_BATCH || offer->kind == DISRUPTOR_DRAINED) return refused;
-        if (disruptor_is_over(waiting, nanoseconds, &begun)) return refused;
+        if (disruptor_is_answered(refused, offer, waiting, nanoseconds, &begun)) return refused;
+    }
+}
+
+/* The same of disruptor_poll, for events of two words, and of disruptor_poll_bytes. */
+static inline uint32_t disruptor_poll_within(disruptor_receiver *receiver, disruptor_event *events, size_t room, disruptor_offer *offer,
+                                             disruptor_waiting *waiting, uint64_t nanoseconds) {
+    uint64_t begun = 0;
+    for (;;) {
+        const uint32_t refused = disruptor_poll(receiver, events, room, offer);
+        if (disruptor_is_answered(refused, offer, waiting, nanoseconds, &begun)) return refused;
+    }
+}
+static inline uint32_t disruptor_poll_bytes_within(disruptor_receiver *receiver, uint64_t room, disruptor_offer *offer,
+                                                   disruptor_waiting *waiting, uint64_t nanoseconds) {
+    uint64_t begun = 0;
+    for (;;) {
+        const uint32_t refused = disruptor_poll_bytes(receiver, room, offer);
+        if (disruptor_is_answered(refused, offer, waiting, nanoseconds, &begun)) return refused;
     }
 }
 

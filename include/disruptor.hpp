@@ -57,6 +57,9 @@ class waiting {
 public:
     explicit waiting(std::uint64_t room, disruptor::bell bell = nullptr) noexcept
         : bell_(std::move(bell)), state_(disruptor_waits_by(room, bell_.get())) {}
+    // (one that is moved from still has its bell)
+    waiting(const waiting &) noexcept = default;
+    waiting &operator=(const waiting &) noexcept = default;
     void wait() noexcept { disruptor_wait(&state_); }
     void found(std::uint64_t count) noexcept { disruptor_found(&state_, count); }
     // The same after a claim of so many events.
@@ -365,6 +368,16 @@ protected:
         complete(upto);
         return shown;
     }
+    // Polls until there are events, or none come any more, or the time is up, or it is at its cut: what it finds then may be none.
+    template <typename Poll>
+    [[nodiscard]] offer poll_until(std::chrono::steady_clock::time_point end, waiting &how, Poll &&poll) {
+        for (;;) {
+            const std::uint64_t at = cut();
+            const offer found = poll();
+            if (found.kind == DISRUPTOR_BATCH) how.found(found.count);
+            if (found.kind == DISRUPTOR_BATCH || found.kind == DISRUPTOR_DRAINED || has_come_to(at) || how.is_over(end)) return found;
+        }
+    }
     // Takes turns until the ring is drained, and sleeps while none comes. It answers false where it came to its cut.
     template <typename Turn>
     [[nodiscard]] bool take_turns(std::uint64_t room, Turn &&turn) {
@@ -406,6 +419,11 @@ public:
         check(disruptor_poll(get(), events, room, &found));
         return polled(found);
     }
+    // The same, once there are events: what it finds when the time is up, or at its cut where a handler that it follows went away, may
+    // be none. It may take ten milliseconds more, where it sleeps.
+    [[nodiscard]] offer poll_for(std::chrono::nanoseconds time, event *events, std::size_t room, waiting &how) {
+        return poll_until(end_of(time), how, [&] { return poll(events, room); });
+    }
     // Hands each event to `handle(event, sequence, is_last_of_batch)` until the ring is drained, and sleeps while none comes.
     template <typename Handler>
     void run(std::size_t room, Handler &&handle) {
@@ -443,6 +461,11 @@ public:
         check(disruptor_poll_bytes(get(), room, &found));
         return polled(found);
     }
+    // The same, once there are events: what it finds when the time is up, or at its cut where a handler that it follows went away, may
+    // be none. It may take ten milliseconds more, where it sleeps.
+    [[nodiscard]] offer poll_for(std::chrono::nanoseconds time, std::uint64_t room, waiting &how) {
+        return poll_until(end_of(time), how, [&] { return poll(room); });
+    }
     // An event that was taken and not completed.
     [[nodiscard]] T read(std::uint64_t sequence) {
         T what;
@@ -465,13 +488,14 @@ public:
         if (!shared_) throw refusal(DISRUPTOR_NOT_OPEN);
         shared_->halt();
     }
-    // How many events the sender published, or several claimed, of a ring of slots or bytes.
-    [[nodiscard]] std::uint64_t cursor() {
+    // How many events the sender published, or several claimed. Of one sender of two words this and `completed` are refused, wrong-end:
+    // there each end says by `progress` how far it came, on its own thread.
+    [[nodiscard]] std::uint64_t cursor() const {
         if (!shared_) throw refusal(DISRUPTOR_NOT_OPEN);
         return shared_->cursor();
     }
     // How many events a handler completed.
-    [[nodiscard]] std::uint64_t completed(std::size_t handler) {
+    [[nodiscard]] std::uint64_t completed(std::size_t handler) const {
         if (!shared_) throw refusal(DISRUPTOR_NOT_OPEN);
         return shared_->completed(handler);
     }

@@ -75,8 +75,8 @@ slots<T> &slots_of(const shared_slots<T> &all) {
     return **all;
 }
 
-// An end that fills events and publishes them. What a filler throws passes, once what lies in its slots is published. A filler that
-// publishes by the same end is refused with open-claim.
+// An end that fills events and publishes them, for one thread at a time: two at once are undefined. What a filler throws passes, once
+// what lies in its slots is published. A filler that publishes by the same end is refused with open-claim.
 template <typename T>
 class sender_in_place : public sending {
 public:
@@ -181,13 +181,8 @@ public:
     // be none. It may take ten milliseconds more, where it sleeps.
     template <typename Handler>
     offer receive_for(std::chrono::nanoseconds time, std::uint64_t room, Handler &&handle) {
-        const auto end = end_of(time);
         waiting how = waits(slots_of(slots_).size());
-        for (;;) {
-            const std::uint64_t at = this->cut();
-            const offer found = receive(room, handle);
-            if (found.kind == DISRUPTOR_BATCH || found.kind == DISRUPTOR_DRAINED || this->has_come_to(at) || how.is_over(end)) return found;
-        }
+        return poll_until(end_of(time), how, [&] { return receive(room, handle); });
     }
     // The same until the ring is drained; it sleeps while none comes. It throws `broken` at its cut, where a handler that it follows
     // went away.
@@ -286,7 +281,7 @@ private:
     std::exception_ptr what_;
 };
 
-// A handler of a graph has a thread; the first that throws halts the ring.
+// A handler of a graph has a thread; the first that throws, or ends its thread, halts the ring.
 class handlers {
 public:
     handlers() = default;
@@ -303,10 +298,10 @@ public:
             try {
                 work(own);
             } catch (...) {
-                const std::exception_ptr what = std::make_exception_ptr(handler_failed(name, std::current_exception()));
-                own.fail(what);
-                const std::lock_guard<std::mutex> lock(failed.mutex);
-                if (!failed.what) failed.what = what;
+                const std::exception_ptr thrown = std::current_exception();
+                failed.note(name, thrown ? thrown : std::make_exception_ptr(std::runtime_error("it ended its own thread")), own);
+                // (what is no exception is pthread_exit or pthread_cancel, and a program that keeps one from going on is aborted)
+                if (!thrown) throw;
             }
         });
     }
@@ -336,6 +331,13 @@ private:
 #endif
     }
     struct failure {
+        // Notes what ended a handler, for its ring and for who finishes it.
+        void note(const std::string &name, const std::exception_ptr &thrown, receiving &end) {
+            const std::exception_ptr failed = std::make_exception_ptr(handler_failed(name, thrown));
+            end.fail(failed);
+            const std::lock_guard<std::mutex> lock(mutex);
+            if (!what) what = failed;
+        }
         std::mutex mutex;
         std::exception_ptr what;
     };
@@ -345,8 +347,8 @@ private:
 };
 
 // A ring of one sender whose handlers run. When it is finished or goes away the ring is closed, and it waits until each handler had
-// every event. One thread uses it, but any may halt it or ask what is completed. Its sender cannot be moved out of it, since the handlers
-// end once that closes the ring.
+// every event. One thread at a time publishes by it, else it is undefined; any may halt it or ask how far it is. Its sender cannot be moved
+// out of it, since the handlers end once that closes the ring.
 template <typename T>
 class running : private sender_in_place<T> {
 public:
@@ -364,6 +366,8 @@ public:
     // (its sender leaves first, since the threads are joined before that goes away)
     ~running() { this->leave(); }
     void halt() { halter_.halt(); }
+    // How many events are published. Any thread may ask that at any time.
+    [[nodiscard]] std::uint64_t cursor() const { return halter_.cursor(); }
     // How many events the handler with this name completed, or nothing where none has it. Any thread may ask that at any time.
     [[nodiscard]] std::optional<std::uint64_t> completed(const std::string &name) const { return threads_.completed(name); }
     // Closes the ring and joins all threads; throws handler_failed where a handler threw, of several that of the first. One that goes away
@@ -394,6 +398,11 @@ public:
     void halt() {
         if (!halter_) throw refusal(DISRUPTOR_NOT_OPEN);
         halter_->halt();
+    }
+    // How many sequences are claimed. Any thread may ask that at any time.
+    [[nodiscard]] std::uint64_t cursor() const {
+        if (!halter_) throw refusal(DISRUPTOR_NOT_OPEN);
+        return halter_->cursor();
     }
     [[nodiscard]] std::optional<std::uint64_t> completed(const std::string &name) const { return threads_.completed(name); }
     // Waits until each sender that was moved out is gone, or the ring is halted, and then until each handler had every event that was

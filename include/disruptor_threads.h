@@ -8,7 +8,11 @@
  *   uint32_t refused = disruptor_start(&graph);
  *
  * One thread at a time uses a graph, from the start to the end: you may pass it to another by a start, a join or a lock. Any thread may
- * call disruptor_stop at any time, and disruptor_completed from the start to the end. The graph stays where it is meanwhile. */
+ * call disruptor_stop at any time, and disruptor_sent and disruptor_completed from the start to the end. The graph stays where it is
+ * meanwhile: its type is aligned to 128 bytes, so memory for it is that of aligned_alloc(128, ..) and not of malloc. */
+#ifdef __cplusplus
+#error "disruptor_threads.h is for C: take the builder of disruptor_slots.hpp"
+#endif
 #ifndef DISRUPTOR_THREADS_H
 #define DISRUPTOR_THREADS_H
 
@@ -72,8 +76,6 @@ typedef struct disruptor_graph {
                        sizeof *(array))
 #ifndef __GNUC__
 #define DISRUPTOR_IS_ARRAY(it) true
-#elif defined(__cplusplus)
-#define DISRUPTOR_IS_ARRAY(it) (!__is_same(__typeof__(it), __typeof__(&*(it))))
 #else
 #define DISRUPTOR_IS_ARRAY(it) (!__builtin_types_compatible_p(__typeof__(it), __typeof__(&*(it))))
 #endif
@@ -159,6 +161,15 @@ static inline void *disruptor_slot(disruptor_graph *graph, uint64_t sequence) {
 static inline uint64_t disruptor_completed(const disruptor_graph *graph, const char *name) {
     const size_t k = disruptor_place_of(graph, name, strlen(name));
     return k < graph->handlers ? __atomic_load_n(&graph->works[k].completed, __ATOMIC_ACQUIRE) : 0;
+}
+
+/* How many events are published. Any thread may ask that from the start to the end; before and after it is 0. */
+static inline uint64_t disruptor_sent(disruptor_graph *graph) {
+    uint64_t count = 0;
+    pthread_mutex_lock(&graph->lock);
+    disruptor_cursor(&graph->halter, &count);
+    pthread_mutex_unlock(&graph->lock);
+    return count;
 }
 
 /* Halts the ring from any thread, at any time: before the start and after the end there is none to halt. */

@@ -158,6 +158,18 @@ class Halter(End):
     def halt(self):
         self.call("halt")
 
+    def cursor(self):
+        """Returns how many events the one sender published, or how many sequences several claimed."""
+        count = ctypes.c_uint64()
+        self.call("cursor", ctypes.byref(count), 1)
+        return count.value
+
+    def completed(self, handler):
+        """Returns how many events a handler completed."""
+        count = ctypes.c_uint64()
+        self.call("completed", handler, ctypes.byref(count), 1)
+        return count.value
+
 
 def open(path, size, upstreams, limit=MAX_LIMIT):
     """Opens a ring, and returns its sender, its receivers and its halter."""

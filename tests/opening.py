@@ -8,15 +8,14 @@ nothing should run beside it. The script prints a line for each failure, and the
 """
 
 import os
-import shutil
 import sys
 import tempfile
 
 sys.dont_write_bytecode = True
 HERE = os.path.dirname(os.path.abspath(__file__))
 sys.path += [HERE, os.path.join(HERE, "hostile")]
+from browser import NARROW, Browser, browser_here  # noqa: E402
 from run import Bench  # noqa: E402
-from show import BROWSERS, told_by  # noqa: E402
 
 ROUNDS = "".join(f"claim,0,1\nwrite,0,{k},{k}\npublish,0,{k},{k}\npoll,a,1\ncomplete,a,{k + 1}\n" for k in range(400))
 RECORDS = f"ring,64,single\nwith,a\nstart\n{ROUNDS}"
@@ -27,13 +26,20 @@ OPENS = """<script>
 const height = document.body.offsetHeight, took = performance.now(), seen = $("lines").children.length;
 while ($("lines").children.length < records.length) addRest();
 const lines = [...$("lines").children].map((it) => Number(it.textContent.match(/^\\d+/))), all = records.map((it) => it.record);
-document.body.innerHTML = `<pre id=told>${JSON.stringify({ took, seen, lines, all })}</pre>`;
+window.told = { took, seen, lines, all };
 </script>"""
 
 
-def look(bench, browser):
+def opened(path, page):
+    """What a page tells that is the first in a new browser."""
+    with tempfile.TemporaryDirectory(prefix="opening-", ignore_cleanup_errors=True) as folder, Browser(path, folder) as browser:
+        browser.open(page.replace(b"</body>", OPENS.encode() + b"</body>"), size=NARROW)
+        return browser.tell("window.told")
+
+
+def look(bench, path):
     page = bench.run("show", bench.file("long.csv", RECORDS.encode())).out
-    told = [told_by(bench, browser, page, OPENS) for _ in range(TIMES)]
+    told = [opened(path, page) for _ in range(TIMES)]
     bench.judge("how many pages opened", sum(it is not None for it in told), TIMES)
     best = min((it["took"] for it in told if it), default=MOST_MILLISECONDS)
     bench.judge(f"whether {best:.0f} milliseconds to open 2,000 steps are few", best < MOST_MILLISECONDS, True)
@@ -44,13 +50,13 @@ def look(bench, browser):
 
 
 def main():
-    browser = next(filter(None, map(shutil.which, BROWSERS)), None)
-    if not browser:
+    path = browser_here()
+    if not path:
         print("not here, and skipped: a browser")
         return 0
     with tempfile.TemporaryDirectory(prefix="opening-") as folder:
         bench = Bench(os.path.abspath(sys.argv[1]), folder)
-        look(bench, browser)
+        look(bench, path)
     print(f"openings: {bench.cases} looks, {bench.failed} failed")
     return 1 if bench.failed else 0
 

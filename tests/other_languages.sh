@@ -126,6 +126,16 @@ java_home() {
     [ -x "$javac" ] && [ -f "$home/include/jni.h" ] && printf '%s' "$home"
 }
 
+# The home of a Java whose own calls of foreign functions are tried too, from 22 on: JAVA22_HOME, the one in use, or another one here.
+java22_home() {
+    local home
+    for home in ${JAVA22_HOME:+"$JAVA22_HOME"} $(java_home) /usr/lib/jvm/*; do
+        [ -x "$home/bin/javac" ] && [ "$("$home/bin/javac" -version 2>&1 | sed 's/[^0-9]*\([0-9]*\).*/\1/')" -ge 22 ] &&
+            printf '%s' "$home" && return
+    done
+    return 1
+}
+
 # Builds and tests a package, which says by its status whether it passed.
 package() { # NAME COMMAND..
     local name=$1
@@ -137,13 +147,36 @@ package() { # NAME COMMAND..
     fi
 }
 
+# Runs `make install-lib` where the library is, beside a copy of the sources: `-o lib` spares its proof, which may have been elsewhere.
+install_lib() { # WORD..
+    local from=$room/from
+    rm -rf "$from" && mkdir -p "$from/crates" "$from/bindings" "$from/out" && cp -r "$top/bindings/cpp" "$from/bindings" &&
+        cp -r "$top/Makefile" "$top/include" "$top/tools" "$from" && cp -P "$library"/libdisruptor.* "$library/disruptor.pc" "$from/out" &&
+        env -u MAKEFLAGS make -C "$from" -o lib install-lib "$@"
+}
+
+# What is installed is found by pkg-config, for a program in C and one in C++; before the prefix may stand a folder that it does not name.
+test_installed() {
+    local prefix=$room/found language
+    export PKG_CONFIG_PATH=$prefix/lib/pkgconfig
+    install_lib PREFIX=/opt/it DESTDIR="$room/staged" && grep -x 'prefix=/opt/it' "$room/staged/opt/it/lib/pkgconfig/disruptor.pc" &&
+        install_lib PREFIX="$prefix" && [ "$(pkg-config --variable=libdir disruptor)" = "$prefix/lib" ] || return 1
+    for language in c cpp; do
+        local compiler=(c++ -std=c++17)
+        [ $language != c ] || compiler=(cc -std=c11)
+        has "${compiler[0]}" $language || continue
+        sed -n "/^\`\`\`$language\$/,/^\`\`\`\$/p" "$top/bindings/$language/README.md" | sed '1d;$d' > "$room/found.$language"
+        # shellcheck disable=SC2046
+        "${compiler[@]}" -o "$room/found_$language" "$room/found.$language" $(pkg-config --cflags --libs disruptor) -lpthread &&
+            LD_LIBRARY_PATH=$prefix/lib prints 'each handler had every order' "$room/found_$language" || return 1
+    done
+}
+
 # Its tests, and a program that finds what is installed.
 test_cpp() {
     local prefix=$room/prefix
     cmake -S "$top/bindings/cpp" -B "$room/cmake" -DDISRUPTOR_LIB="$library" && cmake --build "$room/cmake" &&
-        ctest --test-dir "$room/cmake" --output-on-failure --timeout 120 &&
-        mkdir -p "$prefix/lib/cmake/disruptor" "$prefix/include" && cp -P "$library"/libdisruptor.* "$prefix/lib" &&
-        cp "$top"/include/* "$prefix/include" && cp "$top"/bindings/cpp/*.cmake "$prefix/lib/cmake/disruptor" &&
+        ctest --test-dir "$room/cmake" --output-on-failure --timeout 120 && install_lib PREFIX="$prefix" &&
         cmake -S "$top/bindings/cpp/tests/installed" -B "$room/installed" -DCMAKE_PREFIX_PATH="$prefix" &&
         cmake --build "$room/installed" && ctest --test-dir "$room/installed" --output-on-failure --timeout 120
 }
@@ -174,13 +207,16 @@ test_python() {
         prints 'each handler had every record' "$1" "$top/examples/python/records.py"
 }
 
-# (JAVA22_HOME may name a Java whose own calls of foreign functions are tried too)
 test_java() {
-    local classes=$room/tests_of_java jar=$room/packages/disruptor.jar home run
+    local classes=$room/tests_of_java jar=$room/packages/disruptor.jar homes=("$java") home run
+    if [ -n "$JAVA22_HOME" ]; then
+        [ "$JAVA22_HOME" = "$java" ] || homes+=("$JAVA22_HOME")
+        python3 -m zipfile -l "$jar" | grep 'META-INF/versions/22/.*/Native.class' || return 1
+    fi
     mkdir -p "$classes" && sed -n '/^```java$/,/^```$/p' "$top/bindings/java/README.md" | sed '1d;$d' > "$classes/Orders.java" &&
         "$java/bin/javac" --release 11 -cp "$jar" -d "$classes" "$classes/Orders.java" "$top"/bindings/java/src/test/java/*.java \
             "$top"/examples/java/*.java || return 1
-    for home in "$java" ${JAVA22_HOME:+"$JAVA22_HOME"}; do
+    for home in "${homes[@]}"; do
         run=("$home/bin/java" -Xmx64m -cp "$jar:$classes")
         prints 'each test passed' "${run[@]}" -Xcheck:jni RingTest && prints 'each handler had every order' "${run[@]}" Orders &&
             prints "$told" "${run[@]}" Ends && prints "$all" "${run[@]}" Senders || return 1
@@ -239,6 +275,8 @@ build_packages() {
     mkdir -p "$room/packages" && cp -P "$library"/libdisruptor.* "$library/disruptor.pc" "$room/packages" && "$top/tools/packages.sh" "$room/packages"
 }
 
+JAVA22_HOME=$(java22_home)
+export JAVA22_HOME
 package 'each language: the versions' test_versions
 package 'Python and Java: the build' build_packages
 if has cc c; then
@@ -247,10 +285,17 @@ if has cc c; then
 fi
 if command -v groff > "$room/null" 2>&1; then package 'C: the man pages' test_man_pages; else skip 'the man pages'; fi
 if has c++ cpp && command -v cmake > "$room/null" 2>&1; then package C++ test_cpp; else skip 'the package for C++'; fi
+if command -v make > "$room/null" 2>&1 && command -v pkg-config > "$room/null" 2>&1; then
+    package 'C and C++: what is installed' test_installed
+else
+    skip 'what is installed, by pkg-config'
+fi
 if command -v cargo > "$room/null" 2>&1; then package Rust test_rust; else skip 'the crate for Rust'; fi
 if ls "$room"/packages/*.whl > "$room/null" 2>&1; then package Python test_python python3; else skip 'the package for Python'; fi
+python3 -c 'import numpy' > "$room/null" 2>&1 || skip 'numpy over records of Python'
 if [ -f "$room/packages/disruptor.jar" ] && java=$(java_home); then
     package Java test_java
+    [ -n "$JAVA22_HOME" ] || skip 'the package for Java by its own calls of foreign functions, of a JDK from 22 on'
     if has_maven; then package 'Java by Maven' test_maven; else skip 'the package for Java by Maven'; fi
 else
     skip 'the package for Java'

@@ -5,6 +5,7 @@
 
 Every run is of one sender or of several, of events of two words, of bytes or in slots, of a graph, a size, a limit and calls of its
 own, by the seeds FIRST, FIRST + 1 and so on. The first ones, one of each kind, have 16 handlers, each of which follows all before it.
+After each call the halter says how far the ring is, as `drive --state` does, but that of one sender of two words.
 Many calls are refused. A ring of one sender says that it drained only once it is closed, so a run halts at its end, where all that is
 claimed is published.
 
@@ -18,6 +19,7 @@ import struct
 import subprocess
 import sys
 import tempfile
+from functools import partial
 
 sys.dont_write_bytecode = True
 TOP = os.path.dirname(os.path.dirname(os.path.abspath(__file__)))
@@ -63,7 +65,7 @@ class Exchange:
         self.records = [f"ring,{self.size},{mode}", f"limit,{self.limit}", "with," + ",".join(f"h{k}" for k in range(handlers))]
         self.records += [f"edge,h{up},h{k}" for k in range(handlers) for up in range(k) if masks[k] >> up & 1]
         self.records += ["start"]
-        self.replies = []
+        self.replies, self.told = [], []
 
     def call(self, record, line, call, *arguments):
         """Makes a call, and notes its record and what `drive` says of it. Returns the answer, or None where it was refused."""
@@ -71,10 +73,24 @@ class Exchange:
         try:
             answer = call(*arguments)
         except library_calls.Refusal as refusal:
-            self.replies.append(f"refused {refusal.number} {refusal}")
+            self.note(f"refused {refusal.number} {refusal}")
             return None
-        self.replies.append(line(answer))
+        self.note(line(answer))
         return answer
+
+    def note(self, reply):
+        """Notes a reply, and what the halter says then: the cursor, and how many events each handler completed."""
+        self.replies.append(reply)
+        asked = [self.halter.cursor, *(partial(self.halter.completed, k) for k in range(len(self.receivers)))]
+        self.told.append([number_or_refusal(it) for it in asked])
+
+    def wanted_of(self, state):
+        """What the halter has to say where `drive --state` says this."""
+        _, _, claimed, _, published, _, _, *handlers = state.split()
+        completed = dict(zip(handlers[::3], handlers[2::3]))
+        counts = [published if self.is_single else claimed, *(completed[f"h{k}"] for k in range(len(self.receivers)))]
+        tells = self.is_of_bytes or self.is_of_slots or not self.is_single
+        return [int(it) if tells else "wrong-end" for it in counts]
 
     def near(self, count):
         """A number that is mostly near one that matters, and rarely far from all."""
@@ -171,7 +187,7 @@ class Exchange:
         else:
             self.halter.halt()
         self.records.append("halt")
-        self.replies.append("halting")
+        self.note("halting")
         self.claim(0, 1)
         for k in range(len(self.receivers)):
             self.poll(k, 3)
@@ -181,13 +197,41 @@ class Exchange:
             self.complete(k, self.taken[k])
 
 
+def number_or_refusal(call):
+    """What a call returns, or the name of what it is refused with."""
+    try:
+        return call()
+    except library_calls.Refusal as refusal:
+        return str(refusal)
+
+
 def said(program, records, folder):
-    """Returns what `drive` says of records."""
+    """Returns what `drive` says of records, and its states."""
     path = os.path.join(folder, "calls.csv")
     with open(path, "w", encoding="utf-8") as file:
         file.write("".join(f"{it}\n" for it in records))
-    ran = subprocess.run([program, "drive", path], stdout=subprocess.PIPE, stderr=subprocess.PIPE, timeout=60, check=False)
-    return ran.stdout.decode().splitlines() + ran.stderr.decode().splitlines()
+    words = [program, "drive", "--state", path]
+    ran = subprocess.run(words, stdout=subprocess.PIPE, stderr=subprocess.PIPE, timeout=60, check=False)
+    lines = ran.stdout.decode().splitlines() + ran.stderr.decode().splitlines()
+    return [it for it in lines if not it.startswith("state ")], [it for it in lines if it.startswith("state ")]
+
+
+def first_other(some, others):
+    """Where two lists differ first, or at the end of the first one."""
+    return next((k for k, (one, other) in enumerate(zip(some, others)) if one != other), len(some))
+
+
+def fault_of(exchange, replies, states):
+    """What C says other than `drive`, or None."""
+    made = exchange.records[len(exchange.records) - len(exchange.replies) :]
+    if replies != exchange.replies:
+        at = first_other(replies, exchange.replies)
+        return f"{made[at : at + 1]}: C says {exchange.replies[at : at + 1]}, drive {replies[at : at + 1]}"
+    told = [exchange.wanted_of(it) for it in states]
+    if told != exchange.told:
+        at = first_other(told, exchange.told)
+        return f"after {made[at : at + 1]} the halter says {exchange.told[at : at + 1]}, and drive {states[at : at + 1]}"
+    return None
 
 
 def main():
@@ -205,17 +249,15 @@ def main():
             as_far = exchange.goes_as_far()
             exchange.end()
             as_far = exchange.goes_as_far() and as_far
-            wanted = said(program, exchange.records, folder)
+            fault = fault_of(exchange, *said(program, exchange.records, folder))
             calls += len(exchange.replies)
             refused += sum(it.startswith("refused") for it in exchange.replies)
             if not as_far:
                 failed += 1
                 print(f"FAILED: seed {seed}: an end does not say how far it came")
-            elif wanted != exchange.replies:
+            elif fault:
                 failed += 1
-                at = next((k for k, (one, other) in enumerate(zip(wanted, exchange.replies)) if one != other), len(wanted))
-                made = exchange.records[len(exchange.records) - len(exchange.replies) + at]
-                print(f"FAILED: seed {seed}: {made}: C says {exchange.replies[at:at + 1]}, drive {wanted[at:at + 1]}")
+                print(f"FAILED: seed {seed}: {fault}")
     print(f"over C and by drive: {runs} runs, {calls} calls, {refused} of them refused, {failed} failed")
     sys.exit(failed > 0)
 

@@ -44,7 +44,7 @@ ONCE = (
     "tests/instructions.py disruptor_bench disruptor",
     "tests/hostile/leaks.py disruptor_hostile",
 )
-OF_SCRIPTS = ("tests/wrong_bodies_test.py", "tests/scripts_test.py")
+OF_SCRIPTS = ("tests/wrong_bodies_test.py", "tests/scripts_test.py", "tests/show_test.py")
 # What keeps something from run to run.
 KEEPS = ("tests/library.py",)
 # How the last line of a script ends, and how that of one begins which tried nothing, since it cannot.

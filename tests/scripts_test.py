@@ -1,6 +1,6 @@
 #!/usr/bin/env python3
 """Tests of `scripts.py`, `hostile/leaks.py` and `steps_in_laws.sh`: which scripts pass, by what they say, which builds are tried, which cases
-of calls, and which lines of a source."""
+of calls, and which lines of a source, by what is said of them."""
 
 import contextlib
 import glob
@@ -50,22 +50,37 @@ LOST = {
     ("disruptor_hostile.by-rattle",): ([""], 1),
     ("disruptor_waits",): ([".by-rattle"], 1),
 }
-# Lines that a source may not have: steps of a ring outside its laws, a step in a crate below that stands there already, and what an end
-# that is freed does more.
-PLANTED = {
-    "dr_runs/src/words.rt": "    words.load::<Brand>(seat, word);",
-    "dr_cells/src/row.rt": "    let look = AtomicU64::load;",
-    "dr_lent/src/slots.rt": "    words.exchange(seat, slot, token);",
-    "dr_places/src/places.rt": "        shared.store::<Tells>(&mut seat, place, LEFT);",
-    "dr_disruptor/src/running.rt": "    ring.table.shared.fetch_add::<Brand>(seat, 0, 1);",
-    "dr_ring/src/sender.rt": "        self.words.load::<Brand>(&mut self.seat, 0);",
-    "dr_ring/src/receiver.rt": "impl Drop for Receiver {",
-    "dr_c/src/end.rt": "impl Drop for End {",
-    "dr_plain/src/sender.rt": "        words.swap::<Brand>(&mut self.seat, 0, 1);",
-    "dr_plain_senders/src/polling.rt": "    settling::unite(words, seat, other);",
-    "dr_plain_senders/src/sender.rt": "    let one = words.fetch_max(seat, Ordering::Relaxed);",
-}
-FREES = {"dr_c/src/lib.rt": ("    opening::free_all(", "    calls::halt(alloc, &mut handles[0]);\n    opening::free_all(")}
+# What `steps_in_laws.sh` says first of a source that may not be.
+NO_STEP = "a load or store that is no step of the laws"
+OUTSIDE = "steps outside a ring"
+ORDERING = "an ordering that is not sequentially consistent"
+MORE_THAN_LEAVES, NOT_SIX = "an end that is dropped does more", "of six ends that may be dropped"
+OVER_WORDS, MORE_THAN_DROPPED = "an end over words, or one that C holds", "an end that is freed does more"
+LEAVES = "        drop(ring.senders.leave(0, left));"
+# Such sources: a line that comes last, or one in place of another, and what is said of it.
+PLANTED = [
+    ("dr_runs/src/words.rt", "    words.load::<Brand>(seat, word);", OUTSIDE),
+    ("dr_cells/src/row.rt", "    let look = AtomicU64::load;", OUTSIDE),
+    ("dr_lent/src/slots.rt", "    words.exchange(seat, slot, token);", OUTSIDE),
+    ("dr_places/src/places.rt", "        shared.store::<Tells>(&mut seat, place, LEFT);", OUTSIDE),
+    ("dr_places/src/places.rt", ("shared.store::<Tells>(&mut seat, place, LEFT);", ""), OUTSIDE),
+    ("dr_disruptor/src/running.rt", "    ring.table.shared.fetch_add::<Brand>(seat, 0, 1);", OUTSIDE),
+    ("dr_ring/src/sender.rt", "        self.words.load::<Brand>(&mut self.seat, 0);", NO_STEP),
+    ("dr_ring/src/laws/sender.rt", "    fn untold() {\n        words.store::<Brand>(seat, 0, 1);", NO_STEP),
+    ("dr_ring/src/laws/halter.rt", "    // HasLoaded\n    fn twice() { words.load(seat, 0); words.load(seat, 1); }", NO_STEP),
+    ("dr_plain/src/laws/sender.rt", "    then = { Loads (λ found. found) }", NO_STEP),
+    ("dr_plain/src/sender.rt", "        words.swap::<Brand>(&mut self.seat, 0, 1);", NO_STEP),
+    ("dr_plain_senders/src/sender.rt", "    let one = words.fetch_max(seat, 0, 1);", NO_STEP),
+    ("dr_plain_senders/src/polling.rt", "    settling::unite(words, seat, other);", NO_STEP),
+    ("dr_workers/src/bell.rt", "        let seen = self.word.load(Ordering::Relaxed);", ORDERING),
+    ("dr_workers/src/bell.rt", "    let both = (Ordering::SeqCst, Ordering::Relaxed);", ORDERING),
+    ("dr_workers/src/bell.rt", "use std::sync::atomic::Ordering as Order;", ORDERING),
+    ("dr_plain/src/sender.rt", (LEAVES, f"        ring.halt();\n{LEAVES}"), MORE_THAN_LEAVES),
+    ("dr_plain/src/receiver.rt", ("Drop for Receiver<T>", "Drop for Received<T>"), NOT_SIX),
+    ("dr_ring/src/receiver.rt", "impl Drop for Receiver {", OVER_WORDS),
+    ("dr_c/src/end.rt", "impl Drop for End {", OVER_WORDS),
+    ("dr_c/src/lib.rt", ("    opening::free_all(", "    calls::halt(alloc, &mut handles[0]);\n    opening::free_all("), MORE_THAN_DROPPED),
+]
 
 
 def built_without(room, lost):
@@ -92,28 +107,30 @@ def are_whole(room, calls):
         return leaks.is_whole(f"{room}/calls", "case")
 
 
-def keeps_to_laws(room):
-    """Whether the sources in a folder pass."""
-    return subprocess.run([f"{room}/tests/steps_in_laws.sh"], stdout=subprocess.DEVNULL, check=False).returncode == 0
+def said_of_laws(room):
+    """What `steps_in_laws.sh` says first of the sources in a folder that do not pass, or nothing."""
+    ran = subprocess.run([f"{room}/tests/steps_in_laws.sh"], stdout=subprocess.PIPE, text=True, check=False)
+    return ran.stdout.partition("\n")[0] if ran.returncode else ""
 
 
 def judged_by_laws(room):
-    """The number of cases of sources, and those that are judged wrongly: each but the first has one line more than the crates."""
+    """The number of cases of sources, and those that are judged wrongly: of each but the first one line is not the crates'."""
     top = os.path.dirname(HERE)
     for it in ("crates.txt", "tests/steps_in_laws.sh", *glob.glob("crates/*/src", root_dir=top)):
         os.makedirs(os.path.dirname(f"{room}/{it}"), exist_ok=True)
         (shutil.copytree if os.path.isdir(f"{top}/{it}") else shutil.copy)(f"{top}/{it}", f"{room}/{it}")
-    wrongly = [] if keeps_to_laws(room) else ["none"]
-    for file, change in (*PLANTED.items(), *FREES.items()):
+    wrongly = ["none"] if said_of_laws(room) else []
+    for file, change, said in PLANTED:
         with open(f"{room}/crates/{file}", encoding="utf-8") as it:
             text = it.read()
         changed = f"{text}{change}\n" if isinstance(change, str) else text.replace(*change)
-        for now, passes in ((changed, False), (text, True)):
-            with open(f"{room}/crates/{file}", "w", encoding="utf-8") as it:
-                it.write(now)
-            if keeps_to_laws(room) != passes:
-                wrongly.append(file)
-    return 1 + len(PLANTED) + len(FREES), wrongly
+        with open(f"{room}/crates/{file}", "w", encoding="utf-8") as it:
+            it.write(changed)
+        if changed == text or not said_of_laws(room).startswith(said):
+            wrongly.append(f"{file}, {change}")
+        with open(f"{room}/crates/{file}", "w", encoding="utf-8") as it:
+            it.write(text)
+    return 1 + len(PLANTED), wrongly
 
 
 def main():
@@ -141,7 +158,7 @@ def main():
         sources, wrongly = judged_by_laws(room)
     for file in wrongly:
         failed += 1
-        print(f"FAILED: how steps_in_laws.sh judges a line more in {file}")
+        print(f"FAILED: how steps_in_laws.sh judges {file}")
     print(f"scripts.py: {len(SCRIPTS) + len(CALLS) + len(LOST) + 2 + sources} cases, {failed} failed")
     return 1 if failed else 0
 

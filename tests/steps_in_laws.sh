@@ -65,7 +65,7 @@ if [ -n "$others" ]; then
     exit 1
 fi
 # That a look after a store sees what came before another's look after its own is so of these alone.
-others=$(grep -rn 'Ordering::' crates/*/src --include='*.rt' | grep -vE 'Ordering::SeqCst|[{]Atomic[A-Za-z0-9, ]*Ordering[}]')
+others=$(grep -rnoE 'Ordering(::[A-Za-z_]+| as )' crates/*/src --include='*.rt' | grep -v ':Ordering::SeqCst$')
 if [ -n "$others" ]; then
     printf 'an ordering that is not sequentially consistent:\n%s\n' "$others"
     exit 1
@@ -91,7 +91,7 @@ if [ -n "$others" ]; then
     printf 'an end over words, or one that C holds, does something as it is dropped:\n%s\n' "$others"
     exit 1
 fi
-# Nor if an end that C frees does. A clause says it of a handle; what frees handles does nothing else.
+# Nor does one see what an end does before C frees it. A clause says it of a handle; what frees handles does nothing else.
 body_of() { awk -v head=" fn $1[(]" '$0 ~ head { inside = 1 } inside && /^}/ { exit } at { print } inside && /^{/ { at = 1 }' "$2"; }
 freed=$(body_of free_all crates/dr_c/src/opening.rt; body_of disruptor_free_at crates/dr_c/src/lib.rt)
 if [ "$freed" != '    let mut left = handles.len();

@@ -24,7 +24,16 @@ HEAD = """# What each clause says
 
 Written by `tools/clauses.py` from the contracts in `crates/`, and not by hand. The comment above an `ensures` is its sentence here. Some \
 clauses have one sentence together. What a trait says of its methods stands at the trait alone. A clause without a name is said by what the \
-docs of its function say first. [PROVED.md](PROVED.md) says what all of it comes to, and [MEANING.md](MEANING.md) what the words mean.
+docs of its function say first. Here is only what a call ensures: what it requires stands in the source. [PROVED.md](PROVED.md) says what \
+all of it comes to, and [MEANING.md](MEANING.md) what the words mean.
+
+A clause of the **five laws**, such as `laws` or `lawful`, says all of this of every beginning of a transcript:
+
+1. A handler received the events of sequences 0, 1, 2 and so on, each once, and all of them are published.
+2. A handler has taken no more than each of its upstreams completed.
+3. No slot is claimed again before every final handler completed its event.
+4. No claim is accepted after a halt.
+5. A handler is told `Drained` only once it has received every published event, and no more can come.
 """
 
 
@@ -126,13 +135,23 @@ def own_groups(function, of_traits):
             yield sentence, own
 
 
+def steps_of(crate):
+    """The rows of a table of the kinds of step that a ring's ends make: the variants of its enum `Step`, each with its docs."""
+    path = f"{TOP}/crates/{crate}/src/record.rt"
+    if not os.path.exists(path) or not (body := re.search(r"^pub enum Step\b[^{]*\{\n(.*?)^\}$", open(path, encoding="utf-8").read(), re.M | re.S)):
+        return []
+    said = re.findall(r"((?:^    ///.*\n)*)^    (\w+)\b", body[1], re.M)
+    rows = [f"| `{name}` | {' '.join(it.strip() for it in docs.replace('///', '').splitlines()) or NO_SENTENCE} |" for docs, name in said]
+    return ["", f"### The steps of {crate}", "", "| step | what it does |", "|---|---|", *rows]
+
+
 def page_of(functions):
     of_traits = {(it.owner, it.name, name) for _, _, it in functions for _, names in it.groups for name in names}
     lines, at, silent, clauses = [], None, {}, 0
     for crate, path, function in functions:
         groups = [*own_groups(function, of_traits)]
         if groups and at != (crate, path):
-            lines += ["", *([f"## {crate}", ""] if not at or at[0] != crate else []), f"### {path} of {crate}", ""]
+            lines += ["", *([f"## {crate}", *steps_of(crate), ""] if not at or at[0] != crate else []), f"### {path} of {crate}", ""]
             at = crate, path
         if groups:
             by = f" (`{function.trait}`)" if function.trait else ""

@@ -68,7 +68,7 @@ say java share/doc/disruptor/java.md <<'END'
 `disruptor.jar` is for the class path or the module path, as the module `org.verified.disruptor`, and has the library in it: it runs on Linux, on the same processor. `mvn install:install-file -Dfile=disruptor.jar -Dsources=disruptor-sources.jar -DpomFile=disruptor.pom` puts it into the local repository as `org.verified:disruptor`. From Java 24 on, `--enable-native-access=org.verified.disruptor` (or `ALL-UNNAMED` on the class path) spares a warning.
 END
 say python share/doc/disruptor/python.md <<'END'
-`python3 -m pip install --no-index verified_disruptor-*.whl` in the folder where this was unpacked. The library lies in the wheel; it wants Python 3.9 or later, and nothing else.
+`python3 -m pip install --no-index verified_disruptor-*.whl` in the folder where this was unpacked, for a Python that Debian manages in a virtual environment (`python3 -m venv DIR`). The library lies in the wheel; it wants Python 3.9 or later, and nothing else.
 END
 say rust rust/README.md <<'END'
 `rust` is the crate, for a dependency by path. It links `lib/libdisruptor.a`, which lies beside it; `DISRUPTOR_LIB` names another folder. It wants Rust 1.63 or later and no other crate. `cargo test` tests it, offline too.

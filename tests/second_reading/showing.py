@@ -1,11 +1,16 @@
-"""The data of the page that `show` writes, as docs/FORMATS.md says it.
+"""The data of the page that `show` writes, as page/README.md says it.
 
 It is written from the docs, and shares nothing with the program.
 """
 
+from collections import namedtuple
+
 from machine import shown
 from reading import Fault, Setup, answer, records, ring_of
 from standing import built_order, ready, room
+
+# A record of a page with what came of it; the last has no fields: the last record's number, and the fault of a file that ends in its setup.
+Step = namedtuple("Step", "record fields reply fault exchange")
 
 MOST_DRAWN = 64
 # What stands for a byte within a string of the data; else it stands as it is, or as `\\xNN`.
@@ -76,27 +81,44 @@ def exchange_text(exchange):
     )
 
 
-def page_data(text, first=1, steps=2000):
-    """The data of the page that `disruptor show --from FIRST --steps STEPS` writes of this text."""
-    objects, setup, exchange, k, fault = [], None, None, 0, None
+def page_steps(text, first=1, steps=2000):
+    """Gives each step of a page, with the exchange as it stands after it, until the next is asked for."""
+    setup, exchange, k = None, None, 0
     for k, fields in enumerate(records(text), 1):
-        head = f'{{"record":{k},"text":{string(b",".join(fields))}'
+        reply = fault = None
         try:
             if exchange:
-                line = answer(exchange, fields) + "\n"
-                if first <= k < first + steps:
-                    objects.append(f'{head},"reply":{string(line.encode())}{state_text(exchange)}}},\n')
+                reply = answer(exchange, fields)
             elif setup:
                 exchange = setup.take(fields)
-                objects.append(f"{head}{exchange_text(exchange) + state_text(exchange) if exchange else ''}}},\n")
             else:
                 setup = Setup(ring_of(fields))
-                objects.append(f"{head}}},\n")
         except Fault as cause:
-            fault = cause
-            objects.append(f'{head},"fault":"record {k}: {cause}"}},\n')
+            fault = f"record {k}: {cause}"
+        if reply is None or first <= k < first + steps:
+            yield Step(k, fields, reply, fault, exchange)
+        if fault:
             break
-    last = f'{{"last":{k}'
-    if not fault and not exchange:
-        last += f',"fault":"record {k + 1}: {"no start" if setup else "no ring"}"'
-    return f'{{"from":{first},"steps":{steps},"records":[\n{"".join(objects)}{last}}}\n]}}'
+    else:
+        fault = None if exchange else f"record {k + 1}: {'no start' if setup else 'no ring'}"
+        yield Step(k, None, None, fault, exchange)
+        return
+    yield Step(k, None, None, None, exchange)
+
+
+def object_of(it):
+    """The object of a step; of a fault, and of a record of the setup but its last, it has no state."""
+    if it.fields is None:
+        return f'{{"last":{it.record}' + (f',"fault":"{it.fault}"' if it.fault else "") + "}\n"
+    head = f'{{"record":{it.record},"text":{string(b",".join(it.fields))}'
+    if it.fault:
+        return f'{head},"fault":"{it.fault}"}},\n'
+    if it.reply is not None:
+        reply = string(it.reply.encode() + b"\n")
+        return f'{head},"reply":{reply}{state_text(it.exchange)}}},\n'
+    return f"{head}{exchange_text(it.exchange) + state_text(it.exchange) if it.exchange else ''}}},\n"
+
+
+def page_data(text, first=1, steps=2000):
+    """The data of the page that `disruptor show --from FIRST --steps STEPS` writes of this text."""
+    return f'{{"from":{first},"steps":{steps},"records":[\n{"".join(map(object_of, page_steps(text, first, steps)))}]}}'

@@ -300,9 +300,54 @@ static void a_deadline_ends_a_wait(void) {
     disruptor_free(&halter);
 }
 
+/* (polls of events that the ring has wait alike) */
+static void a_deadline_ends_a_wait_for_words_and_bytes(void) {
+    const uint64_t upstreams[1] = {0}, short_time = 20000000;
+    uint64_t lo;
+    disruptor_event words[4] = {{5, 6}}, found[4];
+    disruptor_offer offer;
+    disruptor_waiting waiting = disruptor_waits(4);
+    for (int of_bytes = 0; of_bytes < 2; of_bytes++) {
+        disruptor_sender sender = DISRUPTOR_NEW;
+        disruptor_receiver receiver = DISRUPTOR_NEW;
+        disruptor_halter halter = DISRUPTOR_NEW;
+        EXPECT(of_bytes ? !disruptor_open_bytes(4, 9, sizeof *words, upstreams, 1, &sender, &receiver, 1, &halter)
+                        : !disruptor_open(4, 9, upstreams, 1, &sender, &receiver, 1, &halter));
+#define POLL(time) (of_bytes ? disruptor_poll_bytes_within(&receiver, 4, &offer, &waiting, time) \
+                             : disruptor_poll_within(&receiver, found, 4, &offer, &waiting, time))
+        const uint64_t begun = disruptor_now();
+        EXPECT(POLL(short_time) == DISRUPTOR_OK && offer.kind == DISRUPTOR_IDLE && disruptor_now() - begun >= short_time);
+        EXPECT(!disruptor_claim(&sender, 1, &lo));
+        EXPECT(!(of_bytes ? disruptor_write_bytes(&sender, lo, words, sizeof *words) : disruptor_write(&sender, lo, words)));
+        EXPECT(!disruptor_publish(&sender, lo, lo) && POLL(DISRUPTOR_FOREVER) == DISRUPTOR_OK && offer.count == 1);
+        EXPECT(!of_bytes || !disruptor_read_bytes(&receiver, lo, found, sizeof *found));
+        EXPECT(found[0].first == 5 && found[0].second == 6);
+        EXPECT(!disruptor_close(&sender) && POLL(DISRUPTOR_FOREVER) == DISRUPTOR_OK && offer.kind == DISRUPTOR_DRAINED);
+        disruptor_free(&sender), disruptor_free(&receiver), disruptor_free(&halter);
+        EXPECT(POLL(DISRUPTOR_FOREVER) == DISRUPTOR_NOT_OPEN);
+#undef POLL
+    }
+}
+
+/* (memory for a graph is aligned as its type is) */
+static void any_thread_asks_how_many_events_are_sent(void) {
+    uint64_t lo;
+    disruptor_graph *graph = aligned_alloc(_Alignof(disruptor_graph), sizeof *graph);
+    EXPECT(graph);
+    *graph = disruptor_graph_of(events, 4, sizeof *events);
+    disruptor_handle(graph, "none", none, NULL, NULL);
+    EXPECT(disruptor_sent(graph) == 0 && disruptor_start(graph) == DISRUPTOR_OK);
+    EXPECT(disruptor_next(graph, 3, &lo) == DISRUPTOR_OK && disruptor_sent(graph) == 0);
+    EXPECT(disruptor_send(graph, lo, 3) == DISRUPTOR_OK && disruptor_sent(graph) == 3);
+    EXPECT(disruptor_finish(graph) == 0 && disruptor_sent(graph) == 0);
+    free(graph);
+}
+
 int main(void) {
     alarm(100);
     a_deadline_ends_a_wait();
+    a_deadline_ends_a_wait_for_words_and_bytes();
+    any_thread_asks_how_many_events_are_sent();
     graphs_are_refused();
     each_follows_its_own();
     a_handler_that_fails_halts_the_ring();

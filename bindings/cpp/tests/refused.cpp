@@ -1,5 +1,8 @@
 // What the headers refuse in a sentence of their own: a program for each number of WRONG, and a right one for 0.
 #include <disruptor_slots.hpp>
+#if WRONG == 6
+#include <disruptor_threads.h>
+#endif
 
 int main() {
     disruptor::builder<int> graph(4);

@@ -330,6 +330,29 @@ void of_two_handlers_that_throw_the_first_is_named() {
         EXPECT(thrown<disruptor::handler_failed>([&] { ring.finish(); }) == "a handler threw: first");
 }
 
+// By itself, or since another thread cancels it.
+void a_handler_whose_thread_ends_halts_the_ring_and_is_named() {
+    for (const bool is_cancelled : {false, true}) {
+        std::uint64_t followed = 0;
+        disruptor::builder<std::uint64_t> graph(4);
+        graph.handle("dies", [=](std::uint64_t, std::uint64_t sequence, bool) {
+            if (sequence != 3) return;
+            if (!is_cancelled) pthread_exit(nullptr);
+            pthread_cancel(pthread_self());
+            pthread_testcancel();
+        });
+        graph.and_then().handle("follows", [&](std::uint64_t, std::uint64_t, bool) { followed++; });
+        auto ring = graph.start();
+        const auto publishes = [&] {
+            for (;;) ring.publish_batch(4, fill);
+        };
+        const std::string said = "a handler threw: dies: it ended its own thread";
+        EXPECT(thrown<disruptor::handler_failed>(publishes) == said);
+        EXPECT(thrown<disruptor::handler_failed>([&] { ring.finish(); }) == said);
+        EXPECT(followed == 3 && ring.completed("dies") == std::optional<std::uint64_t>(3));
+    }
+}
+
 void several_senders_share_a_ring() {
     std::uint64_t total = 0;
     disruptor::builder<std::uint64_t> graph(64);
@@ -458,6 +481,7 @@ int main() {
     graphs_are_refused_by_name();
     a_handler_that_throws_halts_the_ring_and_is_named();
     of_two_handlers_that_throw_the_first_is_named();
+    a_handler_whose_thread_ends_halts_the_ring_and_is_named();
     several_senders_share_a_ring();
     a_run_of_several_waits_for_the_senders_that_were_moved_out();
     a_handler_may_own_what_cannot_be_copied();

@@ -80,10 +80,25 @@ class BetweenSteps(Interrupt):
         return self._trace
 
 
+class InRunBatches(Interrupt):
+    """Comes at a line of `run_batches`."""
+
+    def _trace(self, frame, event, argument):
+        return super()._trace(frame, event, argument) if frame.f_code.co_name == "run_batches" else None
+
+
 def send(sender):
     for number in range(2):
         with sender.event() as event:
             event.number = number
+
+
+def ended_ring():
+    """A ring with two events for its handler, and none after them."""
+    ends = Ends(4, lambda size: Events(size, Event), [0])
+    send(ends.senders[0])
+    ends.senders[0].close()
+    return ends
 
 
 class Interrupts(unittest.TestCase):
@@ -173,10 +188,7 @@ with Disruptor(4, Event).handle("slow", handle).sender() as sender:
 class Receipts(unittest.TestCase):
     def run_with(self, it, run):
         """A handler has each event once, where it is run again after an interrupt."""
-        ends, seen = Ends(4, lambda size: Events(size, Event), [0]), []
-        receiver = ends.receivers[0]
-        send(ends.senders[0])
-        ends.senders[0].close()
+        seen, receiver = [], ended_ring().receivers[0]
         try:
             it.during(run, receiver, seen)
         except KeyboardInterrupt:
@@ -196,6 +208,22 @@ class Receipts(unittest.TestCase):
                     self.run_with(it, run)
                 step, came = step + 1, it.came()
             self.assertGreater(step, 10)
+
+
+    def test_only_at_the_call_itself_does_a_batch_count_as_handled(self):
+        lost, seen, step = [], [], 0
+        while not seen:
+            receiver = ended_ring().receivers[0]
+            try:
+                InRunBatches(step).during(receiver.run_batches, lambda events, first: seen.append(first))
+            except KeyboardInterrupt:
+                step += 1
+            if not seen:
+                again = []
+                receiver.run_batches(lambda events, first: again.append(first))
+                lost.append(not again)
+        self.assertEqual(lost, [False] * (len(lost) - 1) + [True])
+        self.assertGreater(len(lost), 5)
 
 
 class Bells(unittest.TestCase):

@@ -264,8 +264,9 @@ class Ring(unittest.TestCase):
             with sender.event():
                 self.refused(Reason.OPEN_CLAIM, sender.event().__enter__)
             send(sender, [1])
-            # (a claim whose end an interrupt took away is published when the ring ends)
+            # (a claim whose end an interrupt took away is published when the ring ends, and no call makes another one)
             sender.events(2).__enter__()
+            self.assertEqual([it for it in dir(sender) if "claim" in it and it[0] != "_"], ["publish_claim"])
             threading.Thread(target=sender.halt).start()
         self.assertEqual((seen, disruptor.completed("sees")), ([0, 1, 2, 3], 4))
 
@@ -363,6 +364,23 @@ class Ring(unittest.TestCase):
         sender.close()
         self.assertEqual((receiver.receive(see, 0.02), receiver.is_drained), (0, True))
         self.assertEqual((seen, sender.published, receiver.completed), ([1, 2, 3, 4], 4, 4))
+
+    def test_any_thread_asks_how_far_a_ring_is(self):
+        ends = ends_of(4, [0, 1])
+        send(ends.senders[0], range(3))
+        ends.receivers[0].receive(lambda *shown: None, 0, room=2)
+        self.assertEqual((ends.cursor(), ends.completed(0), ends.completed(1)), (3, 2, 0))
+        for none in (2, -1, 1 << 70):
+            self.refused(Reason.NO_HANDLER, ends.completed, none)
+        several = ends_of(4, [0], 2)
+        send(several.senders[1], [1, 2])
+        self.assertEqual(several.cursor(), 2)
+        disruptor = Disruptor(4, Event).handle("one", lambda *shown: None)
+        self.assertEqual(disruptor.cursor(), 0)
+        with disruptor.sender() as sender:
+            send(sender, [1, 2])
+            self.assertEqual(disruptor.cursor(), 2)
+        self.assertEqual((disruptor.cursor(), disruptor.completed("one")), (2, 2))
 
     def test_several_senders_share_a_ring(self):
         total = []

@@ -143,7 +143,8 @@ impl<T: Send + Sync + 'static> Builder<T> {
             return Err(fault);
         }
         let (sender, receivers, halter) = open(&self.plan, &mut *self.factory)?;
-        Ok(Disruptor::new(sender, start(self.handlers, receivers)?, halter))
+        let (threads, sender) = start(self.handlers, receivers, sender)?;
+        Ok(Disruptor::new(sender, threads, halter))
     }
 
     /// The same with several senders, 1 to 16, each for a thread of its own.
@@ -152,6 +153,7 @@ impl<T: Send + Sync + 'static> Builder<T> {
             return Err(fault);
         }
         let (senders, receivers, halter) = open_several(&self.plan, senders, &mut *self.factory)?;
-        Ok(Senders::new(senders, start(self.handlers, receivers)?, halter))
+        let (threads, senders) = start(self.handlers, receivers, senders)?;
+        Ok(Senders::new(senders, threads, halter))
     }
 }

@@ -64,6 +64,8 @@ extern "C" {
     pub(crate) fn disruptor_poll_slots_at(receiver: *mut Handle, receivers: usize, room: u64, offer: *mut Offer, offers: usize) -> u32;
     pub(crate) fn disruptor_complete_at(receiver: *mut Handle, receivers: usize, upto: u64) -> u32;
     pub(crate) fn disruptor_halt_at(halter: *mut Handle, halters: usize) -> u32;
+    pub(crate) fn disruptor_cursor_at(halter: *mut Handle, halters: usize, count: *mut u64, places: usize) -> u32;
+    pub(crate) fn disruptor_completed_at(halter: *mut Handle, halters: usize, handler: usize, count: *mut u64, places: usize) -> u32;
     pub(crate) fn disruptor_progress_at(handle: *mut Handle, handles: usize, counts: *mut Counts, places: usize) -> u32;
     pub(crate) fn disruptor_name_at(number: u32, text: *mut u8, room: usize) -> usize;
 }

@@ -9,7 +9,7 @@ use crate::slots::Slots;
 use crate::waiting::Wait;
 use std::sync::Arc;
 
-/// An end that halts the ring.
+/// An end that halts the ring, and tells how far it is, from any thread.
 pub struct Halter<T>(Arc<Ring<T>>);
 
 impl<T> Halter<T> {
@@ -17,6 +17,17 @@ impl<T> Halter<T> {
     /// once the sender is dropped.
     pub fn halt(&self) {
         self.0.halt();
+    }
+
+    /// How many events the one sender published, or how many several claimed.
+    pub fn cursor(&self) -> u64 {
+        self.0.cursor()
+    }
+
+    /// How many events handler `k` completed, or `NoHandler`. The ring has as many free slots as its size plus the least count of the
+    /// final handlers, less the cursor: ask that first.
+    pub fn completed(&self, k: usize) -> Result<u64, Refusal> {
+        self.0.completed(k)
     }
 }
 

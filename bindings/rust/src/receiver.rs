@@ -161,9 +161,13 @@ impl<T> Receiver<T> {
         loop {
             match self.receive(room, &mut handle)? {
                 Polled::Gating | Polled::Idle if !self.is_cut() && !is_over() => self.waiting.wait(),
-                found => {
-                    self.waiting.found(if let Polled::Handled(count) = found { count } else { 0 });
-                    return Ok(found);
+                Polled::Handled(count) => {
+                    self.waiting.found(count);
+                    return Ok(Polled::Handled(count));
+                }
+                none => {
+                    self.waiting.end();
+                    return Ok(none);
                 }
             }
         }

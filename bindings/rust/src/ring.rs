@@ -1,10 +1,11 @@
 //! What all ends of a ring share.
 
-use crate::ffi::{disruptor_halt_at, Handle};
+use crate::ffi::{disruptor_completed_at, disruptor_cursor_at, disruptor_halt_at, Handle};
+use crate::refusal::{answer, Refusal};
 use crate::slots::Slots;
 use crate::waiting::Bell;
 use std::sync::atomic::{AtomicU64, AtomicUsize, Ordering};
-use std::sync::{Arc, Mutex, PoisonError};
+use std::sync::{Arc, Mutex, MutexGuard, PoisonError};
 
 const MOST_HANDLERS: usize = 16;
 
@@ -33,10 +34,28 @@ impl<T> Ring<T> {
         }
     }
 
-    pub(crate) fn halt(&self) {
-        let mut halter = self.halter.lock().unwrap_or_else(PoisonError::into_inner);
+    fn halter(&self) -> MutexGuard<'_, Handle> {
+        self.halter.lock().unwrap_or_else(PoisonError::into_inner)
+    }
+
+    pub(crate) fn cursor(&self) -> u64 {
+        let mut count = 0;
         // SAFETY: the handle is open, and nobody else has it.
-        let refused = unsafe { disruptor_halt_at(&mut *halter, 1) };
+        let refused = unsafe { disruptor_cursor_at(&mut *self.halter(), 1, &mut count, 1) };
+        debug_assert_eq!(refused, 0, "a ring of slots tells its cursor");
+        count
+    }
+
+    pub(crate) fn completed(&self, k: usize) -> Result<u64, Refusal> {
+        let mut count = 0;
+        // SAFETY: the handle is open, and nobody else has it.
+        answer(unsafe { disruptor_completed_at(&mut *self.halter(), 1, k, &mut count, 1) })?;
+        Ok(count)
+    }
+
+    pub(crate) fn halt(&self) {
+        // SAFETY: the handle is open, and nobody else has it.
+        let refused = unsafe { disruptor_halt_at(&mut *self.halter(), 1) };
         debug_assert_eq!(refused, 0, "a halt is never refused");
         self.bell.ring();
     }

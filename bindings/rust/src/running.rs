@@ -66,26 +66,33 @@ impl Threads {
     }
 }
 
-/// Starts a thread for each handler. Where one panics, its receiver is dropped, and so the ring is halted.
-pub(crate) fn start<T: Send + Sync + 'static>(
+/// Starts a thread for each handler. Where one panics, its receiver is dropped, and so the ring is halted. Where one cannot be started,
+/// the others have ended once that is answered.
+pub(crate) fn start<T: Send + Sync + 'static, S>(
     handlers: Vec<Handler<T>>,
     receivers: Vec<Receiver<T>>,
-) -> Result<Threads, Fault> {
+    senders: S,
+) -> Result<(Threads, S), Fault> {
     if let Some((it, _)) = handlers.iter().zip(&receivers).find(|(it, receiver)| it.is_changing && !receiver.is_alone())
     {
         return Err(Fault::NotAlone(it.name.clone()));
     }
     let mut threads = Threads(Vec::new());
-    for (Handler { name, work, .. }, mut receiver) in handlers.into_iter().zip(receivers) {
+    let mut rest = handlers.into_iter().zip(receivers);
+    while let Some((Handler { name, work, .. }, mut receiver)) = rest.next() {
         let completed = receiver.watch();
         // (a thread's name has no zero)
         match thread::Builder::new().name(name.replace('\0', " ")).spawn(move || work(&mut receiver)) {
             Ok(thread) => threads.0.push(Started { name, completed, thread }),
-            // (its receiver and those of the handlers after it are dropped, so those before it end too)
-            Err(why) => return Err(Fault::Thread(why.to_string())),
+            Err(why) => {
+                // (without its receiver, those of the handlers after it and the senders, those before it end too)
+                drop((rest, senders));
+                let _ = threads.join();
+                return Err(Fault::Thread(why.to_string()));
+            }
         }
     }
-    Ok(threads)
+    Ok((threads, senders))
 }
 
 /// A ring whose handlers run. Publish by it, as by a [`Sender`]. When it is finished or dropped the ring is closed, and it waits
@@ -160,7 +167,12 @@ impl<T: Send + Sync> Disruptor<T> {
         self.halter.halt();
     }
 
-    /// What halts the ring from any thread.
+    /// How many events are published, or how many several senders claimed.
+    pub fn cursor(&self) -> u64 {
+        self.halter.cursor()
+    }
+
+    /// What halts the ring, and tells how far it is, from any thread.
     pub fn halter(&self) -> Halter<T> {
         self.halter.clone()
     }
@@ -212,7 +224,12 @@ impl<T: Send + Sync> Senders<T> {
         self.halter.halt();
     }
 
-    /// What halts the ring from any thread.
+    /// How many events are published, or how many several senders claimed.
+    pub fn cursor(&self) -> u64 {
+        self.halter.cursor()
+    }
+
+    /// What halts the ring, and tells how far it is, from any thread.
     pub fn halter(&self) -> Halter<T> {
         self.halter.clone()
     }

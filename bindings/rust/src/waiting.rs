@@ -138,7 +138,13 @@ impl Waiting {
         }
     }
 
-    /// The same after a claim: a sender claims again at once, so what counts is how many found room until it waits again.
+    /// Ends a wait that found nothing in its time, which says nothing of the pauses.
+    pub(crate) fn end(&mut self) {
+        self.looks = 0;
+        self.stop_listening();
+    }
+
+    /// The same as `found` after a claim: a sender claims again at once, so what counts is how many found room until it waits again.
     #[inline]
     pub(crate) fn found_room(&mut self, count: u64) {
         self.found += count;
@@ -155,5 +161,25 @@ impl Waiting {
 impl Drop for Waiting {
     fn drop(&mut self) {
         self.stop_listening();
+    }
+}
+
+#[cfg(test)]
+mod tests {
+    use super::*;
+
+    #[test]
+    fn only_what_a_wait_found_tunes_its_pauses() {
+        let bell = Arc::default();
+        let mut waiting = Waiting::new(Wait::Parking, 64, &bell);
+        for looks in [0, YIELDING_LOOKS] {
+            waiting.looks = looks;
+            waiting.wait();
+            waiting.end();
+        }
+        assert_eq!((waiting.pauses, waiting.looks, bell.sleepers.load(Ordering::SeqCst)), (1, 0, 0));
+        waiting.wait();
+        waiting.found(1);
+        assert_eq!(waiting.pauses, 2);
     }
 }

@@ -372,6 +372,23 @@ fn any_thread_may_watch_how_far_the_ends_came() {
 }
 
 #[test]
+fn any_thread_asks_how_far_a_ring_is() {
+    let (mut sender, mut receivers, halter) = open(&plan(4, &[0, 1]), || 0u64).unwrap();
+    sender.publish_batch(3, |_| ()).unwrap();
+    receivers[0].receive(2, |_, _, _| ()).unwrap();
+    let asks = halter.clone();
+    let counts = std::thread::spawn(move || (asks.cursor(), asks.completed(0), asks.completed(1))).join().unwrap();
+    assert_eq!(counts, (3, Ok(2), Ok(0)));
+    assert_eq!((halter.completed(2), halter.completed(usize::MAX)), (Err(Refusal::NoHandler), Err(Refusal::NoHandler)));
+    let mut disruptor = Builder::new(8, || 0u64).handle("reads", |_, _, _| ()).build().unwrap();
+    disruptor.publish_batch(2, |_| ()).unwrap();
+    assert_eq!(disruptor.cursor(), 2);
+    let (mut several, _) = run_of_several(2);
+    several.take()[1].publish(|_| ()).unwrap();
+    assert_eq!((several.cursor(), several.halter().cursor()), (1, 1));
+}
+
+#[test]
 fn a_thread_may_be_kept_on_a_processor() {
     let pinned = std::thread::spawn(|| (0..1024).any(pin)).join().unwrap();
     assert!(pinned || !cfg!(target_os = "linux"));

@@ -12,6 +12,7 @@ use Rattle.dr_plain_senders.proofs.Crossing as several
 use Rattle.dr_plain.proofs.Crossing as plain
 use Rattle.dr_c.specs.contracts.bytes.Bytes as Bytes
 use Rattle.dr_c.specs.contracts.writer.Writer as Writer
+use Rattle.dr_c.specs.contracts.one_of_several.OneOfSeveral as OneOfSeveral
 use Rattle.dr_c.specs.contracts.end.End as End
 
 -- over atomic words
@@ -61,7 +62,10 @@ ruleset ends = (
 writer_send : IsSend Writer.the_row
 writer_send = search ends depth 60 fits 20000
 
-ruleset handed = (ends, writer_send)
+one_of_several_send : IsSend OneOfSeveral.the_row
+one_of_several_send = search ends depth 60 fits 20000
+
+ruleset handed = (ends, writer_send, one_of_several_send)
 
 pub end_send : IsSend End.the_row
 end_send = search handed depth 60 fits 20000

@@ -7,6 +7,7 @@ pub mod OpenedSeveral
 pub mod Crossing
 pub mod Placed
 pub mod Slots
+pub mod Claimed
 pub mod Unwritten
 pub mod UnwrittenOfSeveral
 pub mod Troubles

@@ -15,11 +15,11 @@ use Rattle.dr_plain_senders.specs.declared.record.Own.{Own}
 use Rattle.dr_plain_senders.specs.declared.record.Stage.{Stage}
 use Rattle.dr_plain_senders.specs.declared.record.SenderRecord.{SenderRecord}
 use Rattle.dr_plain_senders.specs.Meaning.Records.{Owns, is_published}
-use Rattle.dr_plain_senders.specs.Calls.Ends.{SenderEnd, EndPlace}
+use Rattle.dr_plain_senders.specs.Calls.Ends.{SenderEnd}
 use Rattle.dr_plain_senders.specs.Calls.Writing.{Sight, Has, Found, Never, Unasked, Holds, IsSight, IsAsked, UpdateCall, sight_tests, tests_of_write, written_where}
 use Rattle.dr_plain_senders.specs.Calls.Publishing.{PublishCall, stretch_tests, tests_of_publication}
 use Rattle.dr_c.proofs.Unwritten.{not_it}
-use Rattle.dr_c.specs.Slots.{HasEachOnce, OwnAreWritten, WritesOwn}
+use Rattle.dr_c.specs.Slots.{HasClaimed, HasEachOnce, OwnAreWritten, WritesOwn}
 
 -- What a write leaves of what is written.
 chosen : (b : Bool) (v x w : Option Event) → (if b then v else x) ≡ w → ((b ≡ true) × (w ≡ v)) ⊎ ((b ≡ false) × (some x ≡ some w))
@@ -36,17 +36,7 @@ found_in such v (p ∷ own) (x ∷ writes) zero o w there at =
     (chosen (such p.sequence) v x w (some-injective _ w at))
 found_in such v (p ∷ own) (x ∷ writes) (suc i) o w there at = found_in such v own writes i o w there at
 
--- An end has the sequences that it had, of the same plan.
-abbrev pub StaysOwn : SenderEnd Event → SenderEnd Event → Type 0
-StaysOwn e a = (a.knows.own ≡ e.knows.own) × (a.knows.plan ≡ e.knows.plan)
-
 module _ (C : Event → Event → Type 0) (a b : SenderEnd Event) (lo k : ℕ) where
-  pub stays_on : (e : SenderEnd Event) (result : Result (Unit {0}) Refusal) → StaysOwn e a → UpdateCall C a k b result → StaysOwn e b
-  stays_on e (Ok done) before call =
-      (ap (λ (r : SenderRecord Event). r.own) call.4.knows ∙ before.0, ap (λ (place : EndPlace Event). place.1) call.4.place ∙ before.1)
-  stays_on e (Err refusal) before call =
-      (ap (λ (r : SenderRecord Event). r.own) call.knows ∙ before.0, ap (λ (place : EndPlace Event). place.1) call.place ∙ before.1)
-
   written_one : OwnAreWritten a lo k → UpdateCall C a k b (Ok tt) → OwnAreWritten b lo (k + 1)
   written_one before call q t w low less has =
       let own : get_elem? a.knows.own has.0 ≡ some record { sequence = q; stage = t } =
@@ -79,38 +69,35 @@ same_stage own q t u i j once here there =
     ap (λ (o : Own Event). o.stage)
     (some-injective record { sequence = q; stage = t } record { sequence = q; stage = u } (sym here ∙ ap (λ (n : ℕ). get_elem? own n) at ∙ there))
 
-by_sight : (a : SenderEnd Event) (k : ℕ) (x : Sight Event) (refusal : Refusal) → HasEachOnce a.knows.own → k < a.knows.plan.limit → IsSight a k x → IsAsked x
-    → IsFirst MayHold MayFail refusal (write_causes (tests_of_write a.knows.plan k x)) → (t : Stage Event) → Owns a.knows k t → is_published t ≡ true
-by_sight a k (Has u w) refusal once below sees asked (inl h) t own = absurd (false≢true h.0)
-by_sight a k (Has u w) refusal once below sees asked (inr (x, inl h)) t own = absurd (false≢true h.0)
-by_sight a k (Has u w) refusal once below sees asked (inr (x, inr (y, inl h))) t own =
-    ap is_published (same_stage a.knows.own k t u own.0 sees.0 once own.1 sees.1) ∙ h.0
-by_sight a k (Has u w) refusal once below sees asked (inr (x, inr (y, inr (z, inl h)))) t own = absurd (false≢true h.0)
-by_sight a k (Has u w) refusal once below sees asked (inr (x, inr (y, inr (z, inr h)))) t own = absurd h.1
-by_sight a k (Found before m after) refusal once below sees asked h t own = (sees.1 t own).0
-by_sight a k Never refusal once below sees asked h t own = absurd (omega arith)
-by_sight a k Unasked refusal once below sees asked h t own = absurd asked
+by_sight : (a : SenderEnd Event) (k : ℕ) (x : Sight Event) (refusal : Refusal) → HasClaimed a → IsSight a k x → IsAsked x
+    → IsFirst MayHold MayFail refusal (write_causes (tests_of_write a.plan k x)) → (t : Stage Event) → Owns a.knows k t → is_published t ≡ true
+by_sight a k (Has u w) refusal claims sees asked (inl h) t own = absurd (false≢true h.0)
+by_sight a k (Has u w) refusal claims sees asked (inr (x, inl h)) t own = absurd (false≢true h.0)
+by_sight a k (Has u w) refusal claims sees asked (inr (x, inr (y, inl h))) t own =
+    ap is_published (same_stage a.knows.own k t u own.0 sees.0 claims.once own.1 sees.1) ∙ h.0
+by_sight a k (Has u w) refusal claims sees asked (inr (x, inr (y, inr (z, inl h)))) t own = absurd (false≢true h.0)
+by_sight a k (Has u w) refusal claims sees asked (inr (x, inr (y, inr (z, inr h)))) t own = absurd h.1
+by_sight a k (Found before m after) refusal claims sees asked h t own = (sees.1 t own).0
+by_sight a k Never refusal claims sees asked h t own =
+    let inside = claims.within own.0 record { sequence = k; stage = t } own.1 in absurd (omega arith)
+by_sight a k Unasked refusal claims sees asked h t own = absurd asked
 
-module _ (C : Event → Event → Type 0) (e a b : SenderEnd Event) (lo upto k : ℕ) (once : HasEachOnce e.knows.own) (within : upto ≤ e.knows.plan.limit)
-    (stays : StaysOwn e a) (low : lo ≤ k) (written : OwnAreWritten a lo k) where
+module _ (C : Event → Event → Type 0) (a b : SenderEnd Event) (lo upto k : ℕ) (claims : HasClaimed a) (low : lo ≤ k) (written : OwnAreWritten a lo k) where
   pub writes_all : upto ≤ k → WritesOwn a lo upto
   writes_all done = (k, low, written, inl done)
 
   writes_refused : (refusal : Refusal) → k < upto → UpdateCall C a k b (Err refusal) → WritesOwn b lo upto
-  writes_refused refusal less call =
-      let here : HasEachOnce a.knows.own = subst (λ (own : List (Own Event)). HasEachOnce own) (sym stays.0) once in
-      let limit : e.knows.plan.limit ≡ a.knows.plan.limit = ap (λ (p : Shape Event). p.limit) (sym stays.1) in
-      let below : k < a.knows.plan.limit = omega arith in (
-        k,
-        low,
-        written_still C a b lo k refusal written call,
-        inr (
-          less,
-          λ t own.
-              by_sight a k call.sight refusal here below call.sees call.asked call.answer t
-              (own.0, ap (λ (r : SenderRecord Event). get_elem? r.own own.0) (sym call.knows) ∙ own.1),
-        ),
-      )
+  writes_refused refusal less call = (
+    k,
+    low,
+    written_still C a b lo k refusal written call,
+    inr (
+      less,
+      λ t own.
+          by_sight a k call.sight refusal claims call.sees call.asked call.answer t
+          (own.0, ap (λ (r : SenderRecord Event). get_elem? r.own own.0) (sym call.knows) ∙ own.1),
+    ),
+  )
 
   pub writes_until : (result : Result (Unit {0}) Refusal) → true ≡ is_err result → k < upto → UpdateCall C a k b result → WritesOwn b lo upto
   writes_until (Ok done) stops less call = absurd (false≢true (sym stops))
@@ -138,7 +125,7 @@ module _ (tests : ℕ → SequenceTests Verdict) (order : Verdict) where
   none_of lo (suc n) each (inr (fresh, inr (own, inl h))) = each lo (omega arith) (omega arith) h.0 fresh own
   none_of lo (suc n) each (inr (fresh, inr (own, inr h))) = none_of (lo + 1) n (λ s low less. each s (omega arith) (omega arith)) h.1
 
-module _ (e : SenderEnd Event) (lo hi upto : ℕ) (beyond : hi < upto) (wrote : WritesOwn e lo upto) where
+module _ (e : SenderEnd Event) (lo hi upto : ℕ) (reaches : (s : ℕ) (t : Stage Event) → Owns e.knows s t → s ≤ hi → s < upto) (wrote : WritesOwn e lo upto) where
   not_found : (q : ℕ) (t : Stage Event) (w : Option Event) → lo ≤ q → q ≤ hi → Holds e q t w → is_none w ≡ true → is_published t ≡ false
       → ((s : ℕ) → lo ≤ s → s < q → (u : Stage Event) × Owns e.knows s u × (is_published u ≡ false)) → ⊥
   not_found q t w low high has none fresh ready =
@@ -146,7 +133,7 @@ module _ (e : SenderEnd Event) (lo hi upto : ℕ) (beyond : hi < upto) (wrote : 
       elim (cases_lt q k) [
         | inl less ↦ false≢true (sym (wrote.2 q t w low less has) ∙ none)
         | inr more ↦ elim (wrote.3) [
-          | inl all ↦ absurd (omega arith)
+          | inl all ↦ (let inside = reaches q t (has.0, has.1) high in absurd (omega arith))
           | inr out ↦ elim (cases_eq k q) [
             | inl same ↦ false≢true (sym fresh ∙ out.1 t (has.0, subst (λ (n : ℕ). get_elem? e.knows.own has.0 ≡ some record { sequence = n; stage = t }) (sym same) has.1))
             | inr other ↦ (let l : k < q = omega arith in let one = ready k wrote.1 l in false≢true (sym one.2 ∙ out.1 one.0 one.1))

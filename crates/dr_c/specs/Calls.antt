@@ -32,11 +32,12 @@ use Rattle.dr_c.specs.declared.end.End.{End}
 use Rattle.dr_c.specs.declared.end.End.TheVariants.{Sender, Receiver, Halter, SenderOfSeveral, ReceiverOfSeveral, HalterOfSeveral}
 use Rattle.dr_c.specs.declared.end.End.TheVariants.{SenderOfBytes, ReceiverOfBytes, HalterOfBytes}
 use Rattle.dr_c.specs.declared.writer.Writer.{Writer}
+use Rattle.dr_c.specs.declared.one_of_several.OneOfSeveral.{OneOfSeveral}
 use Rattle.dr_c.specs.declared.batch.Offer.{Offer}
 use Rattle.dr_c.specs.declared.progress.Counts.{Counts}
 use Rattle.dr_c.specs.Numbers.{told, told_of_claim, wrong_end, bad_length, not_in_hand}
 use Rattle.dr_c.specs.Places.{Whether}
-use Rattle.dr_c.specs.Slots.{LeavesOfSeveral, PublishesAsLeft, HasEachOnce}
+use Rattle.dr_c.specs.Slots.{LeavesOfSeveral, PublishesAsLeft}
 
 -- A call of a sender, which answers C by the number of its own answer; another end is refused, and stays as it was.
 abbrev pub OfSender : {A F : Type 0} → (Result A F → ℕ) → End → End → ℕ → Type 0 → (SenderEnd → SenderEnd → Result A Refusal → Type 0)
@@ -44,7 +45,7 @@ abbrev pub OfSender : {A F : Type 0} → (Result A F → ℕ) → End → End �
 OfSender {A} number_of (Sender s) end' number Same Call OfSeveral =
     (s' : SenderEnd) × (answer : Result A Refusal) × (end' ≡ Sender s') × (number ≡ told answer) × Call s s' answer
 OfSender {A} {F} number_of (SenderOfSeveral s) end' number Same Call OfSeveral =
-    (s' : several.SenderEnd Event) × (answer : Result A F) × (end' ≡ SenderOfSeveral s') × (number ≡ number_of answer) × OfSeveral s s' answer
+    (s' : OneOfSeveral) × (answer : Result A F) × (end' ≡ SenderOfSeveral s') × (number ≡ number_of answer) × OfSeveral s.sender s'.sender answer
 OfSender number_of other end' number Same Call OfSeveral = (end' ≡ other) × (number ≡ wrong_end) × Same
 
 -- the same of a receiver
@@ -121,14 +122,13 @@ PublishesBy lo hi number end end' =
     (λ s s' answer. publications_of_several.PublishCall s lo hi s' answer)
     (λ s s' answer. sends_of_bytes.PublishCall s lo hi s' answer)
 
--- A stretch is published with what lies in its cells, of a ring of bytes or of several senders. Nothing of one's own is found unwritten.
+-- A stretch is published with what lies in its cells, of a ring of bytes or of several senders. Nothing is refused as not written.
 abbrev pub PublishesSlotsBy : ℕ → ℕ → ℕ → End → End → Type 0
 PublishesSlotsBy lo hi number (SenderOfBytes w) end' =
     OfWriter {A = Unit {0}} w end' number (λ s s' answer. sends_of_bytes.PublishCall (sends_of_bytes.with_lying s (hi + 1)) lo hi s' answer × (answer ≢ Err NotWritten))
 PublishesSlotsBy lo hi number (SenderOfSeveral s) end' =
-    (s' : several.SenderEnd Event) × (answer : Result (Unit {0}) Refusal) × (end' ≡ SenderOfSeveral s') × (number ≡ told answer)
-    × PublishesAsLeft LeavesOfSeveral (λ m m'. publications_of_several.PublishCall m lo hi m' answer) lo hi s s'
-    × (HasEachOnce s.knows.own → hi < s.knows.plan.limit → hi < 2 ^ 62 → answer ≢ Err NotWritten)
+    (s' : OneOfSeveral) × (answer : Result (Unit {0}) Refusal) × (end' ≡ SenderOfSeveral s') × (number ≡ told answer)
+    × PublishesAsLeft LeavesOfSeveral (λ m m'. publications_of_several.PublishCall m lo hi m' answer) lo hi s.sender s'.sender × (answer ≢ Err NotWritten)
 PublishesSlotsBy lo hi number other end' = (end' ≡ other) × (number ≡ wrong_end)
 
 -- only a ring of one sender is closed: one of several ends with its halt

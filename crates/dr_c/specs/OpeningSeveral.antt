@@ -9,6 +9,7 @@ use Rattle.dr_plain_senders.specs.Calls.Making.{AreFreshEnds}
 use Rattle.dr_c.specs.declared.end.End.{End}
 use Rattle.dr_c.specs.declared.end.End.TheVariants.{SenderOfSeveral, ReceiverOfSeveral, HalterOfSeveral}
 use Rattle.dr_c.specs.declared.handle.Handle.{Handle}
+use Rattle.dr_c.specs.declared.one_of_several.OneOfSeveral.{OneOfSeveral}
 use Rattle.dr_c.specs.declared.open_fault.OpenFault.{OpenFault}
 use Rattle.dr_c.specs.OpenFault.{IsFine, IsWhy}
 use Rattle.dr_c.specs.Opening.{FollowsMasks, ends_in, has, told_of_opening}
@@ -22,12 +23,16 @@ pub record AreOpened (size limit : ℕ) (masks : List ℕ) (senders : ℕ) (ss :
   pub strip : Ptr
   pub fresh : AreFreshEnds (record { upstreams = graph; size = size; limit = limit; senders = senders; strip = strip; begun = replicate size no_event }) ss rs h
 
+-- one of several senders as the ring sees it
+abbrev pub end_of : OneOfSeveral → SenderEnd Event
+end_of one = one.sender
+
 -- a new ring's ends are in handles
 pub record OpensBy (size limit : ℕ) (masks : List ℕ) (count : ℕ) (senders receivers : List (Option End)) (halter : Option End) : Type 0 where
-  pub ss : List (SenderEnd Event)
+  pub ss : List OneOfSeveral
   pub rs : List (ReceiverEnd Event)
   pub h : HalterEnd Event
-  pub opened : AreOpened size limit masks count ss rs h
+  pub opened : AreOpened size limit masks count (map end_of ss) rs h
   pub sends : senders ≡ map has (map SenderOfSeveral ss)
   pub receives : receivers ≡ map has (map ReceiverOfSeveral rs)
   pub halts : halter ≡ Some (HalterOfSeveral h)

@@ -1,5 +1,5 @@
 -- A stretch that is published with what lies in its cells, since its events lie in the caller's own memory.
-use Rattle.std.specs.Prelude.{◌≡◌, ◌<◌, ◌≤◌, ◌+◌, ◌-◌, ◌⊎◌, ℕ, true, false, is_none, List, Option, Result}
+use Rattle.std.specs.Prelude.{◌≡◌, ◌<◌, ◌≤◌, ◌+◌, ◌-◌, ◌^◌, ◌⊎◌, ℕ, true, false, is_none, List, Option, Result}
 use mathlib.Core.Option.{some}
 use lib.ListN.{get_elem?}
 use Rattle.std.specs.List.{FoldsTo, range_with_len}
@@ -23,6 +23,15 @@ PublishesAsLeft {S} Leaves Publishes lo hi s s' =
 -- each of these sequences stands once among them, as where each claim gives others
 abbrev pub HasEachOnce : List (Own Event) → Type 0
 HasEachOnce own = (i j : ℕ) (o p : Own Event) → get_elem? own i ≡ some o → get_elem? own j ≡ some p → o.sequence ≡ p.sequence → i ≡ j
+
+-- each is below a limit, and below 2^62
+abbrev pub AreWithin : ℕ → List (Own Event) → Type 0
+AreWithin limit own = (i : ℕ) (o : Own Event) → get_elem? own i ≡ some o → (o.sequence < limit) × (o.sequence < 2 ^ 62)
+
+-- what one of several senders has is what claims gave it: each sequence once, within its ring's limit
+pub record HasClaimed (s : several.SenderEnd Event) : Type 0 where
+  pub once : HasEachOnce s.knows.own
+  pub within : AreWithin s.plan.limit s.knows.own
 
 -- what one of several senders has of the sequences from lo on up to before k is written
 abbrev pub OwnAreWritten : several.SenderEnd Event → ℕ → ℕ → Type 0

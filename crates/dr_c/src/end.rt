@@ -1,6 +1,7 @@
 //! What a handle has.
 
 use crate::bytes::Bytes;
+use crate::one_of_several::OneOfSeveral;
 use crate::writer::Writer;
 use dr_ring::{Halter, Receiver, Sender};
 use dr_seq::Event;
@@ -11,7 +12,7 @@ pub enum End {
     Sender(Sender),
     Receiver(Receiver),
     Halter(Halter),
-    SenderOfSeveral(dr_plain_senders::Sender<Event>),
+    SenderOfSeveral(OneOfSeveral),
     ReceiverOfSeveral(dr_plain_senders::Receiver<Event>),
     HalterOfSeveral(dr_plain_senders::Halter<Event>),
     SenderOfBytes(Writer),

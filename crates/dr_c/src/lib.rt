@@ -28,6 +28,7 @@ mod handle;
 mod in_place;
 mod loose;
 mod numbers;
+mod one_of_several;
 mod open_fault;
 mod opening;
 mod opening_bytes;
@@ -199,7 +200,8 @@ pub extern "C" fn disruptor_publish_slots_at(
     lo: u64,
     hi: u64,
 ) -> u32
-    // Own sequences are written as they lie, and then it is the ring's publication; other ends are refused.
+    // Own sequences are written as they lie, so none is refused as not written, and then it is the ring's
+    // publication; other ends are refused.
     ensures { AtPlace sender.old sender.new (result ≡ bad_pointer) (λ s s'. OnHandle s.held.value s'.held.value (result ≡ not_open) (PublishesSlotsBy lo hi result)) }
 {
     if sender.len() != 1 {
@@ -365,7 +367,7 @@ pub extern "C" fn disruptor_completed_at(
     calls::completed(alloc, &mut halter[0], handler, &mut count[0])
 }
 
-/// Frees what handles have, of whatever kind, and leaves each without an end.
+/// Frees what handles have, of whatever kind, each as it was (`Handle::free`), and leaves each without an end.
 #[unsafe(no_mangle)]
 pub extern "C" fn disruptor_free_at(alloc: Global, handles: &mut [Handle])
     ensures { ends_in handles.new ≡ replicate (length handles.old) None }

@@ -92,7 +92,7 @@ pub fn fill(alloc: Global, handles: &mut [Handle], mut ends: Vec<End>) -> Result
     Ok(())
 }
 
-/// Frees what each handle has.
+/// Frees what each handle has, as it was (`Handle::free`).
 pub fn free_all(alloc: Global, handles: &mut [Handle])
     ensures { ends_in handles.new ≡ replicate (length handles.old) None }
 {

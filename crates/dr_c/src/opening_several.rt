@@ -1,31 +1,48 @@
 //! A ring of several senders is opened, and its ends are put into handles.
 
-ghost use Rattle.std.specs.Prelude.{◌≡◌, false, length, map, IfErr, IfOk, OnOk};
+ghost use Rattle.std.specs.Prelude.{◌≡◌, false, length, map, All, IfErr, IfOk, OnOk};
 ghost use Rattle.dr_c.specs.OpenFault.{IsFine, IsWhy};
 ghost use Rattle.dr_c.specs.Opening.{ends_in, has};
-ghost use Rattle.dr_c.specs.OpeningSeveral.{AreOpened, Opens, are_all_open};
+ghost use Rattle.dr_c.specs.OpeningSeveral.{AreOpened, Opens, are_all_open, end_of};
+ghost use Rattle.dr_c.specs.Slots.{HasClaimed};
 ghost use Rattle.dr_c.specs.declared.end.End.TheVariants.{SenderOfSeveral, ReceiverOfSeveral};
 
 use crate::amiss::checked_size;
 use crate::end::End;
 use crate::graph::graph;
 use crate::handle::Handle;
+use crate::one_of_several::OneOfSeveral;
 use crate::open_fault::OpenFault;
 use crate::opening::{are_open, as_many, boxed, fill, free_all};
 use dr_plain_senders::{Halter, Receiver, Sender, ring};
 use dr_seq::Event;
-use std::alloc::Global;
+use std::alloc::{AllocError, Global};
+
+// Each sender with what is known of it.
+fn each_of_several(
+    alloc: Global,
+    senders: Vec<Sender<Event>>,
+) -> Result<Vec<OneOfSeveral>, AllocError>
+    requires { All HasClaimed senders.items }
+    ensures { IfOk result (λ each. map end_of each.items ≡ senders.items) }
+{
+    let mut each = Vec::with_capacity(alloc, senders.len())?;
+    for sender in senders {
+        each.push(OneOfSeveral::new(sender))?;
+    }
+    Ok(each)
+}
 
 // The ends of a ring, or what refuses it.
-#[tactic(auto, using(crate::proofs::Opened::no_memory, crate::proofs::OpenedSeveral::opened_by))]
+#[tactic(auto, using(crate::proofs::Opened::no_memory, crate::proofs::OpenedSeveral::opened_by, crate::proofs::OpenedSeveral::fresh_claimed))]
 fn ends(
     alloc: Global,
     size: u64,
     limit: u64,
     masks: &[u64],
     senders: usize,
-) -> Result<(Vec<Sender<Event>>, Vec<Receiver<Event>>, Halter<Event>), OpenFault>
-    ensures made { IfOk result (λ made. AreOpened size limit masks.now senders made.0.items made.1.items made.2) }
+) -> Result<(Vec<OneOfSeveral>, Vec<Receiver<Event>>, Halter<Event>), OpenFault>
+    ensures made { IfOk result (λ made. AreOpened size limit masks.now senders (map end_of made.0.items) made.1.items made.2) }
     ensures fine { IfOk result (λ made. IsFine false (length masks.now) senders size limit masks.now) }
     ensures refused { IfErr result (λ fault. IsWhy false (length masks.now) senders size limit masks.now fault) }
 {
@@ -40,10 +57,13 @@ fn ends(
         return Err(OpenFault::NoMemory);
     };
     // (the senders and the limit are good ones by now)
-    match ring(alloc, &graph, size, limit, senders, events) {
-        Ok(ends) => Ok(ends),
-        Err(_) => Err(OpenFault::NoMemory),
-    }
+    let Ok((ss, rs, h)) = ring(alloc, &graph, size, limit, senders, events) else {
+        return Err(OpenFault::NoMemory);
+    };
+    let Ok(ss) = each_of_several(alloc, ss) else {
+        return Err(OpenFault::NoMemory);
+    };
+    Ok((ss, rs, h))
 }
 
 fn is_one_open(senders: &[Handle], receivers: &[Handle], halter: &Handle) -> bool
@@ -55,7 +75,7 @@ fn is_one_open(senders: &[Handle], receivers: &[Handle], halter: &Handle) -> boo
 fn fill_both(
     alloc: Global,
     senders: &mut [Handle],
-    ss: Vec<Sender<Event>>,
+    ss: Vec<OneOfSeveral>,
     receivers: &mut [Handle],
     rs: Vec<Receiver<Event>>,
 ) -> Result<(), OpenFault>

@@ -5,7 +5,6 @@ ghost use Rattle.dr_c.specs.Calls.{ClaimsBy, WritesBy, WritesBytesBy, PublishesB
 ghost use Rattle.dr_c.specs.Numbers.{told};
 
 use crate::end::End;
-use crate::in_place;
 use crate::numbers::{BAD_LENGTH, WRONG_END, number};
 use dr_seq::Event;
 
@@ -83,7 +82,7 @@ pub fn publish_slots(end: &mut End, lo: u64, hi: u64) -> u32
 {
     match end {
         End::SenderOfBytes(writer) => number(writer.publish_slots(lo, hi)),
-        End::SenderOfSeveral(sender) => number(in_place::publish_slots(sender, lo, hi)),
+        End::SenderOfSeveral(sender) => number(sender.publish_slots(lo, hi)),
         _ => WRONG_END,
     }
 }

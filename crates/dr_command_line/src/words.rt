@@ -10,7 +10,7 @@ use std::alloc::{AllocError, Global};
 const ABOUT: &str = "A verified LMAX Disruptor: producers and handlers over one ring of slots";
 
 /// The program's version, and the kit that it was proved with, as `rt version` prints it.
-const VERSION: &str = "0.1.0, proved with rattle-kit-13b logic dac8208d650f15bf";
+const VERSION: &str = "0.1.0, proved with rattle-kit-13f logic dac8208d650f15bf";
 
 const EXAMPLES: &str = "\
 `disruptor drive --help` and `disruptor replay --help` show a file, and what it prints.

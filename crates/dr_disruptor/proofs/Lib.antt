@@ -15,5 +15,6 @@ pub mod Merging
 pub mod ManyReady
 pub mod NewEndsOfSeveral
 pub mod Along
+pub mod Marked
 pub mod Unrefused
 pub mod UnhaltedOfSeveral

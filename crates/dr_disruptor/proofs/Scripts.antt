@@ -57,7 +57,6 @@ module _ {E : Type 0} (all : List E) where
           done = h.done;
           between = h.between;
           some = h.some;
-          calls = h.calls;
           place = h.place;
           sent = sends_as h.done (sending old).published (sending h.between).published (omega arith) h.sent;
           claims = h.claims;

@@ -104,7 +104,6 @@ module _ {E : Type 0} where
     pub done : ℕ
     pub between : I
     pub some : done < n
-    pub calls : OnlyCalled does old between
     pub place : kept between ≡ kept old
     pub sent : SendsAll (Fills by 0) done (sending old).published (sending between).published
     pub claims : ClaimedInCuts kept sending does cut n old between

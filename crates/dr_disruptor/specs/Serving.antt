@@ -1,6 +1,6 @@
 -- What a handler's worker promises, and what workers gave back.
 use Rattle.std.specs.List.{filter}
-use Rattle.std.specs.Prelude.{◌≡◌, ◌↔◌, ℕ, ◌+◌, ◌-◌, min, Bool, IsTrue, true, false, List, [], ◌∷◌, flat_map, length, map, Some, All}
+use Rattle.std.specs.Prelude.{◌≡◌, ◌↔◌, ℕ, ◌+◌, ◌-◌, ◌<◌, min, Bool, IsTrue, true, false, List, [], ◌∷◌, flat_map, length, map, Some, All}
 use mathlib.Core.Option.{some}
 use lib.ListN.{get_elem?}
 use Rattle.std.specs.declared.thread.PromisedHandle.{PromisedHandle}
@@ -19,6 +19,10 @@ use Rattle.dr_disruptor.specs.declared.served.ServesPromise.{ServesPromise}
 abbrev pub IsPolled : {E : Type 0} → ℕ → (ℕ → Type 0) → Dealt E → Type 0
 IsPolled room Are batch =
     (offered : ℕ) × Are offered × (length batch.events ≡ min (offered - batch.first) room) × (IsTrue batch.end ↔ (batch.first + length batch.events ≡ offered))
+
+-- a batch has events, and its last one is marked
+abbrev pub IsMarked : {E : Type 0} → Dealt E → Type 0
+IsMarked batch = (0 < length batch.events) × (batch.end ≡ true)
 
 -- what a worker calls where a poll with so much room is answered so: a batch is completed before the next poll
 abbrev pub calls_at : ℕ → Polled → List InPlaceCall

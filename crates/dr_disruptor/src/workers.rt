@@ -77,7 +77,8 @@ pub fn start<
     ensures ends { IfOk result (λ workers. map given_end workers.items ≡ outlets.items) }
     ensures starts { IfOk result (λ workers. map given_handler workers.items ≡ handlers.items) }
     ensures batches { IfOk result (λ workers. AreInBatches way.batch workers.items) }
-    // Where one cannot be started, workers come back that have the first ends and handlers, in order.
+    // Where one cannot be started, workers come back that have the first ends and handlers, in order; that none is missing
+    // you read in the code.
     ensures begun { IfErr result (λ workers. HaveFirst outlets.items handlers.items workers.items) }
 {
     let mut started = Vec::new(alloc);

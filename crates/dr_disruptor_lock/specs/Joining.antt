@@ -19,7 +19,7 @@ use Rattle.dr_disruptor_lock.specs.Running.{IsAmiss}
 use Rattle.dr_disruptor_lock.specs.Serving.{Sending, Serving}
 use Rattle.dr_disruptor_lock.specs.Watching.{HasListed, IsFirstUnlike}
 
--- scripts can be sent to an exchange: nobody called through the end that is to halt it, so no claim is refused; and each of its handlers has one of these, so no sender waits for a handler that never takes an event
+-- scripts can be sent to an exchange: nobody called through the end that is to halt it, so this end has not halted it; and each of its handlers has one of these, so no sender waits for a handler that never takes an event
 abbrev pub CanBegin : {X : Type 0} → History Event → EndView Event → List X → Type 0
 CanBegin begun halter each = (halter ≡ no_calls) × (length each ≡ handlers begun.core.setup)
 
@@ -42,7 +42,7 @@ pub record IsJoined {L A : Type 0} (begun : History Event) (size : ℕ) (goes : 
   pub served : AreServed begun goes jobs joined.served.items
   pub sent : AreSent begun size tasks joined.sent.items
 
--- all came back or, where memory or a thread was lacking, the end that halted the exchange: so no handler waits for ever
+-- all came back or, where memory or a thread was lacking, the end that halted the exchange
 abbrev pub ComesBack : {L A : Type 0} → History Event → ℕ → Relation Event A → EndView Event → List (Job L A) → List (Task L) → Result (Joined L A) (EndView Event) → Type 0
 ComesBack begun size goes halter jobs tasks (Ok joined) = IsJoined begun size goes halter jobs tasks joined
 ComesBack begun size goes halter jobs tasks (Err halted) = HasHalted halter halted

@@ -44,7 +44,7 @@ fronts [] backs = []
 fronts (script ∷ scripts) [] = []
 fronts (script ∷ scripts) (back ∷ backs) = take back.sent script ∷ fronts scripts backs
 
--- a worker's calls, each poll with room for 256 events and each as a call of the handler h, took a handler through exactly what its end handed out, which it was shown so, and answered the fault that they came to. Nobody stops it, and it waits where memory runs out
+-- a worker's calls, each poll with room for 256 events and each as a call of the handler h, took a handler through exactly what its end handed out, as it was shown it, and answered the fault that they came to. Nobody stops it, and it waits where memory runs out
 pub record HasServed {A : Type 0} (begun : History Event) (h : ℕ) (goes : Relation Event A) (start after : A) (end : EndView Event) (showings : List (Showing Event)) (fault : Option WorkFault) : Type 0 where
   pub calls : SomeCalls (OutletAsks begun h) no_calls end (worker.Serves 256 goes start after None None (λ passage. ⊥) (λ passage. ⊥) fault)
   pub shown : shown_of (batches_in calls.calls) ≡ showings

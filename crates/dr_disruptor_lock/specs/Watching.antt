@@ -15,15 +15,15 @@ pub record Watches {A : Type 0} (goes : Relation Event A) (old : Watching A) (ev
   pub room : vec_capacity old.list ≤ vec_capacity new.list
   pub ended : new.is_ended ≡ end
 
--- it was shown just these events, in sequence order from 0 on, and the last of them ended what was available
+-- it lists just these events, as shown in sequence order from 0 on, and the last of them ended what was available
 abbrev pub HasListed : {A : Type 0} → List Event → Watching A → Type 0
 HasListed events w = (w.is_whole ≡ true) × (w.is_ended ≡ true) × (w.list.items ≡ events)
 
--- the first that was not shown just these events
+-- the first that did not list just these events
 abbrev pub IsFirstUnlike : {A : Type 0} → List (Watching A) → List Event → ℕ → Type 0
 IsFirstUnlike {A} ws events h = (h < length ws) × FirstLacks (λ k. (w : Watching A) → HasListed events (slice_index_or ws k w)) h
 
--- a fault that names that one, and is no other
+-- a fault that names that one
 abbrev pub IsNamedUnlike : {A : Type 0} → List (Watching A) → List Event → HistoryFault → Type 0
 IsNamedUnlike ws events (Shown h) = IsFirstUnlike ws events h
 IsNamedUnlike ws events (Audit f) = ⊥

@@ -13,8 +13,8 @@ use dr_seq::Event;
 use std::alloc::{AllocError, Global};
 use thiserror::Error;
 
-/// Why a history was not found to be that of its workers. Nothing that is known of an exchange makes one of these
-/// come, but that an audit lacks memory; no contract rules them out.
+/// Why a history was not found to be that of its workers. An audit may lack memory; no other fault is known to come,
+/// and no contract rules them out.
 #[derive(Clone, Copy, Debug, PartialEq, Eq, Error)]
 pub enum HistoryFault {
     /// What an audit finds amiss, against what was sent of each script.

@@ -121,7 +121,7 @@ fn open(
     ensures setup { IfOk result (λ opened. opened.0.history.core.setup ≡ setup_of graph.upstreams size (Multi (length scripts.now)) (2 ^ 62)) }
     ensures fresh { IfOk result (λ opened. opened.0.history.entries ≡ []) }
     ensures events { IfOk result (λ opened. opened.1 ≡ sum_by (λ s. length s.items) scripts.now) }
-    // No call of the run's workers has to ask for memory.
+    // The history's room is this.
     ensures room { IfOk result (λ opened. (opened.0.entry_room ≡ (handlers * 2 + 3) * opened.1 + handlers + 1) × (opened.0.value_room ≡ handlers * opened.1)) }
     ensures many { IfOk result (λ _. handlers ≡ length graph.upstreams) }
     ensures few { IfOk result (λ _. length scripts.now ≤ 16) }
@@ -198,9 +198,9 @@ fn run_over<
 /// order. Which merge of the scripts it is may differ from run to run.
 ///
 /// It is refused with `Handlers` where there are not as many handlers as the graph has, with `Senders` where there
-/// are no scripts or more than 16, and with `Memory` where memory ran out or a thread could not be started. Then the
-/// exchange is halted, all threads have ended, and what was done is lost; where a handler's thread was lacking, nothing
-/// was sent. The graph is spent, at a fault too.
+/// are no scripts or more than 16, and with `Memory` where memory ran out or a thread could not be started. If there was
+/// an exchange, it is halted then; all threads have ended, and what was done is lost. Where a handler's thread was
+/// lacking, nothing was sent. The graph is spent, at a fault too.
 pub fn run_locked<R: Threads + Wait + Sync, H: InPlaceHandler<Event> + Drop + Send>(
     rt: &R,
     alloc: Global,
@@ -213,7 +213,7 @@ pub fn run_locked<R: Threads + Wait + Sync, H: InPlaceHandler<Event> + Drop + Se
     // Where no worker has a fault and the history agrees, all handlers went through the list, a merge of the scripts.
     ensures whole { IfOk result (λ ran. IfOk ran.list (λ list. AreFine ran.endings.items → AllWentThroughMerge (AllWentThrough H.goes) 256 (map (λ s. s.items) scripts.items) list.items handlers.items ran.handlers.items)) }
     // It went over a new exchange of this graph and size, and the list is of what was sent of the scripts, whatever the faults.
-    // A handler is named in its place only if it was shown other events, and each before it just these.
+    // If a handler is named in place of a list, it is the first that was shown other events.
     ensures run { IfOk result (IsRun H.goes graph.upstreams size (map (λ s. s.items) scripts.items) handlers.items) }
     // It takes as many handlers as the graph has, and 1 to 16 scripts; any other fault is `Memory`.
     ensures many { IfOk result (λ _. length handlers.items ≡ length graph.upstreams) }

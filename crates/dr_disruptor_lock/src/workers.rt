@@ -102,7 +102,7 @@ fn served<
 ) -> Result<Joined<L, H>, End<Event, L>>
     requires begins { CanBegin L.begun halter workers.items }
     ensures halted { IfOk result (λ joined. HasHalted halter joined.halter) }
-    // No handler is left waiting, whatever is lacking.
+    // The exchange is halted, whatever is lacking.
     ensures lacking { IfErr result (λ halted. HasHalted halter halted) }
     ensures sent { IfOk result (λ joined. AreSent L.begun around.now.size tasks.items joined.sent.items) }
     ensures served { IfOk result (λ joined. AreServed L.begun H.goes (map given_job workers.items) joined.served.items) }

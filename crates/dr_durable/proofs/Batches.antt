@@ -1,11 +1,11 @@
 -- What a handler is shown of batches whose last events are marked.
 use Rattle.std.proofs.Common.{◌≡◌, ℕ, ◌+◌, ◌-◌, ◌<◌, ◌≤◌, min, Bool, true, false, All, List, [], ◌∷◌, ◌++◌, length, map}
-use Rattle.std.proofs.Common.{refl, sym, ◌∙◌, ap, arith, append-nil, append_assoc}
-use Rattle.std.proofs.lemmas.List.{map-append}
-use Rattle.std.proofs.lemmas.List.Elements.{All-head, All-tail}
+use Rattle.std.proofs.Common.{refl, sym, subst, ◌∙◌, ap, arith, append-nil, append_assoc}
+use Rattle.std.proofs.lemmas.List.{length-append, map-append}
+use Rattle.std.proofs.lemmas.List.Elements.{All-cons, All-head, All-nil, All-tail}
 use Rattle.dr_meaning.specs.Calls.Handling.{GoesThrough, Relation, Showing, showings}
 use Rattle.dr_workers.specs.Meaning.Work.{Dealt, FollowFrom, dealt_events, shown_of}
-use Rattle.dr_disruptor.specs.Serving.{IsPolled}
+use Rattle.dr_disruptor.specs.Serving.{IsMarked, IsPolled}
 
 -- calls that go on from others
 pub parted : {E A : Type 0} (goes : Relation E A) (old : A) (first rest : List (Showing E)) (new : A) → GoesThrough goes old (first ++ rest) new
@@ -36,14 +36,21 @@ module _ {E : Type 0} where
       ∙ ap (λ (l : List E). l ++ map event_of (shown_of batches)) (events_shown b.events b.first b.end)
       ∙ ap (λ (l : List E). b.events ++ l) (events_of_all batches)
 
-  -- each batch has events, and its last one is marked
-  abbrev pub AreMarked : List (Dealt E) → Type 0
-  AreMarked [] = Unit {0}
-  AreMarked (b ∷ batches) = (0 < length b.events) × (b.end ≡ true) × AreMarked batches
+  -- the last batch has events, of which the last one is marked
+  abbrev pub LastMarked : List (Dealt E) → Type 0
+  LastMarked [] = Unit {0}
+  LastMarked (b ∷ []) = IsMarked b
+  LastMarked (b ∷ d ∷ batches) = LastMarked (d ∷ batches)
 
-  pub marked_front : (front rest : List (Dealt E)) → AreMarked (front ++ rest) → AreMarked front
-  marked_front [] rest marked = tt
-  marked_front (b ∷ front) rest marked = (marked.0, marked.1, marked_front front rest marked.2)
+  pub marked_last : (batches : List (Dealt E)) → All IsMarked batches → LastMarked batches
+  marked_last [] marked = tt
+  marked_last (b ∷ []) marked = All-head IsMarked b [] marked
+  marked_last (b ∷ d ∷ batches) marked = marked_last (d ∷ batches) (All-tail IsMarked b (d ∷ batches) marked)
+
+  pub marked_front : (front rest : List (Dealt E)) → All IsMarked (front ++ rest) → All IsMarked front
+  marked_front [] rest marked = All-nil IsMarked
+  marked_front (b ∷ front) rest marked =
+      All-cons IsMarked b front (All-head IsMarked b (front ++ rest) marked) (marked_front front rest (All-tail IsMarked b (front ++ rest) marked))
 
   -- what ends with a mark
   abbrev pub EndsMarked : List (Showing E) → Type 0
@@ -57,24 +64,32 @@ module _ {E : Type 0} where
       let here : Showing E = record { event = e; sequence = first; end = false } in
       (here ∷ later.0, later.1, ap (λ (l : List (Showing E)). here ∷ l) later.2, later.3)
 
-  pub ends_marked : (b : Dealt E) (batches : List (Dealt E)) → AreMarked (b ∷ batches) → EndsMarked (shown_of (b ∷ batches))
+  pub ends_marked : (b : Dealt E) (batches : List (Dealt E)) → LastMarked (b ∷ batches) → EndsMarked (shown_of (b ∷ batches))
   ends_marked b [] marked =
       let one = one_marked b.events b.first marked.0 in
       (one.0, one.1, append-nil (showings b.events b.first b.end) ∙ ap (λ (end : Bool). showings b.events b.first end) marked.1 ∙ one.2, one.3)
   ends_marked b (d ∷ batches) marked =
-      let later = ends_marked d batches marked.2 in
+      let later = ends_marked d batches marked in
       let here = showings b.events b.first b.end in
       (here ++ later.0, later.1, ap (λ (l : List (Showing E)). here ++ l) later.2 ∙ sym (append_assoc here later.0 (later.1 ∷ [])), later.3)
 
-  -- polls with room for all that is offered give such batches
-  pub are_marked : (most all s : ℕ) (batches : List (Dealt E)) → all ≤ most → FollowFrom s batches
-      → All (IsPolled most (λ n. n ≤ all)) batches → AreMarked batches
-  are_marked most all s [] le order polled = tt
-  are_marked most all s (b ∷ batches) le order polled =
-      let one = All-head (IsPolled most (λ n. n ≤ all)) b batches polled in
+  -- a poll that was offered no more than the run has gave the last batch: so all that was offered to it
+  pub last_marked : (most s : ℕ) (batches : List (Dealt E)) → FollowFrom s batches
+      → All (IsPolled most (λ n. n ≤ s + length (dealt_events batches))) batches → LastMarked batches
+  last_marked most s [] order polled = tt
+  last_marked most s (b ∷ []) order polled =
+      let one = All-head (IsPolled most (λ n. n ≤ s + length (b.events ++ []))) b [] polled in
       let offered = one.0 in
-      let within : offered ≤ all = one.1 in
+      let within : offered ≤ s + length (b.events ++ []) = one.1 in
+      let all : length (b.events ++ []) ≡ length b.events = ap length (append-nil b.events) in
       let many : length b.events ≡ min (offered - b.first) most = one.2 in
+      let first : b.first ≡ s = order.0 in
       let some : 0 < length b.events = order.1 in
       let whole : b.first + length b.events ≡ offered = omega arith in
-      (some, one.3.1 whole, are_marked most all (s + length b.events) batches le order.2 (All-tail (IsPolled most (λ n. n ≤ all)) b batches polled))
+      (some, one.3.1 whole)
+  last_marked most s (b ∷ d ∷ batches) order polled =
+      let later = dealt_events (d ∷ batches) in
+      let sum : length (b.events ++ later) ≡ length b.events + length later = length-append b.events later in
+      let same : s + length (b.events ++ later) ≡ s + length b.events + length later = omega arith in
+      let rest = All-tail (IsPolled most (λ n. n ≤ s + length (b.events ++ later))) b (d ∷ batches) polled in
+      last_marked most (s + length b.events) (d ∷ batches) order.2 (subst (λ (all : ℕ). All (IsPolled most (λ n. n ≤ all)) (d ∷ batches)) same rest)

@@ -1,6 +1,6 @@
 -- A handler that journals has stored what it was shown of batches, each of which ends with a mark.
-use Rattle.std.proofs.Common.{◌≡◌, ℕ, ◌≤◌, Bool, true, List, [], ◌∷◌, ◌++◌, length, Option, None, Some, map}
-use Rattle.std.proofs.Common.{refl, sym, ◌∙◌, ap, subst, append-nil}
+use Rattle.std.proofs.Common.{◌≡◌, ℕ, ◌+◌, ◌≤◌, All, Bool, true, List, [], ◌∷◌, ◌++◌, length, Option, None, Some, map}
+use Rattle.std.proofs.Common.{refl, sym, ◌∙◌, ap, subst, arith, append-nil}
 use Rattle.std.proofs.lemmas.List.{map-append}
 use Rattle.dr_meaning.specs.Calls.Handling.{GoesThrough, Relation, Showing}
 use Rattle.dr_workers.specs.Meaning.Work.{Dealt, dealt_events, shown_of}
@@ -10,7 +10,9 @@ use Rattle.dr_journal.specs.Calls.Journals.{CrashLeaves, IsAtRest, records_of}
 use Rattle.dr_journal.specs.Calls.Records.{AreValues}
 use Rattle.dr_journal.proofs.Shown.{keeps_all, none_waits, only_adds, well_before}
 use Rattle.dr_durable.specs.Storing.{HadStored, IsFresh, Stores}
-use Rattle.dr_durable.proofs.Batches.{AreMarked, are_marked, ends_marked, event_of, events_of_all, marked_front, parted, shown_append}
+use Rattle.dr_disruptor.proofs.Marked.{all_marked}
+use Rattle.dr_disruptor.specs.Serving.{IsMarked, IsPolled}
+use Rattle.dr_durable.proofs.Batches.{LastMarked, ends_marked, event_of, events_of_all, last_marked, marked_front, marked_last, parted, shown_append}
 
 -- a handler of events of any type, whose every call journals the event's record
 module _ {D E A : Type 0} (seen : D → List ℕ) (may_leave : D → List ℕ → Type 0) (moment : D → ℕ)
@@ -45,7 +47,7 @@ module _ {D E A : Type 0} (seen : D → List ℕ) (may_leave : D → List ℕ �
   records_of_all batches = records_shown (shown_of batches) ∙ ap (λ (l : List E). map record_of l) (events_of_all batches)
 
   -- all of it is on the disk, and nothing waits
-  pub stored : (batches : List (Dealt E)) (start after : A) → AreMarked batches → IsFresh seen may_leave (writer_of start)
+  pub stored : (batches : List (Dealt E)) (start after : A) → LastMarked batches → IsFresh seen may_leave (writer_of start)
       → GoesThrough goes start (shown_of batches) after → IsWell after
       → Stores seen may_leave (writer_of start).journal (writer_of after).journal (records batches) × ((writer_of after).waiting ≡ [])
   stored [] start after marked fresh is none =
@@ -82,14 +84,14 @@ module _ {D E A : Type 0} (seen : D → List ℕ) (may_leave : D → List ℕ �
 
   -- so it is of the first batches, and each crash that comes later leaves them
   pub had_stored : ((file : D) (c : List ℕ) → left_since file (moment file) c → may_leave file c)
-      → (front rest : List (Dealt E)) (start after : A) → AreMarked (front ++ rest) → IsFresh seen may_leave (writer_of start)
+      → (front rest : List (Dealt E)) (start after : A) → All IsMarked (front ++ rest) → IsFresh seen may_leave (writer_of start)
       → GoesThrough goes start (shown_of (front ++ rest)) after
       → HadStored seen may_leave moment left_since writer_of record_of goes start after front rest
   had_stored only_now front rest start after marked fresh is =
       let all = subst (λ (l : List (Showing E)). GoesThrough goes start l after) (shown_append front rest) is in
       let parts = parted goes start (shown_of front) (shown_of rest) after all in
       let mid = parts.0 in
-      let so_far = stored front start mid (marked_front front rest marked) fresh parts.1 in
+      let so_far = stored front start mid (marked_last front (marked_front front rest marked)) fresh parts.1 in
       let behind = as_records (shown_of rest) in record {
         between = mid;
         through = parts.1;
@@ -113,7 +115,7 @@ module _ {D E A : Type 0} (seen : D → List ℕ) (may_leave : D → List ℕ �
       → IsFresh seen may_leave (writer_of start) → (front rest : List (Dealt E)) → went.batches ≡ front ++ rest
       → HadStored seen may_leave moment left_since writer_of record_of goes start after front rest
   run_had_stored only_now most start after events went few fresh front rest are =
-      let marked = subst AreMarked are (are_marked most (length events) 0 went.batches few went.order went.polled) in
+      let marked = subst (All IsMarked) are (all_marked most (length events) 0 went.batches few went.order went.polled) in
       had_stored only_now front rest start after marked fresh
       (subst (λ (l : List (Dealt E)). GoesThrough goes start (shown_of l) after) are went.through)
 
@@ -130,12 +132,14 @@ module _ {D E A : Type 0} (seen : D → List ℕ) (may_leave : D → List ℕ �
         ∙ ap (λ (l : List (Option V)). Some (value x.event) ∷ l) (come_back shown is.0 new is.2 none)
 
     -- after a run all of its events are on the disk, and each reads back as it was
-    pub run_stored : (most : ℕ) (start after : A) (events : List E) → WentThrough goes most start after events → length events ≤ most
+    pub run_stored : (most : ℕ) (start after : A) (events : List E) → WentThrough goes most start after events
         → IsFresh seen may_leave (writer_of start) → IsWell after
         → Stores seen may_leave (writer_of start).journal (writer_of after).journal (map record_of events)
         × AreValues value_in (map record_of events) (map value events)
-    run_stored most start after events went few fresh none =
-        let marked = are_marked most (length events) 0 went.batches few went.order went.polled in
+    run_stored most start after events went fresh none =
+        let many : length (dealt_events went.batches) ≡ length events = ap length went.dealt in
+        let all : length events ≡ 0 + length (dealt_events went.batches) = omega arith in
+        let marked = last_marked most 0 went.batches went.order (subst (λ (n : ℕ). All (IsPolled most (λ k. k ≤ n)) went.batches) all went.polled) in
         let is = stored went.batches start after marked fresh went.through none in
         let shown = come_back (shown_of went.batches) start after went.through none in (
           subst (λ (l : List E). Stores seen may_leave (writer_of start).journal (writer_of after).journal (map record_of l)) went.dealt is.0,

@@ -57,8 +57,11 @@ pub enum Step<T> {
     SenderPublishes {
         events: LinkedList<T>,
     },
+    /// The sender stores halt.
     SenderHalts,
+    /// The sender stores closed.
     SenderCloses,
+    /// A receiver looks at closed.
     ReceiverLooksAtClosed {
         handler: u64,
     },
@@ -78,6 +81,7 @@ pub enum Step<T> {
         handler: u64,
         upto: u64,
     },
+    /// The halter stores halt.
     HalterHalts,
     /// The halter looks at a word.
     HalterLooks {

@@ -58,6 +58,7 @@ impl<T> Sender<T> {
     /// nothing else.
     #[tactic(auto, using(dr_runs::proofs::Beginnings::begins_same, dr_runs::proofs::Beginnings::begins_on))]
     pub fn try_claim(&mut self, n: u64) -> Result<Claimed, Refusal>
+        // By what its looks find it claims the next sequences, or says why it does not, and stores nothing.
         ensures { ClaimCall self.old n self.new result }
     {
         let size = self.station.plan().size().get();
@@ -112,6 +113,7 @@ impl<T> Sender<T> {
     /// `NotWritten`, `OutOfOrder`. They change nothing.
     #[tactic(auto, using(dr_runs::proofs::Beginnings::begins_same, dr_runs::proofs::Beginnings::begins_on))]
     pub fn publish(&mut self, lo: u64, hi: u64) -> Result<(), Refusal>
+        // It answers by what it has, and stores the cursor; a refused call changes nothing.
         ensures { PublishCall self.old lo hi self.new result }
     {
         let _claimed = &self.claimed;
@@ -145,6 +147,7 @@ impl<T> Sender<T> {
     /// It is refused with `OpenClaim`, and changes nothing, while a claimed sequence is unpublished.
     #[tactic(auto, using(dr_runs::proofs::Beginnings::begins_same, dr_runs::proofs::Beginnings::begins_on))]
     pub fn close(&mut self) -> Result<(), Refusal>
+        // It stores halt and then closed where all that it claimed is published; else it changes nothing.
         ensures { CloseCall self.old self.new result }
     {
         if self.published != self.claimed {
@@ -219,6 +222,7 @@ impl<T: Drop> Sender<T> {
     /// Refusals in their order: `NotClaimed`, `AlreadyPublished`. They change nothing.
     #[tactic(auto, using(dr_runs::proofs::Beginnings::begins_same, dr_runs::proofs::Beginnings::begins_on))]
     pub fn write(&mut self, sequence: u64, event: T) -> Result<(), Refusal>
+        // It answers by what it has, and the event lies in its cell; a refused call changes nothing. It stores no word.
         ensures { WriteCall self.old sequence event self.new result }
     {
         if sequence >= self.claimed {

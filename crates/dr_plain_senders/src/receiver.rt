@@ -108,6 +108,7 @@ impl<T> Receiver<T> {
     /// Refusals in their order: `Behind` (more are completed), `NotTaken`. They change nothing.
     #[tactic(auto, using(dr_runs::proofs::Beginnings::begins_same))]
     pub fn complete(&mut self, upto: u64) -> Result<(), Refusal>
+        // It answers by what it took and completed, and stores its count; a refused call changes nothing.
         ensures { CompleteCall self.old upto self.new result }
     {
         if upto < self.completed {

@@ -70,6 +70,7 @@ pub enum EndRecord<T> {
 
 /// A step of a ring: one atomic change of one word, with what no record tells of it.
 pub enum Step<T> {
+    /// A sender looks at the claim word.
     SenderLooksAtClaims {
         sender: u64,
     },
@@ -95,9 +96,11 @@ pub enum Step<T> {
         sender: u64,
         sequence: u64,
     },
+    /// A sender sets halt in the claim word.
     SenderHalts {
         sender: u64,
     },
+    /// A receiver looks at the claim word.
     ReceiverLooksAtClaims {
         handler: u64,
     },
@@ -119,6 +122,7 @@ pub enum Step<T> {
         handler: u64,
         upto: u64,
     },
+    /// The halter sets halt in the claim word.
     HalterHalts,
     /// The halter looks at a word that only rises.
     HalterLooks {

@@ -57,6 +57,7 @@ impl<T> Receiver<T> {
         handler: &mut H,
         room: u64,
     ) -> Result<Polled, Refusal>
+        // A poll; then each event of its batch goes to the handler, in order, and all are completed. Other answers reach no handler.
         ensures { TurnCall H.goes self.old room self.new result handler.old handler.new }
     {
         let _completed = &self.completed;

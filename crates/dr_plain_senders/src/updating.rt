@@ -21,6 +21,7 @@ impl<T> Sender<T> {
         change: F,
     ) -> Result<(), Refusal>
         requires { F.IsAlwaysCallable change }
+        // What `change` makes of what lay in the cell is written, as by a write; a refused call leaves every event as it was.
         ensures { UpdateCall (λ was now. FnOnceReturnsAtMut F.FnOnce change was tt now) self.old sequence self.new result }
     {
         if sequence >= self.station.plan().limit() {

@@ -71,19 +71,29 @@ pub enum Step {
     SenderLooksAtCount { handler: u64 },
     /// The sender looks at halt and, where it finds 0, claims so many sequences more.
     SenderLooksAtHalt { more: u64 },
+    /// The sender stores the first word of an event that it claimed.
     SenderStoresFirst { sequence: u64, first: u64 },
+    /// The sender stores the second word of that event.
     SenderStoresSecond { second: u64 },
     /// The sender stores the cursor.
     SenderPublishes { upto: u64 },
+    /// The sender stores halt.
     SenderHalts,
+    /// The sender stores closed.
     SenderCloses,
+    /// A receiver looks at closed.
     ReceiverLooksAtClosed { handler: u64 },
+    /// A receiver looks at the cursor.
     ReceiverLooksAtCursor { handler: u64 },
+    /// A receiver looks at the count of an upstream.
     ReceiverLooksAtCount { handler: u64, upstream: u64 },
+    /// A receiver loads the first word of its next event.
     ReceiverLoadsFirst { handler: u64 },
+    /// A receiver loads the second word of that event, and has taken it.
     ReceiverLoadsSecond { handler: u64 },
     /// A receiver stores its count.
     ReceiverCompletes { handler: u64, upto: u64 },
+    /// The halter stores halt.
     HalterHalts,
 }
 

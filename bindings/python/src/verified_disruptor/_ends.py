@@ -68,6 +68,19 @@ class Ends:
     def __del__(self, free: Any = LIBRARY.disruptor_free_at, address: Any = ctypes.addressof) -> None:
         free(address(self._handles), len(self._handles))
 
+    def cursor(self) -> int:
+        """How many events the one sender published, or how many several claimed. Any thread may ask that at any time."""
+        count = ctypes.c_uint64()
+        check(LIBRARY.disruptor_cursor_at(self._halter, 1, ctypes.addressof(count), 1))
+        return count.value
+
+    def completed(self, handler: int) -> int:
+        """How many events handler k completed. Any thread may ask that at any time. The ring has as many free slots as its size plus
+        the least count of the final handlers, less the cursor: ask that first."""
+        count, handler = ctypes.c_uint64(), number_or(_NO_SEQUENCE, handler)
+        check(LIBRARY.disruptor_completed_at(self._halter, 1, handler, ctypes.addressof(count), 1))
+        return count.value
+
     def halt(self) -> None:
         """Nobody claims from now on."""
         check(LIBRARY.disruptor_halt_at(self._halter, 1))
@@ -113,9 +126,9 @@ class _Claim:
         self._sender, self._n, self._is_batch, self._timeout = sender, n, is_batch, timeout
 
     def __enter__(self) -> Any:
-        slots = self._sender.slots_to_claim()
+        slots = self._sender._slots_to_claim()
         try:
-            lo = self._sender.claim(self._n, self._timeout)
+            lo = self._sender._claim(self._n, self._timeout)
             return slots.stretch(lo, self._n) if self._is_batch else slots.at(lo)
         except BaseException:
             # (an interrupt may come between the claim and the `with`)
@@ -137,13 +150,13 @@ class Sender(_End):
         # (how many events it published, which any thread may read, and how many before its last claim)
         self.published = self._published_before = 0
 
-    def slots_to_claim(self) -> Events | Records:
+    def _slots_to_claim(self) -> Events | Records:
         """The slots, where no claim is open."""
         if self._lo.value != _NO_SEQUENCE:
             raise Refusal(Reason.OPEN_CLAIM)
         return self._ends.slots
 
-    def claim(self, n: int, timeout: float | None) -> int:
+    def _claim(self, n: int, timeout: float | None) -> int:
         """The first of n sequences, once there is room."""
         deadline = None if timeout is None else time.monotonic() + timeout
         self._n = n = number_or(0, n)
@@ -174,7 +187,7 @@ class Sender(_End):
             self._lo.value = _NO_SEQUENCE
             self._ends.bell.ring()
 
-    def publish_own_claim(self) -> None:
+    def _publish_own_claim(self) -> None:
         """The same for a claim of the thread that asks; that of another thread is published at the end of its own `with`."""
         if self._claimer == threading.get_ident():
             self.publish_claim()
@@ -317,13 +330,14 @@ class Receiver(_End):
     def run_batches(self, handle: Callable[[Any, int], object], room: int | None = None) -> None:
         """Shows `handle(events, first_sequence)` every batch until the ring is drained: a list, or views of records.
 
-        Where it raises, nothing of the batch is completed; it counts as handled if it is run again."""
+        Where it raises, nothing of the batch is completed. If it is run again, a batch that it was called with counts as handled."""
         while count := self._take(room):
             first = self._shown
             events = self._slots.stretch(first, count)
-            self._shown += count
             try:
                 self._is_showing = True
+                # (from here on it counts as handled)
+                self._shown = first + count
                 handle(events, first)
             finally:
                 self._is_showing = False

@@ -128,6 +128,11 @@ class Disruptor:
         """The handlers that come next follow all that there are."""
         return self.after(*self._names)
 
+    def cursor(self) -> int:
+        """How many events are published, or how many several senders claimed, in the ring that was opened last. Any thread may ask
+        that."""
+        return self._ends.cursor() if self._ends else 0
+
     def completed(self, name: str) -> int:
         """How many events the handler with this name completed, in the ring that was opened last. Any thread may ask that."""
         place = self._place(name)
@@ -151,7 +156,7 @@ class Disruptor:
             ends.senders[0].close()
         else:
             for sender in ends.senders:
-                sender.publish_own_claim()
+                sender._publish_own_claim()
             ends.halt()
 
     @classmethod

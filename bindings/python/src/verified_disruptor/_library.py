@@ -85,6 +85,8 @@ _CALLS = {
     "poll_slots": (_p, _s, _n, _p, _s),
     "complete": (_p, _s, _n),
     "halt": (_p, _s),
+    "cursor": (_p, _s, _p, _s),
+    "completed": (_p, _s, _s, _p, _s),
     "progress": (_p, _s, _p, _s),
 }
 

@@ -22,7 +22,7 @@ ghost use Rattle.dr_plain.specs.Meaning.Shape.{Shape, ring_setup};
 ghost use Rattle.dr_disruptor.specs.Handlers.{WentThrough};
 ghost use Rattle.dr_disruptor.specs.Running.{IsOutcomeBy};
 ghost use Rattle.dr_disruptor.specs.Sending.{IsRefused, OnlyCalled};
-ghost use Rattle.dr_disruptor.specs.Serving.{TakesInTurn};
+ghost use Rattle.dr_disruptor.specs.Serving.{IsMarked, TakesInTurn};
 ghost use Rattle.dr_disruptor.specs.declared.one_of.OneOf.TheVariants.{First, Second};
 ghost use Rattle.dr_disruptor.specs.declared.running.RunOutcome.{RunOutcome};
 ghost use Rattle.dr_plain.specs.declared.settled.Settled.{Settled};
@@ -81,6 +81,8 @@ pub fn what_a_handler_went_through_says<E, H: InPlaceHandler<E>>()
     ensures goes { (most : ℕ) (start after : H) (events : List E) → (is : WentThrough H.goes most start after events) → GoesThrough H.goes start (shown_of is.batches) after × FollowFrom 0 is.batches × (dealt_events is.batches ≡ events) }
     // Each batch has all that was offered to its poll, but at most as many as the way says, and its last event is marked if and only if no more was offered. No poll was offered more than these events.
     ensures batches { (most : ℕ) (start after : H) (events : List E) → (is : WentThrough H.goes most start after events) → All (λ batch. (offered : ℕ) × (offered ≤ length events) × (length batch.events ≡ min (offered - batch.first) most) × (IsTrue batch.end ↔ (batch.first + length batch.events ≡ offered))) is.batches }
+    // So where a batch may have as many events as the run has, as by `Way::by`, each batch ends with its mark.
+    ensures marked { (most : ℕ) (start after : H) (events : List E) → (is : WentThrough H.goes most start after events) → length events ≤ most → All IsMarked is.batches }
 {}
 
 /// What a run's contract says of handlers in a list, in a pair and in a triple: which is at which place, and that each

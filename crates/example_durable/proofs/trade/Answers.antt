@@ -28,7 +28,7 @@ returns g c =
     } in
     let none : (writer_of gave.journal).fault ≡ None = sym c.fault.ensures ∙ c.in_default.is in
     let all = run_stored file_seen file_left _ _ _ writer_of order_record _ (λ old new event s end goes. goes.0) (λ (o : Order). o) order_in
-    (λ old new event s end goes. goes.1) most start.result gave.journal orders gave.ensures.4 gave.ensures.3 fresh none in
+    (λ old new event s end goes. goes.1) most start.result gave.journal orders gave.ensures.4 fresh none in
     let stores = subst (λ (j : Journal FileDevice). Stores file_seen file_left c.args.day.journal j (map order_record orders)) (sym c.into_journal-journal.ensures.value)
     (subst (λ (j : Journal FileDevice). Stores file_seen file_left j (writer_of gave.journal).journal (map order_record orders))
     (ap (λ (w : Writer FileDevice). w.journal) start.ensures) all.0) in

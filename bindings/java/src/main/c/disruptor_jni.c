@@ -87,3 +87,19 @@ NATIVE(jint, complete, jlong at, jlong upto) {
 NATIVE(jint, halt, jlong at) {
     return (jint)disruptor_halt(&handle_at(at)->halter);
 }
+
+/* How far the senders came. */
+NATIVE(jlong, cursor, jlong at, jlong answer) {
+    (void)answer;
+    uint64_t count = 0;
+    const uint32_t refused = disruptor_cursor(&handle_at(at)->halter, &count);
+    return refused ? -(jlong)refused : (jlong)count;
+}
+
+/* How many events a handler completed. */
+NATIVE(jlong, completed, jlong at, jlong answer, jlong handler) {
+    (void)answer;
+    uint64_t count = 0;
+    const uint32_t refused = disruptor_completed_by(&handle_at(at)->halter, (size_t)handler, &count);
+    return refused ? -(jlong)refused : (jlong)count;
+}

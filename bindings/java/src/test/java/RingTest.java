@@ -25,13 +25,13 @@ public final class RingTest {
         long number;
     }
 
-    private static void expect(Object is, Object wanted) {
+    static void expect(Object is, Object wanted) {
         if (!wanted.equals(is)) {
             throw new AssertionError(is + ", and not " + wanted);
         }
     }
 
-    private static Throwable thrown(Callable<?> call) {
+    static Throwable thrown(Callable<?> call) {
         try {
             call.call();
         } catch (Throwable thrown) {
@@ -40,7 +40,7 @@ public final class RingTest {
         throw new AssertionError("nothing is thrown");
     }
 
-    private static void refused(Refusal.Reason reason, Runnable call) {
+    static void refused(Refusal.Reason reason, Runnable call) {
         Throwable thrown = thrown(() -> {
             call.run();
             return null;
@@ -48,11 +48,11 @@ public final class RingTest {
         expect(((Refusal) thrown).reason(), reason);
     }
 
-    private static void fill(Event event, long sequence) {
+    static void fill(Event event, long sequence) {
         event.number = sequence;
     }
 
-    private static Ring<Event> ring(int size, long... upstreams) {
+    static Ring<Event> ring(int size, long... upstreams) {
         return Ring.open(Event::new, size, Ring.MAX_LIMIT, upstreams);
     }
 
@@ -150,6 +150,13 @@ public final class RingTest {
         }
     }
 
+    private static void whatARingHandsOutDoesNotChangeIt() {
+        Ring<Event> ring = ring(4, 0);
+        for (List<?> ends : List.of(ring.senders(), ring.receivers())) {
+            expect(thrown(() -> ends.remove(0)).getClass(), UnsupportedOperationException.class);
+        }
+    }
+
     private static void tooManyHandlersAreRefusedAfterABadSize() {
         for (int handlers : new int[] {17, 65, 1000}) {
             refused(Refusal.Reason.BAD_SIZE, () -> ring(5, new long[handlers]));
@@ -192,7 +199,7 @@ public final class RingTest {
         }).getMessage();
     }
 
-    private static Disruptor<Event> one(int size) {
+    static Disruptor<Event> one(int size) {
         return new Disruptor<>(Event::new, size).handle("a", (event, sequence, endOfBatch) -> {});
     }
 
@@ -337,6 +344,12 @@ public final class RingTest {
         // (a group leaves those that come next by name where they were: "b" follows nobody)
         expect(fault(() -> disruptor.handleChanging("b", none).after("a", "handler-1", "b").handleChanging("c", none).start()),
                 "b would change events that another handler reads at the same time");
+        // (one that is refused does too: "next" follows the first)
+        Disruptor<Event> refused = new Disruptor<>(Event::new, 4);
+        refused.handle("handler-1", none).after("handler-1");
+        expect(fault(() -> refused.handleEventsWith(none)), "two handlers have the name handler-1");
+        refused.handleChanging("next", none).start();
+        refused.shutdown();
         expect(thrown(() -> {
             new Disruptor<>(Event::new, 4).publishEvent((event, sequence) -> {});
             return null;
@@ -408,6 +421,8 @@ public final class RingTest {
         aBatchGoesOnAfterTheEventAtWhichAHandlerThrew();
         aHandlerThatReceivesByItsOwnEndIsRefused();
         aReceiverThatIsClosedBeforeItIsDrainedHaltsTheRing();
+        ThreadsTest.run();
+        whatARingHandsOutDoesNotChangeIt();
         tooManyHandlersAreRefusedAfterABadSize();
         aFillingThatThrowsLeavesTheRingInOrder();
         thoseWhoFollowOneThatGaveUpEnd();

@@ -9,7 +9,7 @@ pub returns-clause-refuses : goal.returns-clause-refuses
 returns-clause-refuses g c n r old new is = (is.refused, is.waits, is.place, is.before, is.same, is.calls)
 
 pub returns-clause-stops : goal.returns-clause-stops
-returns-clause-stops g c fill n cut r old new is = (is.some, is.place, is.calls, (is.sent.events, is.sent.many, is.sent.fills, is.sent.published))
+returns-clause-stops g c fill n cut r old new is = (is.some, is.place, (is.claims.calls.calls, is.claims.calls.lead), (is.sent.events, is.sent.many, is.sent.fills, is.sent.published))
 
 pub returns-clause-stops_refused : goal.returns-clause-stops_refused
 returns-clause-stops_refused g c fill n cut r old new is = is.refused

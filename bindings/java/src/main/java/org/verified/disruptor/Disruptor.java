@@ -126,11 +126,14 @@ public final class Disruptor<T> implements AutoCloseable {
         long members = 0;
         long named = after;
         after = upstreams;
-        for (EventHandler<? super T> handler : next) {
-            members |= 1L << handlers.size();
-            add("handler-" + handlers.size(), handler, false);
+        try {
+            for (EventHandler<? super T> handler : next) {
+                members |= 1L << handlers.size();
+                add("handler-" + handlers.size(), handler, false);
+            }
+        } finally {
+            after = named;
         }
-        after = named;
         return new EventHandlerGroup(members);
     }
 
@@ -220,7 +223,10 @@ public final class Disruptor<T> implements AutoCloseable {
         return end;
     }
 
-    /** Publishes an event by the one sender, once there is room for it and it is filled. An interrupt ends no wait for room. */
+    /**
+     * Publishes an event by the one sender, once there is room for it and it is filled. An interrupt ends no wait for room. A thread that
+     * publishes while another one does is refused with an {@link IllegalStateException}: {@link #startSeveral} gives each a sender.
+     */
     public void publishEvent(EventTranslator<? super T> translator) {
         started(sender).publishEvent(translator);
     }
@@ -228,6 +234,11 @@ public final class Disruptor<T> implements AutoCloseable {
     /** Publishes n events together. */
     public void publishEvents(int n, EventTranslator<? super T> translator) {
         started(sender).publishEvents(n, translator);
+    }
+
+    /** How many events are published, or how many several senders claimed. Any thread may ask that once it has started. */
+    public long cursor() {
+        return started(ring).cursor();
     }
 
     /**
@@ -246,6 +257,7 @@ public final class Disruptor<T> implements AutoCloseable {
      * Closes the ring, or halts one of several senders, and waits until each handler had every event.
      *
      * @throws HandlerFailed if a handler threw: the first one, and of each other one such an exception is suppressed by it
+     * @throws IllegalStateException if another thread publishes by the one sender meanwhile: nothing is closed then
      */
     public void shutdown() {
         if (ring == null) {

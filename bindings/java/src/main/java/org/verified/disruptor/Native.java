@@ -26,4 +26,8 @@ final class Native {
     static native int complete(long receiver, long upto);
 
     static native int halt(long halter);
+
+    static native long cursor(long halter, long answer);
+
+    static native long completed(long halter, long answer, long handler);
 }

@@ -6,11 +6,11 @@ import java.util.concurrent.TimeUnit;
 import java.util.concurrent.atomic.AtomicLong;
 
 /**
- * The end of one handler, for one thread, which is shown every event after those that it follows had it.
+ * The end of one handler, for one thread at a time, which is shown every event after those that it follows had it.
  *
  * <p>Where the handler throws, the events before the one at which it did are completed. If it is run again, that one counts as
  * handled, and it goes on after it. A handler that receives by its own end meanwhile is refused with an
- * {@link IllegalStateException}.
+ * {@link IllegalStateException}, and so is a thread that does so while another one does.
  *
  * <p>Until then all others wait for it. Run it in a {@code try (receiver)}, which gives it up where it ends before it is drained.
  *
@@ -28,7 +28,7 @@ public final class Receiver<T> implements AutoCloseable {
     private long shown;
     private long taken;
     private boolean isDrained;
-    private boolean isShowing;
+    private final Turn turn = new Turn();
 
     /** The bit of who gives up the whole ring. */
     private static final long WHOLE = Long.MIN_VALUE;
@@ -53,11 +53,15 @@ public final class Receiver<T> implements AutoCloseable {
         }
     }
 
-    /** Looks for events where none are in hand, and answers whether it still has none and more may come. */
-    private boolean lacks() throws Broken {
-        if (isShowing) {
+    /** Has the end until what it finds is shown. */
+    private void begin() {
+        if (!turn.begin()) {
             throw new IllegalStateException("a handler receives by its own end");
         }
+    }
+
+    /** Looks for events where none are in hand, and answers whether it still has none and more may come. */
+    private boolean lacks() throws Broken {
         complete(shown);
         if (shown < taken || isDrained) {
             return false;
@@ -101,7 +105,6 @@ public final class Receiver<T> implements AutoCloseable {
         long first = shown;
         long sequence = shown;
         long end = taken;
-        isShowing = true;
         try {
             for (; sequence < end; sequence++) {
                 handler.onEvent(ring.get(sequence), sequence, sequence + 1 == end);
@@ -110,8 +113,6 @@ public final class Receiver<T> implements AutoCloseable {
             complete(sequence);
             shown = sequence + 1;
             throw thrown;
-        } finally {
-            isShowing = false;
         }
         shown = end;
         return (int) (end - first);
@@ -119,11 +120,16 @@ public final class Receiver<T> implements AutoCloseable {
 
     /** Shows the handler every event until the ring is drained. What it throws passes. */
     public void run(EventHandler<? super T> handler) throws Exception {
-        while (!isDrained) {
-            while (lacks()) {
-                waiting.await();
+        begin();
+        try {
+            while (!isDrained) {
+                while (lacks()) {
+                    waiting.await();
+                }
+                show(handler);
             }
-            show(handler);
+        } finally {
+            turn.end();
         }
     }
 
@@ -134,17 +140,22 @@ public final class Receiver<T> implements AutoCloseable {
      * @param timeout how long it waits at most
      */
     public int receive(long timeout, TimeUnit unit, EventHandler<? super T> handler) throws Exception {
-        long begun = System.nanoTime();
-        while (lacks()) {
-            if (System.nanoTime() - begun >= unit.toNanos(timeout)) {
-                waiting.found(0);
-                return 0;
+        begin();
+        try {
+            long begun = System.nanoTime();
+            while (lacks()) {
+                if (System.nanoTime() - begun >= unit.toNanos(timeout)) {
+                    waiting.end();
+                    return 0;
+                }
+                waiting.await();
             }
-            waiting.await();
+            int count = show(handler);
+            complete(shown);
+            return count;
+        } finally {
+            turn.end();
         }
-        int count = show(handler);
-        complete(shown);
-        return count;
     }
 
     /** Whether it had every event, and none comes any more. */

@@ -29,12 +29,13 @@ public final class Ring<T> {
     final Bell bell = new Bell();
     private final Object[] events;
     private final long halter;
+    private final long answer;
     // The handlers that went away before they had every event, as bits, and one more bit for who gave up the whole ring.
     private final AtomicLong gone = new AtomicLong();
     // What a handler of a graph failed with first.
     private volatile HandlerFailed failed;
-    private final List<Sender<T>> senders = new ArrayList<>();
-    private final List<Receiver<T>> receivers = new ArrayList<>();
+    private final List<Sender<T>> senders;
+    private final List<Receiver<T>> receivers;
 
     private Ring(int size, long limit, int several, Supplier<? extends T> factory, long... upstreams) {
         int first = Math.max(several, 1);
@@ -46,12 +47,17 @@ public final class Ring<T> {
             events[k] = factory.get();
         }
         halter = handles + HANDLE * (count - 1);
+        answer = halter + HANDLE * count;
+        List<Sender<T>> sending = new ArrayList<>();
         for (int k = 0; k < first; k++) {
-            senders.add(new Sender<>(this, handles + HANDLE * k, handles + HANDLE * (count + k)));
+            sending.add(new Sender<>(this, handles + HANDLE * k, handles + HANDLE * (count + k)));
         }
+        List<Receiver<T>> receiving = new ArrayList<>();
         for (int k = first; k < count - 1; k++) {
-            receivers.add(new Receiver<>(this, handles + HANDLE * k, handles + HANDLE * (count + k), k - first, upstreams[k - first]));
+            receiving.add(new Receiver<>(this, handles + HANDLE * k, handles + HANDLE * (count + k), k - first, upstreams[k - first]));
         }
+        senders = List.copyOf(sending);
+        receivers = List.copyOf(receiving);
     }
 
     /** Opens a ring of one sender: handler k follows those whose bits are in the mask {@code upstreams[k]}. */
@@ -67,14 +73,27 @@ public final class Ring<T> {
         return new Ring<T>(size, limit, Math.min(senders, MOST_SENDERS + 1), factory, upstreams);
     }
 
-    /** Its senders, each for one thread. */
+    /** Its senders, each for one thread. The list cannot be changed. */
     public List<Sender<T>> senders() {
         return senders;
     }
 
-    /** The ends of its handlers, each for one thread. */
+    /** The ends of its handlers, each for one thread. The list cannot be changed. */
     public List<Receiver<T>> receivers() {
         return receivers;
+    }
+
+    /** How many events the one sender published, or how many several claimed. Any thread may ask that at any time. */
+    public synchronized long cursor() {
+        return Answers.checked(Native.cursor(halter, answer));
+    }
+
+    /**
+     * How many events handler k completed. Any thread may ask that at any time. The ring has as many free slots as its size plus the least
+     * count of the final handlers, less the cursor: ask that first.
+     */
+    public synchronized long completed(int handler) {
+        return Answers.checked(Native.completed(halter, answer, handler));
     }
 
     /** Halts the ring: nobody claims from now on. */

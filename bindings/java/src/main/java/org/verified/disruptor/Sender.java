@@ -6,8 +6,8 @@ import java.util.concurrent.TimeUnit;
 import java.util.concurrent.atomic.AtomicLong;
 
 /**
- * An end that fills events where they lie and publishes them, for one thread. A translator that publishes by the same end is refused
- * with {@code OPEN_CLAIM}.
+ * An end that fills events where they lie and publishes them, for one thread at a time: one that uses it while another does is refused
+ * with an {@link IllegalStateException}. A translator that publishes by the same end is refused with {@code OPEN_CLAIM}.
  *
  * @param <T> the class of the events
  */
@@ -17,7 +17,7 @@ public final class Sender<T> {
     private final long answer;
     private final Waiting waiting;
     private final AtomicLong published = new AtomicLong();
-    private boolean isFilling;
+    private final Turn turn = new Turn();
 
     Sender(Ring<T> ring, long handle, long answer) {
         this.ring = ring;
@@ -26,11 +26,15 @@ public final class Sender<T> {
         waiting = new Waiting(ring.size(), ring.bell);
     }
 
-    /** The first of n sequences, or less than 0 where there is no room now, or another sender came first. */
-    private long tryClaim(long n) {
-        if (isFilling) {
+    /** Has the end from before a claim until that is published. */
+    private void begin() {
+        if (!turn.begin()) {
             throw new Refusal(Refusal.Reason.OPEN_CLAIM.number());
         }
+    }
+
+    /** The first of n sequences, or less than 0 where there is no room now, or another sender came first. */
+    private long tryClaim(long n) {
         long first = Native.claim(handle, answer, n);
         Reference.reachabilityFence(this);
         if (first >= 0) {
@@ -63,13 +67,11 @@ public final class Sender<T> {
     /** Publishes what lies there, also where the filling throws, so that the ring stays in order. */
     private void fillAndPublish(long first, long n, EventTranslator<? super T> translator) {
         waiting.foundRoom(n);
-        isFilling = true;
         try {
             for (long sequence = first; sequence < first + n; sequence++) {
                 translator.translateTo(ring.get(sequence), sequence);
             }
         } finally {
-            isFilling = false;
             VarHandle.releaseFence();
             int refused = Native.publish(handle, first, first + n - 1);
             Reference.reachabilityFence(this);
@@ -81,16 +83,20 @@ public final class Sender<T> {
 
     /** Publishes an event, once there is room for it and it is filled. An interrupt ends no wait for room; a halt does. */
     public void publishEvent(EventTranslator<? super T> translator) {
-        fillAndPublish(claim(1), 1, translator);
+        publishEvents(1, translator);
     }
 
     /** Publishes n events together, once there is room for all and each is filled. */
     public void publishEvents(int n, EventTranslator<? super T> translator) {
-        fillAndPublish(claim(n), n, translator);
+        begin();
+        try {
+            fillAndPublish(claim(n), n, translator);
+        } finally {
+            turn.end();
+        }
     }
 
-    /** The same, or answers false where there is no room now, or another sender came first. */
-    public boolean tryPublishEvents(int n, EventTranslator<? super T> translator) {
+    private boolean triesOnce(int n, EventTranslator<? super T> translator) {
         long first = tryClaim(n);
         if (first < 0) {
             return false;
@@ -99,21 +105,36 @@ public final class Sender<T> {
         return true;
     }
 
+    /** The same, or answers false where there is no room now, or another sender came first. */
+    public boolean tryPublishEvents(int n, EventTranslator<? super T> translator) {
+        begin();
+        try {
+            return triesOnce(n, translator);
+        } finally {
+            turn.end();
+        }
+    }
+
     /**
      * The same, or answers false where that is so when the time is up. It may take ten milliseconds more, where it sleeps.
      *
      * @param timeout how long it waits at most
      */
     public boolean tryPublishEvents(int n, long timeout, TimeUnit unit, EventTranslator<? super T> translator) {
-        long begun = System.nanoTime();
-        while (!tryPublishEvents(n, translator)) {
-            if (System.nanoTime() - begun >= unit.toNanos(timeout)) {
-                waiting.foundRoom(0);
-                return false;
+        begin();
+        try {
+            long begun = System.nanoTime();
+            while (!triesOnce(n, translator)) {
+                if (System.nanoTime() - begun >= unit.toNanos(timeout)) {
+                    waiting.foundRoom(0);
+                    return false;
+                }
+                waiting.await();
             }
-            waiting.await();
+            return true;
+        } finally {
+            turn.end();
         }
-        return true;
     }
 
     /** How many events it published. Any thread may ask that at any time; it is never ahead of the end. */
@@ -123,9 +144,14 @@ public final class Sender<T> {
 
     /** Closes the ring of one sender: no event comes any more. A sender that is refused with {@code HALTED} has done so. */
     public void close() {
-        int refused = Native.close(handle);
-        Reference.reachabilityFence(this);
-        Answers.check(refused);
-        ring.bell.ring();
+        begin();
+        try {
+            int refused = Native.close(handle);
+            Reference.reachabilityFence(this);
+            Answers.check(refused);
+            ring.bell.ring();
+        } finally {
+            turn.end();
+        }
     }
 }

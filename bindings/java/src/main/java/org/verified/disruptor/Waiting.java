@@ -58,7 +58,13 @@ final class Waiting {
         }
     }
 
-    /** The same after a claim: a sender claims again at once, so what counts is how many found room until it waits again. */
+    /** Ends a wait that found nothing in its time, which says nothing of the pauses. */
+    void end() {
+        looks = 0;
+        stopListening();
+    }
+
+    /** The same as {@link #found} after a claim: a sender claims again at once, so what counts is how many found room until it waits again. */
     void foundRoom(long count) {
         found += count;
         stopListening();

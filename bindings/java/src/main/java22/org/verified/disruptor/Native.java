@@ -30,6 +30,8 @@ final class Native {
     private static final MethodHandle POLL;
     private static final MethodHandle COMPLETE;
     private static final MethodHandle HALT;
+    private static final MethodHandle CURSOR;
+    private static final MethodHandle COMPLETED;
 
     static {
         System.load(Library.path());
@@ -39,6 +41,8 @@ final class Native {
         POLL = call("poll_slots", 5);
         COMPLETE = call("complete", 3);
         HALT = call("halt", 2);
+        CURSOR = call("cursor", 4);
+        COMPLETED = call("completed", 5);
     }
 
     private Native() {}
@@ -104,6 +108,24 @@ final class Native {
     static int halt(long halter) {
         try {
             return (int) HALT.invokeExact(halter, 1L);
+        } catch (Throwable thrown) {
+            throw new AssertionError(thrown);
+        }
+    }
+
+    static long cursor(long halter, long answer) {
+        try {
+            int refused = (int) CURSOR.invokeExact(halter, 1L, answer, 1L);
+            return refused == 0 ? MEMORY.get(JAVA_LONG, answer) : -refused;
+        } catch (Throwable thrown) {
+            throw new AssertionError(thrown);
+        }
+    }
+
+    static long completed(long halter, long answer, long handler) {
+        try {
+            int refused = (int) COMPLETED.invokeExact(halter, 1L, handler, answer, 1L);
+            return refused == 0 ? MEMORY.get(JAVA_LONG, answer) : -refused;
         } catch (Throwable thrown) {
             throw new AssertionError(thrown);
         }
