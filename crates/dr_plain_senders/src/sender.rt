@@ -74,9 +74,10 @@ impl<T> Sender<T> {
     ///
     /// The causes of a refusal in their order: `BadCount` (none, or more than the size), `Halted`,
     /// `Exhausted`, `NoRoom`, and at the exchange `Halted` once more, or `Contended`: another
-    /// sender claimed meanwhile. A refused claim may have looked, and changes nothing else.
+    /// sender claimed meanwhile. A refused claim may have looked and tried to exchange, and changes
+    /// nothing else.
     pub fn try_claim(&mut self, n: u64) -> Result<Claimed, ClaimFault>
-        // By its looks and its exchange of the claim word it claims the next sequences, with what lay in their cells, or says why not.
+        // By its looks and its swap of the claim word it claims the next sequences, with an event in each cell, or says why not.
         ensures { SenderClaimCall self.old n self.new result }
     {
         match self.station.try_claim(n) {
@@ -94,7 +95,7 @@ impl<T> Sender<T> {
     /// Halts the ring, in one step. It always succeeds, and may be repeated. What is claimed may
     /// still be written and published; a receiver that took all of it is told `Drained`.
     pub fn halt(&mut self)
-        // It halts the ring in one step, and does nothing else.
+        // It halts the ring in one step, which is a look too, and does nothing else.
         ensures { HaltCall self.old self.new }
     {
         self.station.halt();

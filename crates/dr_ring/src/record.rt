@@ -71,7 +71,7 @@ pub enum Step {
     SenderLooksAtCount { handler: u64 },
     /// The sender looks at halt and, where it finds 0, claims so many sequences more.
     SenderLooksAtHalt { more: u64 },
-    /// The sender stores the first word of an event that it claimed.
+    /// The sender stores the first word of the event of a sequence that it claimed.
     SenderStoresFirst { sequence: u64, first: u64 },
     /// The sender stores the second word of that event.
     SenderStoresSecond { second: u64 },
